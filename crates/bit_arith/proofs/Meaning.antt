@@ -1,4 +1,4 @@
--- What sums, differences and products of words mean.
+-- The meaning of sums, differences and products of words.
 use Rattle.std.proofs.Common.{◌≡◌, ℕ, suc, ◌+◌, ◌-◌, ◌*◌, ◌^◌, ◌<◌, ◌≤◌, List, [], ◌∷◌, ◌++◌, ℤ, neg_ℤ, refl, ap, sym, ◌∙◌, subst, arith, true, false, length, take, drop, replicate}
 use Rattle.std.specs.Prelude.{◌%◌}
 use Rattle.std.specs.Int.{w32, cast_signed}
@@ -63,7 +63,7 @@ difference_means f xs ys o =
           remainder_of (2 ^ length xs) (digit (literal_true w m.state.literal)) _ _ (below w xs m.word h.word.same_length) e;
     }
 
--- a word and a product, but for a multiple of the power of 2 that is the word's length
+-- a word is a product modulo 2 to the power of its length
 pub record IsUpTo (f : Formula) (word : List ℤ) (m : Walked Formula) (meaning : Valuation → ℕ) : Type 0 where
   pub same : IsWord f m.state word m.word
   pub number : (w : Valuation) → IsModel w m.state → (k : ℕ) × (value w m.word + 2 ^ length word * k ≡ meaning w)

@@ -1,4 +1,5 @@
--- A formula over the events of an order: the order that was asked of every two contended events tells all that its clauses rest on.
+-- A formula over the events of an order that asks about every two contended events has all answers
+-- that its clauses need.
 use Rattle.std.proofs.Common.{◌≡◌, ℕ, ◌<◌, Bool, true, false, List, [], ◌∷◌, ◌++◌, inl, inr, refl, sym, ◌∙◌, subst, arith, map}
 use Rattle.std.specs.Prelude.{fold, if◌then◌else◌, nat_eq}
 use Rattle.std.specs.List.{All, Contains, list_any}
@@ -36,7 +37,7 @@ use Rattle.bit_blast.proofs.Prefixes.{first_part}
 use Rattle.bit_blast.proofs.Rooted.{roots_over}
 use Rattle.bit_blast.proofs.WholeLaws.{first_true, whole_means}
 
--- what keeps events, and what has one
+-- adding an element keeps the events
 abbrev Keeps : {X : Type 0} → (List ℕ → X → List ℕ) → Type 0
 Keeps with = (events : List ℕ) (x : _) (e : ℕ) → Contains events e → Contains (with events x) e
 

@@ -1,4 +1,4 @@
--- What the roots of a formula mean.
+-- The meaning of the roots of a formula.
 use Rattle.std.proofs.Common.{◌≡◌, ℕ, suc, zero, ◌+◌, ◌<◌, List, [], ◌∷◌, ◌++◌, ℤ, refl, ap, sym, ◌∙◌, subst, arith, Bool, true, false, length, get_or, map}
 use Rattle.std.specs.Prelude.{◌&&◌, ◌||◌, fold}
 use Rattle.std.specs.List.{All, list_all, list_any}
@@ -81,7 +81,7 @@ module _ (o : Order) (nodes : List Node) (world : Valuation → World) (parts : 
       (λ v w agree. ap (λ x. list_any (case_at nodes x) cases) (t.same v w agree)) (cases-mean o nodes world parts f cases t h)
   body_root f (body.Read r) t h = reads-mean o nodes world parts f r t h
 
-  -- what satisfies the clauses with a conjunct's literal satisfies those before it
+  -- values that satisfy the clauses with a conjunct's literal satisfy those before it
   before_body : (f : Formula) (b : Body) → Tells o nodes world parts f → BodyIsTold o b
       → (w : Valuation) → satisfies w (body_made parts f b).formula.clauses ≡ true → satisfies w f.clauses ≡ true
   before_body f (body.Any cases) t h w s = before_grown w f (cases_made parts f cases).formula (cases-mean o nodes world parts f cases t h).grown s

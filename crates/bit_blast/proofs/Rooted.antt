@@ -1,4 +1,4 @@
--- The clauses of a formula by their numbers: what the roots tell.
+-- The clauses of a formula by number, and what the roots mean.
 use Rattle.std.proofs.Common.{◌≡◌, ℕ, ◌+◌, ◌-◌, ◌<◌, List, [], ◌∷◌, ℤ, pos, inl, inr, refl, ap, sym, ◌∙◌, subst, arith, Bool, true, false, length, get_or, map}
 use Rattle.std.specs.Prelude.{Some, slice_get}
 use Rattle.std.specs.List.{All, Contains, list_all}
@@ -66,7 +66,7 @@ module _ (y : Layout) (nodes : List Node) (formula : List Conjunct) (h : IsReady
       ap (clause_true v) (root_is k below) ∙ sym (or_false (literal_true v (literal k)))
       ∙ sym (get_or-map (literal_true v) m.word k (pos 0) false (omega (arith, below, roots.count)))
 
-  -- what a conjunct is in a world
+  -- the truth of a conjunct in a world
   told : (w : World) (k : ℕ) (c : Conjunct) → slice_get formula k ≡ Some c
       → get_or (map (λ (d : Conjunct). body_at nodes w d.body) formula) k false ≡ body_at nodes w c.body
   told w k c is =
@@ -100,7 +100,7 @@ module _ (y : Layout) (nodes : List Node) (formula : List Conjunct) (h : IsReady
             ∙ sym (body_same nodes y.order w (world_of y v.0) s.before s.loads s.enders c.body (there k c at)),
       )
 
-  -- the clause of a number that isn't true where all but roots are: the root of a conjunct
+  -- if all clauses except roots are true, a clause that isn't is the root of a conjunct
   root_at : (v : Valuation) (n : ℕ) → satisfies v (background b) ≡ true → n < length b.clauses.clauses → clause_true v (clause_at b n) ≡ false
       → (k : ℕ) × (c : Conjunct) × (root_of b k ≡ n) × (slice_get formula k ≡ Some c)
   root_at v n s below f = elim (cases_lt n (length first)) [

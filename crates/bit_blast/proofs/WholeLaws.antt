@@ -1,4 +1,4 @@
--- What all clauses of an order, its terms and a formula mean.
+-- The meaning of all clauses of an order, its terms and a formula.
 use Rattle.std.proofs.Common.{◌≡◌, ℕ, suc, zero, ◌+◌, ◌<◌, List, [], ◌∷◌, ℤ, refl, ap, sym, ◌∙◌, subst, arith, Bool, true, false, map}
 use Rattle.std.specs.Prelude.{◌&&◌, ◌||◌}
 use Rattle.std.specs.List.{All, range_with_len}
@@ -39,7 +39,7 @@ map_twice : {X Y Z : Type 0} (f : X → Y) (g : Y → Z) (xs : List X) → map g
 map_twice f g [] = refl
 map_twice f g (x ∷ xs) = ap (λ ys. g (f x) ∷ ys) (map_twice f g xs)
 
--- the loads' words are of the order's variables
+-- the loads' words are over the order's variables
 pub all_range : (P : ℕ → Type 0) (a n : ℕ) → ((k : ℕ) → k < a + n → P k) → All P (range_with_len a n)
 all_range P a zero h = All-nil P
 all_range P a (suc n) h =
@@ -118,7 +118,7 @@ module _ (y : Layout) (nodes : List Node) (formula : List Conjunct) (h : IsReady
   pub all_roots : AreRoots nodes (world_of y) (termed y nodes).formula (rooted y nodes formula) formula
   all_roots = are_roots y.order nodes (world_of y) parts g formula tells h.told
 
-  -- the first clause says that the variable 1 is true
+  -- the first clause makes variable 1 true
   pub first_true : (v : Valuation) → satisfies v (rooted y nodes formula).state.clauses ≡ true → v 1 ≡ true
   first_true v s =
       let c : Formula = (comparators y).state in

@@ -1,4 +1,4 @@
--- What a division means.
+-- The meaning of a division.
 use Rattle.std.proofs.Common.{◌≡◌, ℕ, suc, zero, ◌+◌, ◌*◌, ◌^◌, ◌<◌, ◌≤◌, List, [], ◌∷◌, ℤ, neg_ℤ, refl, ap, sym, ◌∙◌, subst, arith, Bool, true, false, length, drop}
 use Rattle.std.specs.Prelude.{if◌then◌else◌}
 use Rattle.std.specs.List.{All}
@@ -26,7 +26,7 @@ chosen_value : (c : Bool) (ps qs : List Bool) → length qs ≡ length ps
 chosen_value true ps qs e = ap number_of (chosen_values true ps qs e)
 chosen_value false ps qs e = ap number_of (chosen_values false ps qs e)
 
--- nothing is lost where the remainder doubles
+-- doubling the remainder loses no bit
 no_top : (p next t low : ℕ) → next + p * t ≡ low → low < p → next ≡ low
 no_top p next zero low e h = let z : p * 0 ≡ 0 = mul-zero p in omega (arith, e, z)
 no_top p next (suc t) low e h = let z : p * suc t ≡ p * t + p = mul-suc p t in absurd (omega (arith, e, z, h))

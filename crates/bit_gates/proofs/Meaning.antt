@@ -1,4 +1,4 @@
--- What each gate means.
+-- The meaning of each gate.
 use Rattle.std.proofs.Common.{◌≡◌, ℕ, ◌<◌, [], ◌∷◌, ℤ, neg_ℤ, refl, ap, sym, ◌∙◌, arith, Bool, true, false, not}
 use Rattle.std.specs.Prelude.{◌&&◌, ◌||◌, if◌then◌else◌}
 use Rattle.std.specs.Ordering.{int_eq}

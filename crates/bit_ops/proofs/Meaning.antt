@@ -1,4 +1,4 @@
--- What the circuits of operators mean.
+-- The meaning of the circuits of operators.
 use Rattle.std.proofs.Common.{◌≡◌, ℕ, suc, zero, ◌+◌, ◌-◌, ◌*◌, ◌^◌, ◌<◌, ◌≤◌, List, ℤ, pos, negsuc, neg_ℤ, refl, ap, sym, ◌∙◌, subst, arith, Bool, true, false, not, length, take, drop, replicate, FitsSigned}
 use Rattle.std.specs.Prelude.{◌%◌, if◌then◌else◌, ◌==◌, ◌||◌, int_lt, int_le}
 use Rattle.std.specs.Int.{w32, cast_signed, cast_unsigned, bit_not}
@@ -40,7 +40,7 @@ use Rattle.bit_ops.specs.Ops.{some_of, differ, truth_word, kept_where, where_som
 use Rattle.bit_ops.specs.Laws.{IsOperand, HasInt, OpsMean}
 use Rattle.bit_ops.proofs.Bits.{gate_number, gate_places, some_number, apart_values}
 
--- what has grown, and has a word with an int
+-- a formula that has grown has a word with an int
 has_int : (f : Formula) (m : Walked Formula) (meaning : Valuation → ℤ) → IsGrown f m.state → All (IsOf m.state.vars) m.word → length m.word ≡ 32
     → ((w : Valuation) → IsModel w m.state → int_value w m.word ≡ meaning w) → HasInt f m meaning
 has_int f m meaning h a e i = record { grown = h; word = record { literals = a; width = e }; int = i }
@@ -52,7 +52,7 @@ of_word f m xs meaning h e i = has_int f m meaning h.grown h.literals (h.same_le
 operands : (f : Formula) (xs ys : List ℤ) → 0 < f.vars → IsOperand f xs → IsOperand f ys → AreOperands f xs ys
 operands f xs ys one p q = record { one = one; first = p.literals; second = q.literals; lengths = q.width ∙ sym p.width }
 
--- words of 1 or 0
+-- words with the value 1 or 0
 truth_int : (p : Bool) → cast_signed w32 (digit p + 2 * 0) ≡ truth p
 truth_int true = refl
 truth_int false = refl
@@ -100,7 +100,7 @@ differ_bit f xs ys o =
           (g.places w (model_before w apart.state last.formula h.grown m));
     }
 
--- two numbers of 32 bits are equal where their ints are
+-- two 32-bit numbers are equal if their ints are
 pub same_int : (n m : ℕ) → n < 2 ^ 32 → m < 2 ^ 32 → (n == m) ≡ int_eq (cast_signed w32 n) (cast_signed w32 m)
 same_int n m p q =
     same_from_decides (n == m) (int_eq (cast_signed w32 n) (cast_signed w32 m))
@@ -114,7 +114,7 @@ not_not false = refl
 pub bit_with : (f : Formula) (m : Made) (meaning other : Valuation → Bool) → ((w : Valuation) → meaning w ≡ other w) → IsBit f m meaning → IsBit f m other
 bit_with f m meaning other e h = record { grown = h.grown; literal = h.literal; value = λ w k. h.value w k ∙ e w }
 
--- a word where a literal is true, and else 0
+-- the number of a word where a literal is true, and 0 otherwise
 where_int : (p : Bool) (n : ℕ) → cast_signed w32 (digit p * n) ≡ (if p then cast_signed w32 n else pos 0)
 where_int true n = ap (cast_signed w32) (one-mul n)
 where_int false n = ap (cast_signed w32) (zero-mul n)

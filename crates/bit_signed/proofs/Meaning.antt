@@ -1,4 +1,4 @@
--- What quotients, remainders and order of words with a sign mean.
+-- The meaning of signed quotients, remainders and comparisons of words.
 use Rattle.std.proofs.Common.{◌≡◌, ℕ, suc, zero, ◌+◌, ◌-◌, ◌*◌, ◌/◌, ◌^◌, ◌<◌, ◌≤◌, List, [], ◌∷◌, ◌++◌, ℤ, pos, negsuc, neg_ℤ, refl, ap, sym, ◌∙◌, subst, arith, Bool, true, false, not, length, take, replicate, FitsSigned}
 use Rattle.std.specs.Prelude.{◌%◌, if◌then◌else◌, map, unsigned_abs, nat_lt, nat_le, int_lt, int_le}
 use Rattle.std.specs.Int.{w32, cast_signed, cast_unsigned, int_wrap, is_negative}
@@ -36,7 +36,7 @@ use Rattle.bit_signed.specs.Signed.{negated_where, magnitudes_divided, quotient_
 use Rattle.bit_signed.specs.Laws.{SignedMean}
 use Rattle.bit_signed.proofs.Moves.{biased_length, biased_are}
 
--- a word's values, each exclusive-or one and the same
+-- a word's values, each exclusive-or the same value
 number_flipped : (c : Bool) (ps : List Bool) → number_of (map (λ p. gate_value Xor p c) ps) ≡ number_from c ps
 number_flipped true [] = refl
 number_flipped false [] = refl
@@ -230,7 +230,7 @@ sign_made f xs ys o e =
     (IsOf-grown f m.formula (top xs) h.grown (top_of f.vars xs o.first (omega (arith, e))))
     (IsOf-grown f m.formula (top ys) h.grown (top_of f.vars ys o.second (omega (arith, e, o.lengths))))
 
--- the word that comes of a magnitude and a sign
+-- the word of a magnitude and a sign
 signed_number : (f g : Formula) (word xs : List ℤ) (sign : ℤ) → IsGrown f g → All (IsOf g.vars) word → IsOf g.vars sign
     → length word ≡ 32 → length xs ≡ 32 → IsNumber f xs (negated_where g word sign)
     (λ w. if literal_true w sign then (2 ^ 32 - value w word) % 2 ^ 32 else value w word)
@@ -312,7 +312,7 @@ remainder_32 f xs ys o e w i some =
     ∙ ap (λ p. with_sign p (value w m.remainder)) (is_sign _ _ _ _ sx ∙ below_is a) ∙ ap (with_sign (is_negative a)) n.1
     ∙ where_some b _ n.2
 
--- an int, moved up by 2 ^ 31
+-- an int plus 2 ^ 31
 abbrev offset : ℤ → ℕ
 offset (pos n) = n + 2 ^ 31
 offset (negsuc n) = 2 ^ 31 - suc n

@@ -8,7 +8,7 @@ use Rattle.cnf_core.specs.Clauses.{var_of, Formula}
 use Rattle.bit_gates.specs.Folded.{Made, kept, IsLarger}
 use Rattle.bit_words.specs.Words.{AreWithin, Placed, Walked, along, compared_place, compared, inverted}
 
--- what is made of the first `i` places, with what is made of the rest, is what is made of all
+-- the result of the first `i` places together with that of the rest is the result of all
 pub record IsReached {S : Type 0} (step : S → ℤ → ℤ → Placed S) (all : Walked S) (i : ℕ) (s : S) (xs ys : List ℤ) : Type 0 where
   pub state : all.state ≡ (along step s (drop i xs) (drop i ys)).state
   pub word : all.word ≡ take i xs ++ (along step s (drop i xs) (drop i ys)).word
@@ -69,7 +69,7 @@ inverted_more all xs i x h p ex =
 pub inverted_all : (all xs : List ℤ) (i : ℕ) → all ≡ take i xs ++ inverted (drop i xs) → length xs ≤ i → all ≡ xs
 inverted_all all xs i h p = h ∙ ap (λ k. take i xs ++ inverted k) (drop_all i xs p) ∙ grind (arith, common_steps)
 
--- literals of the variables of a formula that grows
+-- literals of a formula's variables stay so as it grows
 pub within_more : (n m : ℕ) (xs : List ℤ) → n ≤ m → AreWithin n xs → AreWithin m xs
 within_more n m xs h a = All-weaker (λ l. var_of l ≤ n) (λ l. var_of l ≤ m) (λ l k. omega arith) xs a
 
@@ -79,7 +79,7 @@ within_set n m xs i l h a k = All-set (λ x. var_of x ≤ m) xs i l k (within_mo
 pub kept_same : (m : Made) (f : Formula) (l : ℤ) → f ≡ m.formula → l ≡ m.literal → kept f l ≡ m
 kept_same m f l p q = ap (λ k. kept k l) p ∙ ap (kept m.formula) q
 
--- a formula that grew, and then grew again
+-- a formula that grew twice
 pub larger_more : (m n k : ℕ) (f g h : Formula) → IsLarger m f g → IsLarger n g h → k ≡ m + n → IsLarger k f h
 larger_more m n k f g h a b e = (omega (arith, a.0, b.0), omega (arith, a.1, b.1), omega (arith, a.2, b.2))
 

@@ -1,4 +1,4 @@
--- What the circuits over words mean.
+-- The meaning of the circuits over words.
 use Rattle.std.proofs.Common.{◌≡◌, ℕ, suc, ◌≤◌, ◌+◌, ◌*◌, ◌^◌, List, [], ◌∷◌, ℤ, neg_ℤ, refl, ap, ◌∙◌, arith, Bool, true, false, not, length}
 use Rattle.std.specs.Prelude.{◌&&◌, ◌||◌, if◌then◌else◌, nat_lt, nat_le}
 use Rattle.std.specs.List.{All, list_any}
@@ -16,11 +16,11 @@ use Rattle.bit_gates.proofs.Meaning.{both_bit, either_bit, differing_bit, folded
 use Rattle.bit_words.specs.Words.{Placed, Walked, along, made_place, gated_words, chosen_words, added_place, inverted, compared_place, compared, any_of}
 use Rattle.bit_words.specs.Laws.{values, digit, value, IsPlaced, IsSum, WordsMean}
 
--- literals of a formula that has grown
+-- literals of a formula are literals of a formula that it has grown to
 pub all_grown : (f g : Formula) (xs : List ℤ) → IsGrown f g → All (IsOf f.vars) xs → All (IsOf g.vars) xs
 all_grown f g xs h a = All-weaker (IsOf f.vars) (IsOf g.vars) (λ l o. IsOf-grown f g l h o) xs a
 
--- a circuit that makes a bit of each place
+-- a circuit that makes one bit for each place
 module _ (step : Formula → ℤ → ℤ → Made) (least : ℕ) (op : Valuation → Bool → Bool → Bool)
     (bit : (f : Formula) (a b : ℤ) → least ≤ f.vars → IsOf f.vars a → IsOf f.vars b → IsBit f (step f a b) (λ w. op w (literal_true w a) (literal_true w b)))
   where
@@ -115,7 +115,7 @@ added_place_means carry a b o p q =
           (h5.value w m);
     }
 
--- the sums of the places below and above, put together
+-- the sums of the lower and the higher places together
 sum_of : (n s r k o x y c u v : ℕ) → s + 2 * k ≡ x + y + c → r + 2 ^ n * o ≡ u + v + k → (s + 2 * r) + 2 ^ suc n * o ≡ (x + 2 * u) + (y + 2 * v) + c
 sum_of n s r k o x y c u v h e =
     let p : 2 ^ suc n ≡ 2 ^ n * 2 = pow-suc 2 n in

@@ -1,4 +1,4 @@
--- The clauses that are kept and the lines stay together.
+-- The kept clauses and the lines stay in agreement.
 use Rattle.std.proofs.Common.{◌≡◌, ℕ, ◌+◌, ◌*◌, ◌<◌, Bool, true, false, List, [], ◌∷◌, ◌++◌, length, refl, sym, ◌∙◌, ap, subst, arith}
 use Rattle.std.specs.Prelude.{Contains, All, ◌||◌}
 use Rattle.std.proofs.lemmas.List.{length_push}
@@ -23,7 +23,7 @@ use Rattle.cdcl_core.specs.helpers.States.{BelongTogether, Ended, HasBound}
 use Rattle.cdcl_core.proofs.Tallying.{kept-same, kept-push}
 use Rattle.cdcl_core.proofs.Counts.{checked-push, added-push, added-same, adds-push, deleted-added, few-added}
 
--- what the clauses watch doesn't matter
+-- the watched literals don't matter
 pub agree-same : (f : Formula) (cs : List Clause) (lines : List Line) (n d : ℕ) → BelongTogether f cs lines n d → (ds : List Clause) → AreSame cs ds
     → BelongTogether f ds lines n d
 agree-same f cs lines n d a ds e = record {
@@ -59,7 +59,7 @@ teaches-added ls hs a c =
 not-nil : (ls : List ℕ) (a : ℕ) → Contains ls a → is_nil (clause_of ls) ≡ false
 not-nil ls a c = let (x, xs, e) = some-literal ls a c in ap (λ (ys : List ℕ). is_nil (clause_of ys)) e
 
--- what the checker knows after a line that passes
+-- the checker's state after a line that passes
 pub checked-added : (f : Formula) (cs : List Clause) (lines : List Line) (n d : ℕ) → BelongTogether f cs lines n d → (ls hs : List ℕ)
     → All (λ l. l < 2 * f.vars) ls → Rise ls → Shows cs ls hs → checked f (lines ++ added ls hs ∷ []) ≡ passed (checked f lines) (added ls hs)
 checked-added f cs lines n d a ls hs w r s =
@@ -75,7 +75,7 @@ fresh-line f lines (x ∷ xs) hs a c h = h
 is-roomy : (f : Formula) (cs : List Clause) (lines : List Line) (n d : ℕ) → BelongTogether f cs lines n d → HasBound f.vars n d → IsRoomy f.vars lines
 is-roomy f cs lines n d a bound = omega (arith, a.not_empty, a.deleted, bound)
 
--- a clause that is learnt is one more, and its line one more
+-- a learnt clause and its line are added on both sides
 pub agree-learnt : (f : Formula) (cs : List Clause) (lines : List Line) (n d : ℕ) → BelongTogether f cs lines n d → n < BUDGET → HasBound f.vars n d
     → (ls hs : List ℕ) (a b : ℕ)
     → All (λ l. l < 2 * f.vars) ls → Rise ls → Shows cs ls hs → Contains ls a → IsFresh (checked f lines).kept (clause_of ls)

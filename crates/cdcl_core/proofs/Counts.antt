@@ -46,7 +46,7 @@ deleted-push lines l = sum_by_push deletes lines l
 pub deleted-added : (lines : List Line) (l : Line) → deletes l ≡ 0 → deleted_in (lines ++ l ∷ []) ≡ deleted_in lines
 deleted-added lines l e = omega (arith, deleted-push lines l, e)
 
--- what holds of each beginning and of the whole holds of each beginning of one line more
+-- what holds for each first part and for the whole holds for each first part of one more line
 each-beginning : (P : List Line → Type 0) (lines : List Line) (l : Line) → ((k : ℕ) → P (take k lines)) → P (lines ++ l ∷ []) → (k : ℕ)
     → P (take k (lines ++ l ∷ []))
 each-beginning P lines l old new k =
@@ -66,7 +66,7 @@ get-last [] line (suc k) e = absurd (omega arith)
 get-last (l ∷ lines) line zero e = absurd (omega arith)
 get-last (l ∷ lines) line (suc k) e = get-last lines line k (omega arith)
 
--- what holds of each line after those before it holds with one line more
+-- what holds for each line after those before it holds with one more line
 each-line : (P : List Line → Line → Type 0) (lines : List Line) (line : Line) → ((k : ℕ) → IfSome (slice_get lines k) (λ l. P (take k lines) l))
     → P lines line → (k : ℕ) → IfSome (slice_get (lines ++ line ∷ []) k) (λ l. P (take k (lines ++ line ∷ [])) l)
 each-line P lines line old new k =

@@ -1,4 +1,4 @@
--- What is kept of a search says what is promised of it.
+-- The invariant of a search implies the search's promises.
 use Rattle.std.proofs.Common.{◌≡◌, ℕ, ◌<◌, ◌≤◌, ◌+◌, Bool, true, false, List, Option, Some, None, Ok, length, refl, sym, ◌∙◌, ap, subst, arith}
 use Rattle.std.specs.Prelude.{count_by}
 use Rattle.std.proofs.lemmas.Option.{none-some, same_Some}
@@ -87,7 +87,7 @@ live-at Closed v s h e = absurd (none-answers (Some answers.Closed) answers.Clos
 pub live : (c : StagedSearch) → IsStaged c → answer_at c.stage c.values.items ≡ None → IsLive c.state
 live c h e = live-at c.stage c.values.items c.state h e
 
--- a search without an answer stays one
+-- a search without an answer goes on
 pub still : (stage : Stage) (values : List Bool) (s : State) → answer_at stage values ≡ None → IsLive s → IsAt stage values s
 still Going v s e h = h
 still Satisfied v s e h = absurd (none-answers (Some (answers.Sat v)) (answers.Sat v) e refl)
@@ -98,7 +98,7 @@ never-paused Going values e = cc
 never-paused Satisfied values e = cc
 never-paused Closed values e = cc
 
--- an answer that stands is an answer again
+-- a search that has its answer gives the same answer again
 pub answered-already : (c : StagedSearch) (n : ℕ) (p : Progress) → 1 ≤ n → answer_at c.stage c.values.items ≡ Some p
     → Answers (searched_of c) (searched_of c) n p
 answered-already c n (answers.Sat values) h e = (e, omega (arith, h))

@@ -1,4 +1,4 @@
--- A checker keeps what a search keeps.
+-- A checker keeps the same clauses as a search.
 use Rattle.std.proofs.Common.{
   ◌≡◌,
   ◌≢◌,
@@ -64,7 +64,7 @@ opening-represented vars = record {
   rise = λ k h. absurd (false≢true h);
 }
 
--- the clause at a place, once there is one more
+-- the clause at a place, with one more clause
 pub at-more : (cs : List Clause) (c : Clause) (k : ℕ) → ((k ≡ length cs) × (at (cs ++ c ∷ []) k ≡ c)) ⊎ ((k ≢ length cs) × (at (cs ++ c ∷ []) k ≡ at cs k))
 at-more cs c k =
     elim (cases_lt k (length cs)) [
@@ -75,7 +75,7 @@ at-more cs c k =
       ]
     ]
 
--- a clause more, whatever else the checker knows
+-- one more clause on both sides
 represents-more : (cs : List Clause) (s u : Checking) (literals : List ℕ) (first second : ℕ) → Represents cs s → Rise literals
     → u.kept ≡ insert s.kept s.next (clause_of literals) → u.next ≡ s.next + 1 → u.fault ≡ s.fault
     → Represents (cs ++ kept_clause literals first second ∷ []) u
@@ -113,7 +113,7 @@ same-represented cs ds s r a =
       rise = λ k h. subst (λ (ls : List ℕ). Rise ls) (sym (a.literals k)) (r.rise k (sym (a.kept k) ∙ h));
     }
 
--- a line without fault leaves what it says
+-- the state after a line without a fault
 pub passes-from : (s : Checking) (l : Line) → s.fault ≡ None → line_fault (s.line + 1) s.vars s.kept l ≡ None → Passes s l
 passes-from s l f e = record {
   no_fault = e;
@@ -134,12 +134,12 @@ shown-passes cs s literals hints r w rise h = (
   λ first second. represents-more cs s (passed s (added literals hints)) literals first second r rise refl refl refl,
 )
 
--- the clause at a place, once one is dropped
+-- the clause at a place, after one was dropped
 pub at-dropped : (cs : List Clause) (k j : ℕ) → k < length cs → ((j ≡ k) × (at (dropped cs k) j ≡ record (at cs k) { kept = false }))
     ⊎ ((j ≢ k) × (at (dropped cs k) j ≡ at cs j))
 at-dropped cs k j h = at-set cs k j (record (at cs k) { kept = false }) h
 
--- a clause that is kept is there
+-- a kept clause exists
 pub kept-within : (cs : List Clause) (k : ℕ) → (at cs k).kept ≡ true → k < length cs
 kept-within cs k h =
     elim (cases_lt k (length cs)) [

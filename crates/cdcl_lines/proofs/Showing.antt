@@ -1,4 +1,4 @@
--- Where hints show a clause to a search, they show it to a checker.
+-- Hints that prove a clause for a search prove it for a checker.
 use Rattle.std.proofs.Common.{
   ◌≡◌,
   ◌≢◌,
@@ -54,7 +54,7 @@ left-none given (x ∷ c) h =
     ap (λ b. cond (not b) (x ∷ left given c) (left given c)) (among-there given (neg_ℤ x) (h x (contains-here x c)))
     ∙ left-none given c (λ z m. h z (contains-there x c z m))
 
--- of literals that rise, one is left
+-- one of the rising literals is left
 left-one : (given c : List ℤ) (low : ℕ) (l : ℤ) → rises_above low c ≡ true → Contains c l → (Contains given (neg_ℤ l) → ⊥)
     → ((z : ℤ) → Contains c z → z ≢ l → Contains given (neg_ℤ z)) → left given c ≡ l ∷ []
 left-one given [] low l r m n h = absurd (omega (arith, m.1))
@@ -73,7 +73,7 @@ left-one given (x ∷ c) low l r m n h =
           ∙ left-one given c (var_of x) l p.1 k n (λ z g. h z (contains-there x c z g))
     ]
 
--- what is given to a search and what is given to a checker
+-- the given literals of a search and those of a checker
 neg-given : (given : List ℕ) (x : ℕ) → Contains given (opposite_of x) → Contains (clause_of given) (neg_ℤ (literal_of x))
 neg-given given x h = subst (λ z. Contains (clause_of given) z) (sym (neg-literal x)) (contains-map literal_of given (opposite_of x) h)
 

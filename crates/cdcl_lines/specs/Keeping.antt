@@ -30,13 +30,13 @@ pub record Passes (s : Checking) (l : Line) : Type 0 where
 abbrev pub OpeningIsRepresented : Type 0
 OpeningIsRepresented = (vars : ℕ) → Represents [] (opening vars)
 
--- it still does with one more clause of a formula
+-- a state that represents a search does so after both keep one more clause of a formula
 abbrev pub KeepIsRepresented : Type 0
 KeepIsRepresented =
     (cs : List Clause) (s : Checking) (literals : List ℕ) (first second : ℕ) → Represents cs s → Rise literals
     → Represents (cs ++ kept_clause literals first second ∷ []) (keep s (clause_of literals))
 
--- it still does if clauses watch other literals
+-- a state that represents a search does so if clauses watch other literals
 abbrev pub SameAreRepresented : Type 0
 SameAreRepresented = (cs ds : List Clause) (s : Checking) → Represents cs s → AreSame cs ds → Represents ds s
 
@@ -77,7 +77,7 @@ KeepsOneMore =
     (clauses : List (List ℤ)) (cs : List Clause) (literals : List ℕ) (first second : ℕ) → KeepsAll clauses cs → length cs ≡ length clauses
     → KeepsAll (clauses ++ clause_of literals ∷ []) (cs ++ kept_clause literals first second ∷ [])
 
--- and still if clauses watch other literals, are learnt, or are dropped after the formula's
+-- the same if clauses watch other literals, are learnt, or are dropped after the formula's
 abbrev pub KeepsOn : Type 0
 KeepsOn =
     (clauses : List (List ℤ)) (cs : List Clause) → KeepsAll clauses cs

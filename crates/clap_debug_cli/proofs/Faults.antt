@@ -1,4 +1,4 @@
--- For crates above: what a call counts that failed to read or to keep.
+-- For crates above: the counts after a call that failed to read or to keep.
 use Rattle.std.proofs.Common.{◌≡◌, ◌⊎◌, ◌≤◌, ◌∙◌, ap, inl, inr, List, ℕ}
 use Rattle.tc_io.specs.Outside.{ShelfTells, counted_on}
 use Rattle.clap_debug_words.specs.Calls.{Called}
@@ -17,7 +17,7 @@ fetch_counts call old new name c = of (failed_still (inputs_of call) old new nam
     of (inl r) = inl r.0
     of (inr r) = inr (r.1, r.2)
 
--- and a keep that failed one
+-- a keep that failed counts one fault
 pub keep_counts_one : (call : Called) (old new : ShelfTells) (name : List ℕ) → IsCauseOf call old new (WriteFault name)
     → new.faults ≡ counted_on old.faults 1
 keep_counts_one call old new name c =

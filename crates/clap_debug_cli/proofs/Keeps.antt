@@ -1,4 +1,4 @@
--- What a keep does to the counts of the shelf.
+-- The effect of a keep on the counts of the shelf.
 use Rattle.std.proofs.Common.{◌≡◌, ◌⊎◌, ◌∙◌, ap, sym, inl, inr, List, ℕ, Option, Some, None}
 use Rattle.std.specs.Option.{IsSomeAnd}
 use Rattle.tc_io.specs.Outside.{ShelfTells, Writing, KeptPart, counted_on}
@@ -9,7 +9,7 @@ use Rattle.clap_debug_cli.specs.Inputs.{Texts, inputs_of}
 use Rattle.clap_debug_cli.specs.declared.answer.Minimum.{Minimum}
 use Rattle.clap_debug_cli.proofs.Fetches.{given_still}
 
--- it failed: one fault was counted, and that keep is told
+-- the keep failed: the shelf counted one more fault, of this keep
 abbrev pub CountsKeep : ShelfTells → ShelfTells → List ℕ → Type 0
 CountsKeep old new name = (new.faults ≡ counted_on old.faults 1) × (new.last_fault ≡ Some (Writing name))
 
@@ -20,7 +20,7 @@ second_counts : (o : Option (List ℕ)) (old new : ShelfTells) (name : List ℕ)
 second_counts None old new name k = absurd k
 second_counts (Some text) old new name k = part_counts old new name text k
 
--- `solve --least` lost one of its texts
+-- `solve --least` failed to keep one of its texts
 minimum_counts : (out refutation name : List ℕ) (x : Minimum) (old new : ShelfTells)
     → ((name ≡ out) × KeptPart old new out (first_text x)) ⊎ ((name ≡ refutation) × LostSecond out refutation x old new) → CountsKeep old new name
 minimum_counts out refutation name x old new (inl k) =
@@ -39,7 +39,7 @@ pub lost_one : (call : Called) (t : Texts) (old new : ShelfTells) (name : List �
 lost_one call t old new name (inl k) = part_counts old new name k.1 k.3
 lost_one call t old new name (inr k) = lost_minimum call t old new name k
 
--- a text that was kept counts none
+-- a text that was kept counts no fault
 any_still : (o : Option (List ℕ)) (old new : ShelfTells) (name : List ℕ) → KeptIfAny o old new name → new.faults ≡ old.faults
 any_still None old new name k = ap (λ x. x.faults) k
 any_still (Some text) old new name k = ap (λ x. x.faults) k
@@ -55,7 +55,7 @@ kept_first_still (Minimizes p l out m b refutation) old new k =
     ∙ (given_still (inputs_of (Minimizes p l out m b refutation)) old k.1 k.0 k.2).1
 kept_first_still _ old new k = absurd k
 
--- what is held where both texts were kept
+-- the files after both texts were kept
 any_held : (o : Option (List ℕ)) (old new : ShelfTells) (name : List ℕ) → KeptIfAny o old new name → new.held ≡ put_if_any name o old.held
 any_held None old new name k = ap (λ x. x.held) k
 any_held (Some text) old new name k = ap (λ x. x.held) k

@@ -25,7 +25,7 @@ use Rattle.clap_debug_cli.specs.declared.answer.Minimum.{Minimum}
 abbrev pub minimum : Model → ℕ → Least → Minimum
 minimum model budget result = record { model = model; budget = budget; least = result }
 
--- the result that `solve` would have had
+-- the result as `solve` without `--least` gives it
 abbrev pub found_in : Least → Found
 found_in (least.Found schedule _ _) = found.Found schedule
 found_in (least.Impossible lines) = found.Impossible lines
@@ -78,7 +78,7 @@ abbrev pub KeptIfAny : Option (List ℕ) → ShelfTells → ShelfTells → (name
 KeptIfAny None old new name = new ≡ old
 KeptIfAny (Some text) old new name = Kept old new name text
 
--- what is held after that
+-- the files after that
 abbrev pub put_if_any : (name : List ℕ) → Option (List ℕ) → Option Files → Option Files
 put_if_any name None held = held
 put_if_any name (Some text) held = put_under name text held
@@ -88,7 +88,7 @@ module _ (out refutation : List ℕ) (x : Minimum) where
   abbrev pub KeptBoth : ShelfTells → ShelfTells → Type 0
   KeptBoth old new = (s : ShelfTells) × Kept old s out (first_text x) × KeptIfAny (second_text x) s new refutation
 
-  -- what is held after both texts were kept
+  -- the files after both texts were kept
   abbrev pub put_both : Option Files → Option Files
   put_both held = put_if_any refutation (second_text x) (put_under out (first_text x) held)
 

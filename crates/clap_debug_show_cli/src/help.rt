@@ -1,4 +1,4 @@
-//! Help with the text of a program: why it is none, or what the program has.
+//! Help with the text of a program: why it isn't a program, or what the program has.
 ghost use Rattle.std.specs.Prelude.{◌≡◌, ◌≤◌, ◌++◌, ℕ, List, length, IfErr, IfOk};
 ghost use Rattle.tc_limits.specs.declared.limits.TheConstants.{PROGRAM_BYTES};
 ghost use Rattle.tc_compile.specs.Programs.{IsCodeOf, IsRefusal, IsWhyNoCode};
@@ -22,28 +22,28 @@ use tc_lower::lower;
 use tc_parser::{TextFault, read};
 use tc_tree::Tree;
 
-/// Why a text is no program.
+/// Why a text isn't a program.
 #[derive(Drop)]
 pub(crate) struct Explained {
     pub(crate) fault: TextFault,
-    /// What could stand at the fault, where it is one of syntax.
+    /// The tokens possible at the fault, if it is a syntax fault.
     pub(crate) stuck: Option<Stuck>,
-    /// What is said of both.
+    /// The words about both.
     pub(crate) words: String,
 }
 
-/// What a program has.
+/// The contents of a program.
 #[derive(Drop)]
 pub(crate) struct Described {
     pub(crate) code: Code,
-    /// What is said of it.
+    /// The words about it.
     pub(crate) words: String,
 }
 
-/// What is said of the text of a program.
+/// Help with the text of a program.
 #[derive(Drop)]
 pub(crate) enum Helped {
-    /// Why the text is no program.
+    /// Why the text isn't a program.
     Explained(Explained),
     /// What the program has.
     Described(Described),
@@ -115,7 +115,7 @@ fn explained_text(alloc: Global, why: &Explained) -> Result<Vec<u8>, AllocError>
     Ok(text)
 }
 
-/// What the program of a text has.
+/// The contents of the program of a text.
 fn describe_text(alloc: Global, text: &[u8]) -> Result<Described, CompileFault>
     requires { length text.now ≤ PROGRAM_BYTES }
     ensures found { IfOk result (λ has. IsCodeOf text.now has.code) }
@@ -126,7 +126,7 @@ fn describe_text(alloc: Global, text: &[u8]) -> Result<Described, CompileFault>
     Ok(Described { code, words })
 }
 
-/// Why a text with this fault is no program.
+/// Why a text with this fault isn't a program.
 fn explain_fault(alloc: Global, text: &[u8], fault: TextFault) -> Result<Helped, AllocError>
     requires size { length text.now ≤ PROGRAM_BYTES }
     requires refused { IsRefusal text.now fault }
@@ -141,7 +141,7 @@ fn explain_fault(alloc: Global, text: &[u8], fault: TextFault) -> Result<Helped,
     }))
 }
 
-/// The program that a text is, and its code.
+/// The program of a text, and its code.
 pub(crate) fn read_code(alloc: Global, text: &[u8]) -> Result<(Tree<'_>, Code), CompileFault>
     requires { length text.now ≤ PROGRAM_BYTES }
     ensures found { IfOk result (λ both. IsCodeOf text.now both.1) }

@@ -15,14 +15,14 @@ use crate::words::Showing;
 use command_frame::{Command, Keep, Status, Whole, Work};
 use std::alloc::{AllocError, Global};
 
-/// What comes of a program and a file.
+/// The outcome for a program and a file.
 #[derive(Drop)]
 pub(crate) enum Showed<'a> {
-    /// One of the two is refused.
+    /// One of the two was refused.
     Refused(Refusal),
-    /// This is to be shown as text.
+    /// To be shown as text.
     Text(Shown<'a>),
-    /// This is to be kept under a name as this page.
+    /// To be kept under this name as this page.
     Page(Shown<'a>, &'a str, String),
 }
 
@@ -45,7 +45,7 @@ impl<'a> Show<'a> {
         }
     }
 
-    /// What the two show, or why they show nothing.
+    /// What the two files show, or why they show nothing.
     fn showed(&self, alloc: Global, program: &[u8], file: &[u8]) -> Result<Showed<'a>, Fault>
         requires { length program.now ≤ PROGRAM_BYTES }
         ensures showed { IfOk result (IsShowing (plain_showing self.now.showing) program.now file.now) }

@@ -1,4 +1,4 @@
--- Orders that are asked of what is theirs stay lawful.
+-- Orders stay lawful when they are asked about their own events and sleeps.
 use Rattle.std.proofs.Common.{◌≡◌, ℕ, ◌<◌, ◌==◌, ◌&&◌, Bool, true, false, List, [], ◌∷◌, map, fold, refl, ap, ap₂, arith}
 use Rattle.std.specs.Cmp.{IsEquivalence, decided}
 use Rattle.std.specs.List.{All, IsDistinct, list_any}
@@ -68,7 +68,7 @@ with_choice_lawful o c is of = record {
 pair_is : (n first second : ℕ) → first < n → second < n → PairIsOf n (pair_of first second)
 pair_is n first second one other = record { ordered = omega arith; within = omega (arith, one, other) }
 
--- a lawful order of as many events and sleeps as another
+-- a lawful order with the same numbers of events and sleeps as another
 pub record IsFor (r o : Order) : Type 0 where
   pub lawful : IsOrder o
   pub events : o.events ≡ r.events
@@ -115,11 +115,11 @@ module _ (r : Order) where
   body_for o (body.Any cases) is within = all_for with_case (All (LiteralIsIn r)) case_for o cases is within
   body_for o (body.Read _) is within = is
 
-  -- asked of a formula that names what is the order's
+  -- the order that is asked a formula's questions about its own events and sleeps
   pub formula_for : (o : Order) (formula : List Conjunct) → IsFor r o → All (ConjunctIsIn r) formula → IsFor r (with_formula o formula)
   formula_for = all_for with_conjunct (ConjunctIsIn r) (λ o c. body_for o c.body)
 
--- and of every two of some events
+-- the order that is asked about every two of some events
 among_within : (n : ℕ) (events : List ℕ) → All (λ e. e < n) events → All (PairIsOf n) (pairs_among events)
 among_within n [] all = All-nil (PairIsOf n)
 among_within n (event ∷ events) all =

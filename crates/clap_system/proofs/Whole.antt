@@ -1,4 +1,4 @@
--- What the execution of paths leaves, and the system that is made of it.
+-- The execution of paths, and the system that is made of it.
 use Rattle.std.proofs.Common.{◌≡◌, ◌∙◌, ◌≤◌, Bool, List, [], length, sym, ap, ap₂, subst, arith}
 use Rattle.tc_limits.specs.declared.limits.TheConstants.{EVENTS}
 use Rattle.tc_code.specs.Code.{Code}
@@ -28,7 +28,7 @@ module _ (code : Code) (paths : Paths) (symbolic : Symbolic) (first : List Node)
 
   module _ (buffered : Bool) (bound : Binding) (nodes : List Node) (formula : List Conjunct)
       (made : nodes ≡ with_needs buffered bound code paths symbolic first) (rules : formula ≡ rules_of buffered bound code paths symbolic nodes) where
-    -- over all terms
+    -- the formula over all terms
     formula_is : formula ≡ rules_of buffered bound code paths symbolic (with_needs buffered bound code paths symbolic first)
     formula_is = rules ∙ ap (rules_of buffered bound code paths symbolic) made
 
@@ -43,7 +43,7 @@ module _ (code : Code) (paths : Paths) (symbolic : Symbolic) (first : List Node)
         with_parts : List Node → Order → List Conjunct → System
         with_parts ns o fs = record { paths = paths; symbolic = symbolic; nodes = ns; order = o; formula = fs }
 
-    -- so it is sound
+    -- the system is sound
     pub sound_by : (order last : Order) → order ≡ unasked (length (all_events paths)) (length (all_sleeps paths)) → last ≡ with_formula order formula
         → IsLawful code → ArePaths code paths → paths.events ≤ EVENTS
         → IsSound (record { paths = paths; symbolic = symbolic; nodes = nodes; order = last; formula = formula })

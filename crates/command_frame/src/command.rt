@@ -1,4 +1,4 @@
-//! What a command is.
+//! The interface of a command.
 ghost use Rattle.std.specs.Prelude.{◌≡◌, IfOk, map};
 ghost use Rattle.command_frame.specs.Inputs.{AreWithin};
 ghost use Rattle.command_frame.specs.Meaning.{Meaning};
@@ -24,11 +24,11 @@ pub trait Command {
     ) -> Result<Vec<Keep<'n, 'b>>, AllocError>
         ensures { IfOk result (λ keeps. map plain_keep keeps.items ≡ (meaning self.now).keeps_of outcome.now) };
 
-    /// The text that says an outcome.
+    /// The text of an outcome.
     fn text(&self, alloc: Global, outcome: &Self::Outcome) -> Result<Vec<u8>, AllocError>
         ensures { IfOk result (λ text. (meaning self.now).IsTextOf outcome.now text.items) };
 
-    /// The status with which an outcome ends.
+    /// The status of an outcome.
     fn status(&self, outcome: &Self::Outcome) -> Status
         ensures { result ≡ (meaning self.now).status_of outcome.now };
 }

@@ -94,7 +94,7 @@ impl<'b> Inputs for Entire<'b> {
         match shelf.fetch(alloc, self.name, u64::MAX) {
             Ok(bytes) => Ok(bytes),
             Err(FetchFault::Memory) => Err(Failure::Memory),
-            // It failed, or there are more bytes than a number counts.
+            // The read failed, or there are more bytes than a number counts.
             Err(_) => Err(Failure::Read(self.name)),
         }
     }

@@ -99,7 +99,7 @@ fn carry_out<'a, C: Work, H: Shelf>(
     Ok(outcome)
 }
 
-/// Keeps what is kept of an outcome.
+/// Makes the keeps of an outcome.
 fn keep_outcome<'a, C: Command, H: Shelf>(
     alloc: Global,
     command: &'a C,

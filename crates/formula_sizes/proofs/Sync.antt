@@ -1,4 +1,4 @@
--- How large the conjuncts are at most of all that threads wait for.
+-- Bounds on the sizes of the conjuncts of everything that threads wait for.
 use Rattle.std.proofs.Common.{◌≡◌, ℕ, suc, ◌+◌, ◌*◌, ◌≤◌, List, [], ◌∷◌, ◌++◌, map, length, Bool, true, false, Option, Some, None, subst, arith, sum_by}
 use Rattle.std.specs.Prelude.{filter, option_to_list, if◌then◌else◌}
 use Rattle.std.specs.List.{All, flat_map}
@@ -24,7 +24,7 @@ cases_size f m [] few = omega arith
 cases_size f m (x ∷ xs) few =
     omega (arith, sum_by-cons case_size (f x ∷ []) (map (λ l. l ∷ []) (map f xs)), sum_by-cons literal_size (f x) [], few x, cases_size f m xs few)
 
--- what a walk has isn't more than its events
+-- the parts of a walk are at most as many as its events
 pub record HasFew (q : Walk) : Type 0 where
   pub creates : length q.creates ≤ length q.events
   pub joins : length q.joins ≤ length q.events

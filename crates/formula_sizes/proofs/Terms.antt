@@ -1,4 +1,4 @@
--- How large the circuits are at most of the terms that an execution makes, by its operators, its steps and its loads.
+-- Bounds on the circuits of the terms that an execution makes, by its operators, steps and loads.
 use Rattle.std.proofs.Common.{◌≡◌, ℕ, ◌+◌, ◌*◌, ◌≤◌, ℤ, pos, List, [], ◌∷◌, ◌++◌, fold, length, map, Bool, true, false, cond, Option, Some, None, refl, ap, arith, sum_by}
 use Rattle.std.specs.Prelude.{sum, unwrap_or}
 use Rattle.std.specs.List.{list_any}
@@ -51,7 +51,7 @@ binary_most bin.Le = omega arith
 binary_most bin.Gt = omega arith
 binary_most bin.Ge = omega arith
 
--- a node more
+-- one more node
 pub with_size : (nodes : List Node) (node : Node) → terms_size (with_node nodes node) ≤ terms_size nodes + node_size node
 with_size nodes node = by (list_any (same_node node) nodes)
   where
@@ -59,7 +59,7 @@ with_size nodes node = by (list_any (same_node node) nodes)
     by true = omega arith
     by false = omega (arith, sum_by-append node_size nodes (node ∷ []), sum_by-cons node_size node [])
 
--- and many
+-- several more nodes
 pub with_sizes : (more nodes : List Node) → terms_size (fold with_node nodes more) ≤ terms_size nodes + terms_size more
 with_sizes [] nodes = omega arith
 with_sizes (node ∷ more) nodes =
@@ -115,8 +115,8 @@ replaced_size nodes v e f =
     let g = with_size masked.nodes (Binary bin.Xor v masked.term) in
     omega (arith, a, b, c, d, g)
 
--- what steps add to an execution, by the numbers of their operators, of themselves and of those that access a cell: a step adds a
--- test of range at most, and a load a compare-and-exchange
+-- the growth of an execution, by its operators, steps and accesses: a step adds at most a range
+-- test, and an access at most a compare-and-exchange
 pub record IsLarger (ops steps cells : ℕ) (d e : Doing) : Type 0 where
   pub nodes : terms_size e.nodes + 256 * d.loads ≤ terms_size d.nodes + 28_868 * ops + 896 * steps + 256 * e.loads
   pub tests : length e.tests ≤ length d.tests + steps
@@ -218,7 +218,7 @@ instr_adds line wanted d _ = making_adds 0 d d (omega arith) refl refl refl
 abbrev pub operators_at : Code → ℕ → List ℕ → ℕ
 operators_at code f places = sum (map (λ s. operators_of s.instr) (steps_at code f places))
 
--- and how many of these access a cell
+-- the number of steps at places that access a cell
 abbrev pub cells_at : Code → ℕ → List ℕ → ℕ
 cells_at code f places = sum_by (λ s. cells_of s.instr) (steps_at code f places)
 
@@ -258,7 +258,7 @@ tests_in courses = sum_by (λ c. length c.tests) courses
 abbrev pub accesses_in : List Course → ℕ
 accesses_in courses = sum_by (λ c. length c.accesses) courses
 
--- the operators, the steps and the accesses along the ways of all threads
+-- the numbers of operators, steps and accesses on the paths of all threads
 abbrev pub operators_along : Code → List Walk → ℕ
 operators_along code walks = sum_by (λ w. operators_at code w.function w.places) walks
 

@@ -1,4 +1,4 @@
--- How large the conjuncts of conditions and of deadlocks are at most.
+-- Bounds on the sizes of the conjuncts of conditions and of deadlocks.
 use Rattle.std.proofs.Common.{◌≡◌, ℕ, ◌+◌, ◌*◌, ◌≤◌, List, [], ◌∷◌, ◌++◌, map, length, Bool, true, false, Option, Some, None, ap, arith, sum_by}
 use Rattle.std.specs.Prelude.{not, filter, nat_lt, ◌==◌, ◌&&◌, option_to_list, if◌then◌else◌}
 use Rattle.std.specs.List.{enumerate_from, flat_map}
@@ -37,7 +37,7 @@ sleeps_few paths c =
       length-enumerate_from 0 (all_sleeps paths),
     )
 
--- of the wait that is a sleep's
+-- the conjuncts of a sleep's wait
 module _ (events : List (Of Event)) (s : ℕ × Of Sleep) (es : List Ender) (rs : List ℕ) where
   woken_size : size_of (woken (wait_of events s) es) ≤ length es * 19 + 1
   woken_size = by (wait_of events s).wakes
@@ -87,7 +87,7 @@ module _ (events : List (Of Event)) (s : ℕ × Of Sleep) (es : List Ender) (rs 
       by true = omega (arith, here (s.0 ∷ []))
       by false = omega (arith, here rs)
 
-  -- by bounds on how many enders and sleeps there are
+  -- the size by bounds on the numbers of enders and sleeps
   wait_size : (n : ℕ) → length es ≤ n → length rs ≤ n → size_of (wait_formula (wait_of events s) es rs) ≤ n * (n * 28 + 45) + 1
   wait_size n few short =
       let a = of_map conjunct_size (begun (wait_of events s)) 13 es (λ g. omega arith) in

@@ -1,4 +1,4 @@
--- How much the ways of a log's threads have at most.
+-- Bounds on the parts of a log's paths.
 use Rattle.std.proofs.Common.{◌≡◌, ℕ, ◌+◌, ◌*◌, ◌≤◌, List, [], ◌∷◌, map, length, Bool, true, false, Option, Some, None, refl, arith, sum_by}
 use Rattle.std.specs.Prelude.{sum, Ok, Err, ◌==◌, ◌&&◌, Result, option_map, slice_get, unwrap_or, bytes_eq, if◌then◌else◌}
 use Rattle.std.specs.List.{All, cons_option}
@@ -28,7 +28,7 @@ use Rattle.formula_sizes.proofs.Loads.{filter_map_few}
 use Rattle.formula_sizes.proofs.Sync.{HasFew}
 use Rattle.formula_sizes.proofs.Terms.{cells_of, operators_at, cells_at, operators_along, steps_along, cells_along}
 
--- an element more, or none
+-- one more element or none
 at_least : {X : Type 0} (o : Option X) (xs : List X) → length xs ≤ length (cons_option o xs)
 at_least None xs = omega arith
 at_least (Some x) xs = omega arith
@@ -80,7 +80,7 @@ module _ (code : Code) (f : ℕ) where
         is_event (λ e. record { step = k; line = unwrap_or (line_at code f s.place) 0; kind = e; bars = t.bars }) t rest last s.instr,
       )
 
--- the places of a path are as many as its steps
+-- a path has as many places as steps
 fitting_few : (code : Code) (f : ℕ) (ending : Ending) (path : Path) (r : Result (List ℕ) Misfit) → places_of code f ending path ≡ r
     → length (result_unwrap_or r []) ≤ path.steps
 fitting_few code f ending path (Err fault) is = omega arith

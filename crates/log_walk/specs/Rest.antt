@@ -1,4 +1,4 @@
--- What the first threads of a log leave to the others.
+-- The rest of a log after its first threads.
 use Rattle.std.specs.Prelude.{◌≡◌, ℕ, ◌+◌, ◌-◌, ◌==◌, List, [], ◌∷◌, ◌++◌, length, map, Bool, true, false, not, ◌&&◌, ◌||◌, replicate}
 use Rattle.std.specs.Prelude.{Option, Some, None, is_some, slice_get, slice_set, slice_index_or, if◌then◌else◌}
 use Rattle.std.specs.List.{list_any, zip}
@@ -17,26 +17,26 @@ use Rattle.log_walk.specs.declared.bounds.Kind.TheVariants.{Failure, Deadlock}
 use Rattle.log_walk.specs.declared.rest.Awaited.{Awaited}
 
 pub record Rest : Type 0 where
-  -- the threads that are created and have no path yet, in the order of their names
+  -- the threads that are created but have no path yet, in the order of their names
   pub awaited : List Awaited
-  -- whether a thread fails; in a deadlock, whether one hasn't exited
+  -- whether one of the first threads ends as one thread of the log must
   pub ends : Bool
   -- for each mutex, whether a thread holds it at the end of its path
   pub held : List Bool
   -- for each mutex, whether a thread waits for it there
   pub waited : List Bool
 
--- how a thread ends that no path joins
+-- the end of a thread that no path joins
 abbrev pub open_end : Kind → End
 open_end Failure = end.Open
 open_end Deadlock = end.Rest
 
--- the same, where its create is the last step of its creator
+-- the same for a thread whose create is the last step of its creator
 abbrev pub last_end : Kind → End
 last_end Failure = end.Used
 last_end Deadlock = end.Rest
 
--- how the child of that number ends, by the path of its creator
+-- the end of the child with this number, given the path of its creator
 abbrev pub end_of : Kind → Told → ℕ → End
 end_of kind t k = if list_any (λ j. j == k) t.joined then end.Exit
     else (if t.at_create && k == length t.created then last_end kind else open_end kind)
@@ -61,7 +61,7 @@ children_from kind n at t k (f ∷ fs) = record {
   waited = waits_for kind at t (k + 1);
 } ∷ children_from kind n at t (k + 1) fs
 
--- a thread may fail if it is joined by no path and no other has failed
+-- a thread may fail if no path joins it and no other thread fails
 abbrev pub may_fail : Kind → Bool → End → Bool
 may_fail Failure ends end.Exit = false
 may_fail Failure ends _ = not ends
@@ -70,7 +70,8 @@ may_fail Deadlock ends e = false
 abbrev pub aim_of : Kind → Bool → End → Aim
 aim_of kind ends e = record { end = e; may_fail = may_fail kind ends e }
 
--- whether a path ends as one thread of the log must: in its failure; in a deadlock, without an exit
+-- whether a path ends as one thread of the log must: with the failure, or, in a deadlock,
+-- unfinished
 abbrev pub ends_log : Code → Kind → Bool → ℕ → Told → Bool
 ends_log code Failure may f t = may && t.at_site
 ends_log code Deadlock may f t = is_some (instr_at code f t.place)
@@ -83,7 +84,7 @@ is_free code c t = c.waited && not (is_some (instr_at code c.function t.place))
 abbrev pub meet : List Bool → List Bool → Bool
 meet a b = list_any (λ p. p.0 && p.1) (zip a b)
 
--- the mutexes that are held by one of the two
+-- the mutexes that one of the two holds
 abbrev pub either : List Bool → List Bool → List Bool
 either a b = map (λ p. p.0 || p.1) (zip a b)
 
@@ -96,7 +97,7 @@ abbrev pub is_whole : Rest → Bool
 is_whole rest = rest.ends && not (lacks rest.waited rest.held)
 
 module _ (code : Code) (kind : Kind) where
-  -- main alone is awaited
+  -- only main is awaited
   abbrev pub all : Rest
   all = record {
     awaited = record { name = main; function = length code.functions - 1; end = open_end kind; waited = false } ∷ [];
@@ -105,7 +106,7 @@ module _ (code : Code) (kind : Kind) where
     waited = replicate code.mutexes false;
   }
 
-  -- what is left once an awaited thread has a path that says this
+  -- the rest after an awaited thread takes a path that determines this
   abbrev pub rest_by : Rest → Awaited → List Awaited → Told → Rest
   rest_by rest c others t = record {
     awaited = children_from kind c.name (instr_at code c.function t.place) t 0 t.created ++ others;
@@ -121,7 +122,7 @@ module _ (code : Code) (kind : Kind) where
   leave (c ∷ others) rest p =
       if meet rest.held (told code c.function p).held || is_free code c (told code c.function p) then None else Some (rest_by rest c others (told code c.function p))
 
-  -- the first awaited thread may take a path
+  -- the first awaited thread may take this path
   pub record Takes (rest : Rest) (t : ThreadPath) (later : Rest) : Type 0 where
     pub next : Awaited
     pub is_next : slice_get rest.awaited 0 ≡ Some next
@@ -129,7 +130,7 @@ module _ (code : Code) (kind : Kind) where
     pub may : MayTake code next.function (aim_of kind rest.ends next.end) t.path
     pub leaves : leave rest.awaited rest t.path ≡ Some later
 
-  -- threads make up the rest of a log: each takes its path, then none is awaited, and one ends as it must
+  -- threads make up the rest of a log: each takes its path, none is left, and one ends as it must
   abbrev pub MakeUp : Rest → List ThreadPath → Type 0
   MakeUp rest [] = (rest.awaited ≡ []) × (is_whole rest ≡ true)
   MakeUp rest (t ∷ ts) = (later : Rest) × Takes rest t later × MakeUp later ts

@@ -11,18 +11,18 @@ use tc_base::ThreadName;
 use tc_code::{Code, Instr};
 use thread_paths::{Aim, End, Path};
 
-/// A thread that is created and has no path yet.
+/// A thread that is created but has no path yet.
 #[derive(Drop)]
 pub struct Awaited {
     pub name: ThreadName,
     pub function: usize,
-    /// How it ends where it doesn't fail.
+    /// How it ends if it doesn't fail.
     pub end: End,
     /// Whether its creator waits for it at the end of its path.
     waited: bool,
 }
 
-/// What the first threads of a log leave to the others.
+/// The rest of a log after its first threads.
 #[derive(Drop)]
 pub struct Rest {
     awaited: Vec<Awaited>,
@@ -39,7 +39,7 @@ impl Model for Rest {
     ghost view = { λ r. record { awaited = r.awaited.items; ends = r.ends; held = r.held.items; waited = r.waited.items } };
 }
 
-/// How a thread ends that no path joins.
+/// The end of a thread that no path joins.
 fn open_end(kind: Kind) -> End
     ensures { result ≡ open_end kind }
 {
@@ -49,7 +49,7 @@ fn open_end(kind: Kind) -> End
     }
 }
 
-/// The same, where its create is the last step of its creator.
+/// The same for a thread whose create is the last step of its creator.
 fn last_end(kind: Kind) -> End
     ensures { result ≡ last_end kind }
 {
@@ -59,21 +59,21 @@ fn last_end(kind: Kind) -> End
     }
 }
 
-/// Whether a number is among some.
+/// Whether a number is in the list.
 fn is_among(number: usize, numbers: &[usize]) -> bool
     ensures { result ≡ list_any (λ j. j == number) numbers.now }
 {
     numbers.iter().any(|other| *other == number)
 }
 
-/// Whether the last step creates the child of that number.
+/// Whether the last step creates the child with this number.
 fn is_last(told: &Told, number: usize) -> bool
     ensures { result ≡ (told.now.at_create && number == length told.now.created) }
 {
     told.at_create && number == told.created.len()
 }
 
-/// How the child of that number ends.
+/// The end of the child with this number.
 fn end_of(kind: Kind, told: &Told, number: usize) -> End
     ensures { result ≡ end_of kind told.now number }
 {
@@ -173,7 +173,7 @@ fn meet(first: &[bool], second: &[bool]) -> bool
     first.iter().zip(second).any(|(one, other)| *one && *other)
 }
 
-/// The mutexes that are held by one of the two.
+/// The mutexes that one of the two holds.
 fn either(alloc: Global, first: &[bool], second: &[bool]) -> Result<Vec<bool>, AllocError>
     ensures { IfOk result (λ v. v.items ≡ either first.now second.now) }
 {
@@ -184,7 +184,7 @@ fn either(alloc: Global, first: &[bool], second: &[bool]) -> Result<Vec<bool>, A
         .collect(alloc)
 }
 
-/// The children of a thread, behind which others are awaited.
+/// The children of a thread, followed by the other awaited threads.
 fn children(
     alloc: Global,
     kind: Kind,
@@ -224,7 +224,7 @@ fn add_others(awaited: &mut Vec<Awaited>, rest: &[Awaited]) -> Result<(), AllocE
 }
 
 impl Rest {
-    /// Main alone is awaited.
+    /// Only main is awaited.
     pub fn all(alloc: Global, code: &Code, kind: Kind) -> Result<Rest, AllocError>
         ensures { IfOk result (λ r. r ≡ all code.now kind) }
     {
@@ -243,7 +243,7 @@ impl Rest {
         })
     }
 
-    /// The first thread that is awaited.
+    /// The first awaited thread.
     pub fn next(&self) -> Option<&Awaited>
         ensures { option_map (λ c. c.now) result ≡ slice_get self.now.awaited 0 }
     {
@@ -257,7 +257,7 @@ impl Rest {
         self.ends && !lacks(&self.waited, &self.held)
     }
 
-    /// How a path of an awaited thread ends.
+    /// How the path of an awaited thread must end.
     pub fn aim(&self, kind: Kind, end: End) -> Aim
         ensures { result ≡ aim_of kind self.now.ends end }
     {

@@ -1,4 +1,4 @@
--- In a deadlock each thread that is blocked has a cause.
+-- In a deadlock each blocked thread has a cause.
 use Rattle.std.proofs.Common.{◌≡◌, ◌∙◌, ℕ, true, false, length, List, Some, IsSome, sym, ap, subst, arith}
 use Rattle.std.proofs.lemmas.Bool.{false≢true}
 use Rattle.tc_base.specs.Names.{Name, child}
@@ -30,7 +30,7 @@ module _ {B : Type 0} (setting : Setting B) (moves : List Move) (again : Reprodu
   abbrev h : List Deed
   h = history ops code moves
 
-  -- an owned mutex is held by the path of its owner
+  -- the path of a mutex's owner holds it at its end
   held : (m : ℕ) → IsSome (owner_in h m) → IsHeldAtEnd code log m
   held m some =
       let o = some_value (owner_in h m) some in
@@ -44,7 +44,7 @@ module _ {B : Type 0} (setting : Setting B) (moves : List Move) (again : Reprodu
         holds = record { region = r.0; there = r.1; of = r.2; lasts = subst (λ n. IsOpenAfter n r.0) ends r.3 };
       }
 
-  -- who hasn't exited has no exit on its path
+  -- a thread that hasn't exited has no exit on its path
   runs_on : (n : Name) → has_exited_in h n ≡ false → NeverExits code log n
   runs_on n going j w there name ends =
       let thread : PathThread code log = path_thread j w there in

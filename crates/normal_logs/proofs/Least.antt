@@ -1,4 +1,5 @@
--- Where no step can be left out of a run, each thread but the failing one ends with a step that another may have a use for.
+-- If no step can be removed from a run, each thread except the failing one ends with a step that
+-- another may use.
 use Rattle.std.proofs.Common.{◌≡◌, ◌∙◌, ◌⊎◌, inl, inr, ℕ, zero, suc, ◌+◌, ◌<◌, ◌==◌, ℤ, Bool, true, false, not, ◌&&◌, List, [], ◌∷◌, ◌++◌, length, cond}
 use Rattle.std.proofs.Common.{Option, Some, None, refl, sym, ap, subst, arith, append_assoc, true≢false}
 use Rattle.std.specs.Prelude.{option_map, option_and_then}
@@ -82,7 +83,7 @@ module _ {B : Type 0} (setting : Setting B) (moves : List Move) (again : Reprodu
       ends : (r : Request) (asked : EventKind) → h ≡ older ++ Did w.name k r took other ∷ newer → kind_of r other ≡ Some asked → EndsWith w asked
       ends r asked at asks = ends_with setting moves again thread older newer k r took other asked at last asks
 
-      -- an exit that somebody awaits
+      -- an exit for which some thread waits
       joined : h ≡ older ++ Did w.name k Finish took other ∷ newer → list_any (is_await_of w.name) newer ≡ true → IsJoined code log w.name
       joined at any =
           let deed = Did w.name k Finish took other in

@@ -1,4 +1,4 @@
--- What a log tells that some moves reproduce.
+-- Facts on a log that some moves reproduce.
 use Rattle.std.proofs.Common.{◌≡◌, ◌∙◌, ℕ, zero, suc, ◌+◌, ◌<◌, ℤ, true, List, ◌∷◌, ◌++◌, length, cond, Option, Some, refl, sym, ap, subst, arith, append_assoc}
 use Rattle.std.proofs.lemmas.Option.{none-some, same_Some}
 use Rattle.tc_base.specs.Names.{Name, child}
@@ -62,13 +62,13 @@ module _ {B : Type 0} (setting : Setting B) (moves : List Move) (again : Reprodu
   pub threads : StepsAreOfThreads h
   threads = run.told.threads
 
-  -- who does a step is a thread of the paths
+  -- a thread that does a step is one of the paths
   pub step_named : (older newer : List Deed) (n : Name) (k : ℕ) (r : Request) (v : ℤ) (o : Option Name) → h ≡ older ++ Did n k r v o ∷ newer
       → IsNameOfThread code log n
   step_named older newer n k r v o at =
       thread_named setting (up_to setting all older (Did n k r v o ∷ newer) at) n (threads older newer n k r v o at).there
 
-  -- who does a step in a later part of the history has a step on its path
+  -- a thread that does a step in a later part of the history has a step on its path
   pub acts : (older newer : List Deed) (n : Name) → h ≡ older ++ newer → 0 < steps_in newer n → Acts code log n
   acts older newer n at some =
       let s = step_at newer n 0 some in
@@ -102,7 +102,7 @@ module _ {B : Type 0} (setting : Setting B) (moves : List Move) (again : Reprodu
         let every : steps_in h w.name ≡ length w.places = done in
         omega (arith, number, count, none, every)
 
-    -- with what it asks the path ends
+    -- the path ends with the event of that step
     pub ends_with : (older newer : List Deed) (k : ℕ) (r : Request) (v : ℤ) (o : Option Name) (asked : EventKind) → h ≡ older ++ Did w.name k r v o ∷ newer
         → k + 1 ≡ length w.places → kind_of r o ≡ Some asked → EndsWith w asked
     ends_with older newer k r v o asked at last asks =
@@ -127,11 +127,11 @@ module _ {B : Type 0} (setting : Setting B) (moves : List Move) (again : Reprodu
         nothing zero h = refl
         nothing (suc n) h = absurd (h (omega arith))
 
-    -- the joins of a path are those among its events
+    -- the joins of a path are those of its events
     joins_are : w.joins ≡ joins_of w.events
     joins_are = subst (λ (x : Walk). x.joins ≡ joins_of x.events) (sym walk.is) refl
 
-    -- a join on the path was done
+    -- each join of the path was done
     pub joins_done : (l : Link) → In l w.joins → has_exited_in h (child w.name l.child) ≡ true
     joins_done l i =
         let from = from_mapped (λ (e : Event). join_by e.step e.kind) l w.events (subst (In l) joins_are i) in
@@ -146,7 +146,7 @@ module _ {B : Type 0} (setting : Setting B) (moves : List Move) (again : Reprodu
         ∙ joined_exited ops.buffered bound code d.older d.newer w.name from.of.step l.child d.took d.other
         (subst (AllFollow ops.buffered bound code) at follow)
 
-    -- and a join that was done is on the path
+    -- each join that was done is on the path
     pub join_there : (older newer : List Deed) (k c : ℕ) (v : ℤ) (o : Option Name) → h ≡ older ++ Did w.name k (Await c) v o ∷ newer
         → (l : Link) × In l w.joins × (l.child ≡ c)
     join_there older newer k c v o at =
@@ -162,7 +162,7 @@ module _ {B : Type 0} (setting : Setting B) (moves : List Move) (again : Reprodu
       let gone = joins_done (path_thread joined.place joined.walk joined.there) joined.join (in_contains joined.join joined.walk.joins joined.joins) in
       ends_with_exit (path_thread j w there) (ap (has_exited_in h) joined.name ∙ gone)
 
-  -- who holds a mutex at the end of its path owns it
+  -- a thread that holds a mutex at the end of its path owns it
   pub end_owned : (j m : ℕ) (w : Walk) → IsThread code log j w → HoldsAtEnd w m → owner_in h m ≡ Some w.name
   end_owned j m w there holds =
       (region_owned setting all (path_thread j w there) m).1

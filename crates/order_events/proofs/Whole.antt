@@ -210,7 +210,7 @@ rise_between n (suc j) (suc k) (e ∷ es) x y r at to less = rise_between (e.ste
 
 -- ---- all threads
 
--- the parts of a thread are those of its events
+-- the parts of a walk come from its events
 record IsWalk (q : Walk) : Type 0 where
   regions : q.regions ≡ regions_of q.events
   sleeps : q.sleeps ≡ sleeps_of q.events

@@ -24,7 +24,7 @@ use Rattle.run_history.proofs.Lists.{filter_map-push}
 use Rattle.path_walk.specs.declared.fault.Misfit.{Misfit}
 use Rattle.path_laws.specs.Along.{HasMarks, IsAlong}
 
--- where an instruction leads with more outcomes behind
+-- an instruction leads to the same place with more outcomes left
 branched_more : (next to : ℕ) (os more : List Bool) (on : Onward) → path.branched next to os ≡ Some on
     → path.branched next to (os ++ more) ≡ Some (record { place = on.place; outcomes = on.outcomes ++ more })
 branched_more next to [] more on h = absurd (none-some on h)
@@ -91,7 +91,7 @@ module _ (code : Code) (f : ℕ) where
         end = end_next (suc n) k (os ++ more) u.instr _ u.at on ∙ rest.end;
       }
 
--- What an instruction that doesn't fail does to the path.
+-- The effect of an instruction that doesn't fail on the path.
 
 pub record Moves (t u : Local) (i : Instr) : Type 0 where
   pub more : List Bool
@@ -145,7 +145,7 @@ children_move t (Branch e to) v = branch_children t (is_nonzero (value_in t e)) 
 children_move t (Create k f es) v = refl
 children_move t _ v = more_none t.children
 
--- Steps that no run does.
+-- Steps that no run can do.
 
 pub marks-append : (m : Marks) (ss rest : List Step) → marks_after m (ss ++ rest) ≡ marks_after (marks_after m ss) rest
 marks-append m [] rest = refl
@@ -196,11 +196,11 @@ module _ (code : Code) (t u : Local) (i : Instr) (ps : List ℕ) (along : IsAlon
   pub started_push : started (steps_at code t.function (ps ++ t.instruction ∷ [])) ≡ started (steps_at code t.function ps) ++ cons_option (starts i) []
   started_push = ap started steps_push ∙ filter_map-push (λ (s : Step). starts s.instr) (steps_at code t.function ps) now
 
-  -- the marks before it
+  -- the marks before the step
   abbrev pub marks_here : Marks
   marks_here = marks_after (unmarked code t.function) (steps_at code t.function ps)
 
-  -- a step that runs may do leaves none that no run does
+  -- if a run may do the step, the path still has no step that no run can do
   pub still_possible : (fails : Bool) → excludes marks_here i fails ≡ false
       → list_any is_impossible (marked_steps code t.function fails (steps_at code t.function (ps ++ t.instruction ∷ []))) ≡ false
   still_possible fails may =

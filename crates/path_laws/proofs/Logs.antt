@@ -68,7 +68,7 @@ not_all p xs i x at fails =
     let within = slice_get_within xs i x at in
     list_all_at p xs i x within (ap p (same_Some (get_or xs i x) x (sym (slice_get-get_or xs i x within) ∙ at)) ∙ fails)
 
--- where nobody failed all paths rest
+-- if no thread failed, all paths rest
 none_failed : (failed : Option Name) (n : Name) → ending_by failed n ≡ Rests → failed ≡ None
 none_failed None n e = refl
 none_failed (Some m) n e = absurd (by (bytes_eq n m) e)
@@ -77,7 +77,7 @@ none_failed (Some m) n e = absurd (by (bytes_eq n m) e)
     by true e = cc
     by false e = cc
 
--- the thread of a name, and its place
+-- the thread with this name, and its index
 pub record HasPlace (n : Name) (way : Path) (ts : List ThreadPath) : Type 0 where
   pub place : ℕ
   pub thread : ThreadPath
@@ -103,7 +103,7 @@ module _ (code : Code) where
   abbrev went : Local → Path
   went t = record { outcomes = t.outcomes; steps = t.steps }
 
-  -- what stands is told by the path, and how that ends
+  -- the path that a thread has gone, with this ending, has the thread's places
   ended_so : (e : Ending) (t : Local) (ps : List ℕ) → Stands code (is_failing e) t ps
       → (e ≡ Rests → option_map_or can_block (standing code t.function (went t)) true ≡ true) → places_of code t.function e (went t) ≡ Ok ps
   ended_so Open t ps h rests = stands_places code false t ps h
@@ -123,7 +123,7 @@ module _ (code : Code) where
       ap (ended code t.function Fails (went t)) (stands_places code true t ps h)
       ∙ ap (λ b. cond b (the_ok ps) (Err misfit.NotASite)) ends
 
-  -- it has created as many children as it says
+  -- a thread has created as many children as it counts
   pub created_count : (b : Bool) (t : Local) (ps : List ℕ) → Stands code b t ps → length (started (steps_at code t.function ps)) ≡ t.children
   created_count false t ps h = h.children
   created_count true t ps h =
@@ -135,7 +135,7 @@ module _ (code : Code) where
       ∙ h.along.children
       ∙ sym (ap (λ (x : Local). x.children) h.is)
 
-  -- none of its steps is one that no run does
+  -- no step of the thread is one that no run can do
   alive : (b : Bool) (t : Local) (ps : List ℕ) → Stands code b t ps
       → list_any is_impossible (marked_steps code t.function b (steps_at code t.function ps)) ≡ false
   alive false t ps h = h.possible

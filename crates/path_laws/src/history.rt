@@ -60,8 +60,8 @@ pub fn next_is_on_path<B>()
         → failed_in h.deeds ≡ None → (paths_of s.code s.log).dead ≡ false → IsAsWanted (fails_next s.log h.deeds t.walk) x.local x.instr }
 {}
 
-/// A step of a thread on its path keeps all threads on their paths, if a branch takes the path's
-/// next outcome and the step fails if and only if the path does. A drain always keeps them.
+/// A step of a thread on its path keeps all threads on their paths. A branch must take the path's
+/// next outcome, and the step must fail if and only if the path does. A drain always keeps them.
 pub fn deeds_stay_on_paths<B>()
     ensures step { (s : Setting B) (h : HistoryAlong s) (t : PathThread s.code s.log) (x : IsNextOnPath s.code h.deeds t.walk)
         (k : ℕ) (r : Request) (took : ℤ) (other : Option Name)

@@ -1,5 +1,5 @@
-//! What blocks a thread in a deadlock by its path is its next request. Each function states a law,
-//! and its body does nothing.
+//! In a deadlock, a thread's next request is the one that blocks it by its path. Each function
+//! states a law, and its body does nothing.
 ghost use Rattle.std.specs.Prelude.{◌≡◌, ◌↔◌, ℕ, true, false, Some, IsSome, List, option_map};
 ghost use Rattle.run_log.specs.Logs.{Log};
 ghost use Rattle.tc_base.specs.declared.failing.Failing.TheVariants.{Deadlock};
@@ -37,7 +37,7 @@ pub fn blocked_at_last_sleep()
 {}
 
 /// If moves reproduce the log of a deadlock, each thread that has not exited is blocked at what its
-/// path says, and each thread whose path says so has not exited.
+/// path says. A thread whose path says so has not exited.
 pub fn blocked_threads_are_told<B>()
     ensures left { (s : Setting B) (moves : List Move) (t : PathThread s.code s.log) → s.log.failing ≡ Deadlock → Reproduces s.ops s.code s.log moves
         → IsLeftIn (history s.ops s.code moves) t.name → (b : Blocked) × IsBlockedAt s.code (history s.ops s.code moves) t.walk b }

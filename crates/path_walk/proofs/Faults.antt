@@ -1,4 +1,4 @@
--- Which names have a fault.
+-- The names that have a fault.
 use Rattle.std.proofs.Common.{◌≡◌, ◌∙◌, ◌⊎◌, inl, inr, ℕ, zero, suc, ◌-◌, cond, List, [], ◌∷◌, ◌++◌, length}
 use Rattle.std.proofs.Common.{IsSome, Option, Some, None, Err, refl, sym, ap, subst, append_assoc, append-nil, true≢false}
 use Rattle.std.specs.Prelude.{is_some, option_and_then, slice_get}
@@ -18,7 +18,7 @@ use Rattle.path_walk.specs.Fits.{IsFirst, started, ending_of, walked, child_func
 use Rattle.path_walk.specs.declared.fault.Misfit.{Misfit}
 use Rattle.path_walk.specs.declared.fault.Misfit.TheVariants as misfit
 
--- what an option is
+-- an option is none or has a value
 pub option_is : {X : Type 0} (o : Option X) → (o ≡ None) ⊎ ((x : X) × (o ≡ Some x))
 option_is None = inl refl
 option_is (Some x) = inr (x, refl)
@@ -63,7 +63,7 @@ module _ (code : Code) (log : Log) where
   none_started n f zero e = refl
   none_started n f (suc k) e = ap (λ r. slice_get (started (steps_at code f (result_unwrap_or r []))) k) (walked_absent n f e)
 
-  -- a name without a path creates nothing
+  -- a name without a path creates no child
   pub no_child : (p : Name) (k : ℕ) → path_under p log.threads ≡ None → function_of code log (child p k) ≡ None
   no_child p k e = function_of_child p k ∙ none_from (function_of code log p)
     where
@@ -71,7 +71,7 @@ module _ (code : Code) (log : Log) where
       none_from None = refl
       none_from (Some g) = none_started p g k e
 
-  -- what is wrong with a name, case by case
+  -- the fault of a name, by whether it has a function
   fault_by : (n : Name) (o : Option ℕ) → function_of code log n ≡ o
       → misfit_of code log n ≡ option_map_or (λ f. result_err (walked code log n f)) o (unless_absent code log n)
   fault_by n o e = ap (λ o. option_map_or (λ f. result_err (walked code log n f)) o (unless_absent code log n)) e
@@ -89,7 +89,7 @@ module _ (code : Code) (log : Log) where
       → misfit_of code log n ≡ result_err (places_of code f (ending_of log n) p)
   by_path n f p e here = fault_by n (Some f) e ∙ ap result_err (walked_there n f p here)
 
-  -- a thread of the log that has no fault has a function
+  -- a thread of the log without a fault has a function
   pub fitting : (n : Name) (p : Path) → path_under n log.threads ≡ Some p → misfit_of code log n ≡ None → (f : ℕ) × (function_of code log n ≡ Some f)
   fitting n p here fits =
       elim (option_is (function_of code log n)) [
@@ -97,7 +97,7 @@ module _ (code : Code) (log : Log) where
         | inr is ↦ is
       ]
 
-  -- the least name that has a fault is one name, with one fault
+  -- only one name is the least with a fault, and it has one fault
   pub one_first : (n q : Name) (m k : Misfit) → IsFirst code log n m → IsFirst code log q k → (n ≡ q) × (m ≡ k)
   one_first n q m k f g = by (by_name n q) refl
     where

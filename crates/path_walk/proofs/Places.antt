@@ -26,7 +26,7 @@ from_instr code f n k os o =
     option_map_or (λ i. option_map_or (λ (on : Onward). before k (places_from code f n on.place on.outcomes)) (onward k i os) (Err OutcomesShort)) o
     (Err PastExit)
 
--- those from where it leads
+-- the places from the position to which an instruction leads
 abbrev from_onward : Code → ℕ → ℕ → ℕ → Option Onward → Result (List ℕ) Misfit
 from_onward code f n k o = option_map_or (λ (on : Onward). before k (places_from code f n on.place on.outcomes)) o (Err OutcomesShort)
 
@@ -46,7 +46,7 @@ step_more code f (suc n) m k os i on less e leads =
     let same : n ≡ m = omega arith in
     ap (from_instr code f n k os) e ∙ ap (from_onward code f n k) leads ∙ ap (λ x. before k (places_from code f x on.place on.outcomes)) same
 
--- where the rest leads
+-- the place to which the remaining steps lead
 pub end_more : (code : Code) (f n m k : ℕ) (os : List Bool) (i : Instr) (on : Onward) → n ≡ m + 1 → instr_at code f k ≡ Some i → onward k i os ≡ Some on
     → end_from code f n k os ≡ end_from code f m on.place on.outcomes
 end_more code f zero m k os i on less at leads = absurd (omega arith)
@@ -81,7 +81,7 @@ pub all_done : (code : Code) (f n k used : ℕ) (os : List Bool) (front : List �
     → prefixed front (places_from code f n k (drop used os)) ≡ Ok front
 all_done code f n k used os front e le = done_by code f n k (drop used os) front e (omega (arith, length-drop used os))
 
--- a path of one step and more, told
+-- a path of one step and more, unrolled
 pub record Unrolled (code : Code) (f n k : ℕ) (os : List Bool) (ps : List ℕ) : Type 0 where
   pub instr : Instr
   pub at : instr_at code f k ≡ Some instr
@@ -108,7 +108,7 @@ unrolled code f n k os ps h = by_instr (instr_at code f k) refl h
     by_instr (Some i) at h = by_onward i at (onward k i os) refl h
     by_instr None at h = absurd cc
 
--- at each place of a path stands an instruction
+-- each place of a path has an instruction
 pub all_there : (code : Code) (f n k : ℕ) (os : List Bool) (ps : List ℕ) → places_from code f n k os ≡ Ok ps → (j d : ℕ) → j < length ps
     → IsSome (instr_at code f (slice_index_or ps j d))
 all_there code f zero k [] ps h j d lt = let none : [] ≡ ps = cc in absurd (omega (arith, ap length none))
@@ -132,7 +132,7 @@ count code f (suc n) k os ps h =
     let rest = count code f n u.next.place u.next.outcomes u.rest u.told in
     omega (arith, rest, ap length u.all)
 
--- what fits is told by the steps alone
+-- a path that fits has the places of its steps, however it ends
 abbrev the_ok : List ℕ → Result (List ℕ) Misfit
 the_ok places = Ok places
 
@@ -148,7 +148,7 @@ fits_from code f Fails path (Err e) ps h = absurd cc
 fits_from code f Rests path (Err e) ps h = absurd cc
 fits_from code f Open path r ps h = h
 
--- What is told of steps isn't longer than they.
+-- A list with at most one entry for each step isn't longer than the steps.
 
 cons_short : {X : Type 0} (o : Option X) (ys : List X) (n : ℕ) → length ys ≤ n → length (cons_option o ys) ≤ suc n
 cons_short None ys n le = omega arith

@@ -1,4 +1,4 @@
--- What the rules of a lawful order let a thread do, each rule for itself.
+-- What the rules of a lawful order allow a thread, rule by rule.
 use Rattle.std.specs.Prelude.{◌≡◌, ◌⊎◌, ℕ, suc, ◌<◌, ◌==◌, ℤ, pos, Bool, true, false, List, [], ◌∷◌, ◌++◌}
 use Rattle.std.specs.Prelude.{Option, Some, None, slice_get, slice_index_or}
 use Rattle.std.specs.FinSet as set
@@ -32,7 +32,7 @@ use Rattle.world_plan.specs.Going.{is_pending, place, HaveDrained, SleepUntilEnd
 use Rattle.world_plan.specs.Plan.{is_failure, woken_by, other_of, drains_next}
 use Rattle.world_plan.specs.Sights.{AreInOrder}
 
--- a step of which nobody else sees anything: no event, or a store that waits in a buffer
+-- a step that no other thread sees: no event, or a store that waits in a buffer
 abbrev pub IsQuiet : Bool → Option EventKind → Type 0
 IsQuiet buffered k = (k ≡ None) ⊎ ((buffered ≡ true) × (k ≡ Some kind.Store))
 
@@ -51,7 +51,7 @@ module _ {B : Type 0} (setting : Setting B) (nodes : List Node) (w : World) wher
   abbrev pub Along : List Deed → Type 0
   Along h = IsAlongPaths machine log h
 
-  -- what is seen of a history is in order, and so are its drains
+  -- the seen part of a history is in order, and so are its drains
   abbrev pub Seen : ℕ → List Deed → Type 0
   Seen p h = HaveDrained code log w ops.buffered p h × AreInOrder ops.buffered (paths_of code log) w h
 

@@ -43,7 +43,7 @@ at_most a b = by (cases_order a b)
     by (inr (inl lt)) = inl (omega (arith, lt))
     by (inr (inr gt)) = inr gt
 
--- one step more, at the end
+-- one more step, at the end
 pub goes_last : (buffered : Bool) (code : Code) (paths : Paths) (w : World) (m : ℕ) (h : List Deed) (t : ℕ) (n : Name)
     → goes_on buffered code paths w (suc m) h t n
     ≡ goes_on buffered code paths w m h t n ++ does_next buffered code paths w (goes_on buffered code paths w m h t n) t n
@@ -65,7 +65,7 @@ module _ {B : Type 0} (setting : Setting B) (nodes : List Node) (w : World) (l :
   abbrev Quiet : Walk → ℕ → Type 0
   Quiet q k = QuietAt setting nodes w l g q k
 
-  -- a thread has done so many steps more, and nobody has seen anything
+  -- a thread has done `k` of its steps, and no other thread has seen anything new
   pub record Reached (p : ℕ) (h : List Deed) (q : Walk) (k : ℕ) (later : List Deed) : Type 0 where
     pub gone : is_gone p later
     pub steps : steps_in later q.name ≡ k
@@ -91,7 +91,7 @@ module _ {B : Type 0} (setting : Setting B) (nodes : List Node) (w : World) (l :
         on = goes_further h (h ++ d ∷ []) (goes m (h ++ d ∷ []) t.index q.name) one.goes rest.on;
       })
 
-  -- before an event of a thread all steps that are left are quiet
+  -- all steps before a thread's next event are quiet
   not_pending : (b c : Bool) → b ≡ false → (not b || c) ≡ true
   not_pending false c e = refl
   not_pending true c e = absurd cc
@@ -121,7 +121,7 @@ module _ {B : Type 0} (setting : Setting B) (nodes : List Node) (w : World) (l :
     abbrev upto : List Deed
     upto = goes_to ops.buffered code paths w h t q.name (x.step + 1)
 
-    -- a store that waits has been issued, or is now
+    -- a store that waits was issued before, or is issued now
     module _ (waits : is_pending ops.buffered x ≡ true) where
       pub quiet_through : (k : ℕ) → steps_in h q.name ≤ k → k < steps_in h q.name + (x.step + 1 - steps_in h q.name) → Quiet q k
       quiet_through k low high =
@@ -213,7 +213,7 @@ module _ {B : Type 0} (setting : Setting B) (nodes : List Node) (w : World) (l :
     nowhere : (t : ℕ) (q : Walk) (x : Event) → IsThread code log t q → Contains q.events x → place code log w t x ≡ p → ⊥
     nowhere t q x there i at = none_at paths w l.world l.of.events (paths_whole setting nodes w l) p t q x none there i at
 
-    -- so nothing ends a sleep there
+    -- no sleep ends at a position without an event
     no_ender : (s k : ℕ) (x : Of Sleep) → slice_get (all_sleeps paths) s ≡ Some x → ender_of w s ≡ Some k → position w k ≡ p → ⊥
     no_ender s k x is ends at =
         elim (l.of.enders s k x.it.condition x (record { is = is; condition = refl }) ends) [
@@ -284,10 +284,10 @@ module _ {B : Type 0} (setting : Setting B) (nodes : List Node) (w : World) (l :
       nothing_ends [] e newer is = cc
       nothing_ends (d ∷ older) e newer is = cc
 
-  -- So up to each position before that of the failing event.
+  -- The plan goes up to each position before that of the failing event.
   module _ (end : ℕ)
       (unfailed : (t : ℕ) (q : Walk) (x : Event) → IsThread code log t q → Contains q.events x → place code log w t x < end → x.kind ≢ kind.Fail) where
-    -- an event comes by its thread
+    -- the deeds by which an event comes, given its thread
     abbrev by_walk : List Deed → Of Event → Option Walk → List Deed
     by_walk h e o =
         option_map_or (λ (q : Walk). with_drain ops.buffered code paths w (goes_to ops.buffered code paths w h e.thread q.name (e.it.step + 1)) q.name e.it)

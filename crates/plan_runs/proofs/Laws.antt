@@ -1,4 +1,4 @@
--- What the rules of a lawful order let a thread do.
+-- The rules of a lawful order allow the steps of threads.
 use Rattle.std.proofs.Common.{◌≡◌, ◌∙◌, inl, inr, suc, ◌+◌, ◌&&◌, Bool, true, List, [], ◌∷◌, ◌++◌, Option, Some, None, refl, ap, arith, subst}
 use Rattle.std.specs.Prelude.{option_and_then, if◌then◌else◌}
 use Rattle.run_history.specs.History.{Did, Drained}

@@ -27,7 +27,7 @@ use Rattle.lawful_order.specs.Memory.{may_overtake}
 use Rattle.world_plan.specs.Plan.{woken_by, other_of}
 use Rattle.plan_runs.proofs.Given.{IsQuiet, Given, Next}
 
--- a create asks for the child that it makes
+-- the request of a create is a create of that child
 pub start_kind : (h : List Deed) (n : Name) (f : ℕ) (other : Option Name) → OtherIs h n (Start f) other
     → kind_of (Start f) other ≡ Some (kind.Create (children_in h n + 1))
 start_kind h n f other is =
@@ -60,7 +60,7 @@ module _ {B : Type 0} (setting : Setting B) (nodes : List Node) (w : World) (g :
   open now use {deeds as h, thread, event as x, steps}
   open thread use {index as t, walk as q}
 
-  -- what may not overtake stores finds them in memory, and the other threads let it
+  -- an event that may not overtake stores finds them in memory, and the other threads allow it
   drained : (k : EventKind) → k ≡ x.kind → may_overtake k ≡ false → is_nil (stores (pending ops.buffered h q.name)) ≡ true
   drained k same not = g.empties now (ap may_overtake (sym same) ∙ not)
 

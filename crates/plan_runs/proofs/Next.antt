@@ -1,4 +1,4 @@
--- What a thread does next, on its path and under the values that a lawful world gives its loads.
+-- The next step of a thread on its path, given the values of a lawful world's loads.
 use Rattle.std.proofs.Common.{◌≡◌, ◌∙◌, ℕ, ◌<◌, true, List, [], ◌∷◌, ◌++◌, length, get_or, Option, Some, refl, sym, ap, arith}
 use Rattle.std.specs.Prelude.{slice_get}
 use Rattle.std.specs.Option.{option_map_or}
@@ -59,7 +59,7 @@ module _ {B : Type 0} (setting : Setting B) (nodes : List Node) (w : World) (l :
   pub paths_executed : IsExecutedBy paths all.symbolic
   paths_executed = is_executed code paths nodes are
 
-  -- what the execution finds of a thread
+  -- the execution of a thread
   pub course_of : (t : ℕ) (q : Walk) → IsThread code log t q → (c : Course) × (slice_get all.symbolic.threads t ≡ Some c) × (c.name ≡ q.name)
   course_of t q there =
       let p = thread_path_at code log t q there in
@@ -104,7 +104,7 @@ module _ {B : Type 0} (setting : Setting B) (nodes : List Node) (w : World) (l :
       abbrev pub deed : Deed
       deed = Did q.name k n.request (taken_in ops.buffered code h q.name n.request) other
 
-      -- it is the path's event, or none
+      -- the step's event is that of the path
       pub kind_is : kind_of n.request other ≡ kind_at q k
       kind_is = n.told.event other (is_other paths w h t q.name n.request)
 

@@ -1,4 +1,4 @@
--- What is left to the threads at the end of a lawful world.
+-- The rest of the threads' paths at the end of a lawful world.
 use Rattle.std.proofs.Common.{◌≡◌, ◌∙◌, ◌⊎◌, inl, inr, ℕ, zero, suc, ◌+◌, ◌-◌, ◌≤◌, ◌==◌, ◌&&◌, Bool, true, false, not, cond, List}
 use Rattle.std.proofs.Common.{[], ◌∷◌, ◌++◌, length, fold, Option, Some, None, refl, sym, ap, subst, arith}
 use Rattle.std.specs.Prelude.{slice_get}
@@ -86,7 +86,7 @@ module _ {B : Type 0} (setting : Setting B) (nodes : List Node) (w : World) (l :
   pub few : (h : List Deed) → Along setting nodes w h → (t : PathThread code log) → steps_in h t.name ≤ length t.places
   few h along = few_steps setting (record { deeds = h; fits = l.fits; along = along })
 
-  -- what a thread has done it has done later
+  -- a thread that has done all of its path has still done it later
   still_done : (h k : List Deed) → Along setting nodes w k → GoesOn h k → (t : ℕ) (q : Walk) → IsThread code log t q
       → HasDoneAll h q → HasDoneAll k q
   still_done h k along on t q there done =
@@ -106,7 +106,7 @@ module _ {B : Type 0} (setting : Setting B) (nodes : List Node) (w : World) (l :
           let done = gone.did t q x there i before in
           absurd (omega (arith, done, left))
 
-  -- A thread that doesn't fail goes on to the end of its path, and nobody sees anything.
+  -- A thread that doesn't fail goes on to the end of its path, and no other thread sees anything.
   quiet_rest : (h : List Deed) → at_end h → (t : ℕ) (q : Walk) → IsThread code log t q → is_thread_in h q.name ≡ true → fails_in log q.name ≡ false
       → Reached setting nodes w l g last h q (length q.places) (goes_to ops.buffered code paths w h t q.name (length q.places))
   quiet_rest h gone t q there is_there passes =
@@ -119,7 +119,7 @@ module _ {B : Type 0} (setting : Setting B) (nodes : List Node) (w : World) (l :
       ]) in
       record { gone = r.gone; steps = omega (arith, r.steps, most); on = r.on }
 
-  -- So do all of some threads.
+  -- Each of some threads goes on to the end of its path.
   pub record AllRest (h : List Deed) (ts : List ℕ) (k : List Deed) : Type 0 where
     pub gone : at_end k
     pub on : GoesOn h k
@@ -166,7 +166,7 @@ module _ {B : Type 0} (setting : Setting B) (nodes : List Node) (w : World) (l :
           let same : q ≡ v = same_Some q v (sym there ∙ at) in
           subst (HasDoneAll (goes_to ops.buffered code paths w h t q.name (length q.places))) same r.steps))
 
-  -- a step is quiet, or it fails, where its events are stores that wait or fail
+  -- a step is quiet or fails if its events are stores that wait or failures
   quiet_or_fails : (t : ℕ) (q : Walk) → IsThread code log t q → (k : ℕ)
       → ((x : Event) → Contains q.events x → x.step ≡ k → (is_pending ops.buffered x ≡ true) ⊎ (x.kind ≡ kind.Fail))
       → QuietAt setting nodes w l g q k ⊎ ((x : Event) × Contains q.events x × (x.step ≡ k) × (x.kind ≡ kind.Fail))
@@ -190,7 +190,7 @@ module _ {B : Type 0} (setting : Setting B) (nodes : List Node) (w : World) (l :
             | inr fails ↦ inr (e, f.0, step, fails)
           ]
 
-  -- The thread that fails goes on to its end.
+  -- The thread that fails goes on to its failure.
   pub record Ended (h : List Deed) (k : List Deed) : Type 0 where
     pub along : Along setting nodes w k
     pub on : GoesOn h k
@@ -252,7 +252,7 @@ module _ {B : Type 0} (setting : Setting B) (nodes : List Node) (w : World) (l :
             done = omega (arith, one_step, f.1, step);
           })
 
-  -- where its thread has done all, the rest adds nothing
+  -- the rest adds nothing for a thread that has done its whole path
   stays : (t : ℕ) (q : Walk) → IsThread code log t q → (ts : List ℕ) (k : List Deed) → HasDoneAll k q → ((u : ℕ) → Contains ts u → u ≡ t)
       → fold rest k ts ≡ k
   stays t q there [] k done only = refl
@@ -302,7 +302,7 @@ module _ {B : Type 0} (setting : Setting B) (nodes : List Node) (w : World) (l :
                 subst (HasDoneAll k) same f.done;
           }))
 
-  -- All of the plan.
+  -- The whole plan.
   abbrev pub whole_plan : List Deed
   whole_plan = plan ops.buffered code paths w
 
@@ -363,7 +363,7 @@ module _ {B : Type 0} (setting : Setting B) (nodes : List Node) (w : World) (l :
   pub plan_done : AllHaveDone code log whole_plan
   plan_done = subst (AllHaveDone code log) plan_is all_done
 
-  -- where no thread fails, it has gone up to the end
+  -- if no thread fails, the history has gone up to the end
   none_failing : (ts : List ℕ) → log.failing ≡ failing.Deadlock → filter (is_failing paths) ts ≡ []
   none_failing [] dead = refl
   none_failing (t ∷ ts) dead =

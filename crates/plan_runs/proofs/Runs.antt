@@ -40,7 +40,7 @@ use Rattle.plan_runs.proofs.End.{end, all_before}
 use Rattle.plan_runs.proofs.Given.{Gone, Given}
 use Rattle.plan_runs.proofs.Rest.{plan_along, plan_done, plan_gone}
 
--- some thread is blocked where not all have exited
+-- if not all threads have exited, some thread is blocked
 some_blocked : (ws : List Walk) → list_all (λ (v : Walk). is_none v.blocked) ws ≡ false → (t : ℕ) × (q : Walk) × (slice_get ws t ≡ Some q) × IsSome q.blocked
 some_blocked [] e = absurd cc
 some_blocked (v ∷ ws) e = by v.blocked refl e (some_blocked ws)
@@ -53,7 +53,7 @@ some_blocked (v ∷ ws) e = by v.blocked refl e (some_blocked ws)
         let r = rest (ap (λ o. is_none o && list_all (λ (v : Walk). is_none v.blocked) ws) (sym is) ∙ e) in
         (suc r.0, r.1, r.2, r.3)
 
--- who has failed, by name
+-- the thread that has failed has this name
 failed_name : (o : Option Name) (n : Name) → fails_by o n ≡ true → o ≡ Some n
 failed_name None n e = absurd (false≢true e)
 failed_name (Some m) n e = ap (λ a. Some a) (sym (same_true n m e))
@@ -76,7 +76,7 @@ module _ {B : Type 0} (setting : Setting B) (nodes : List Node) (w : World) (l :
   are_there : AllAreThere code log h
   are_there = all_there setting along (plan_done setting nodes w l g)
 
-  -- A thread that is to fail has failed.
+  -- A thread that fails in the log has failed.
   fails_so : (t : ℕ) (q : Walk) → IsThread code log t q → fails_in log q.name ≡ true → failed_in h ≡ Some q.name
   fails_so t q there fails =
       let own = thread_of machine log h r q.name (are_there (path_thread t q there)) in

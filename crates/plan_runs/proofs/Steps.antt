@@ -1,4 +1,4 @@
--- A history goes on in the order of a lawful world by a step more, or by a drain.
+-- A history in the order of a lawful world goes on with one more step, or with a drain.
 use Rattle.std.proofs.Common.{◌≡◌, ◌∙◌, ◌≢◌, ◌⊎◌, inl, inr, ℕ, suc, ◌+◌, ◌<◌, ◌==◌, ℤ, pos, true, false, List}
 use Rattle.std.proofs.Common.{[], ◌∷◌, ◌++◌, Option, Some, None, refl, sym, ap, subst, arith, slice_index_or}
 use Rattle.std.specs.Prelude.{slice_get, option_map}
@@ -39,7 +39,7 @@ use Rattle.plan_runs.proofs.May.{quiet_may, event_may}
 use Rattle.plan_runs.proofs.Next as next
 use Rattle.plan_runs.proofs.Next.{NextIs, paths_whole, paths_executed, of_thread, is_other}
 
--- a place below the next is below, or the same
+-- a position below the next is below this one, or is this one
 pub below_next : (a p : ℕ) → a < suc p → (a < p) ⊎ (a ≡ p)
 below_next a p lt = by (cases_order a p)
   where
@@ -53,7 +53,7 @@ store_only kind.Store e = refl
 store_only kind.Load e = absurd cc
 store_only k e = absurd cc
 
--- what a load isn't
+-- an access that takes a value isn't a store
 no_load : (a b : Option ℕ) (m : ℕ) → a ≡ Some m → order.kind_of a b ≢ kind.Store
 no_load None b m is e = none-some m is
 no_load (Some j) None m is e = cc
@@ -74,7 +74,7 @@ module _ {B : Type 0} (setting : Setting B) (nodes : List Node) (w : World) (l :
   abbrev is_gone : ℕ → List Deed → Type 0
   is_gone p h = Gone setting nodes w p h
 
-  -- two events at one place are one
+  -- two events at one place are the same
   pub one_at : (t u : ℕ) (p q : Walk) (x y : Event) → IsThread code log t p → IsThread code log u q → Contains p.events x → Contains q.events y
       → place code log w t x ≡ place code log w u y → (t ≡ u) × (x ≡ y)
   one_at t u p q x y at bt i j same =
@@ -83,7 +83,7 @@ module _ {B : Type 0} (setting : Setting B) (nodes : List Node) (w : World) (l :
   one_step : (t : ℕ) (q : Walk) (x y : Event) → IsThread code log t q → Contains q.events x → Contains q.events y → x.step ≡ y.step → x ≡ y
   one_step t q x y there i j same = one_event paths (paths_whole setting nodes w l) t q x y there i j same
 
-  -- the walks at one place are one
+  -- two walks of one thread are the same
   one_walk : (t u : ℕ) (p q : Walk) → IsThread code log t p → IsThread code log u q → t ≡ u → p ≡ q
   one_walk t u p q at bt same = same_Some p q (sym at ∙ ap (slice_get paths.threads) same ∙ bt)
 
@@ -104,7 +104,7 @@ module _ {B : Type 0} (setting : Setting B) (nodes : List Node) (w : World) (l :
       ap (option_map (λ (e : Event). e.kind)) f.1
       ∙ ap (λ (e : Event). Some e.kind) (one_step t q f.0 x there o.0 i (eqb-true f.0.step x.step o.1))
 
-  -- a step is quiet where all its events are stores that wait
+  -- a step is quiet if its only events are stores that wait
   abbrev pub QuietAt : Walk → ℕ → Type 0
   QuietAt q k = (x : Event) → Contains q.events x → x.step ≡ k → is_pending ops.buffered x ≡ true
 
@@ -164,7 +164,7 @@ module _ {B : Type 0} (setting : Setting B) (nodes : List Node) (w : World) (l :
     kind_told : kind_of n.request other ≡ kind_at q (steps_in h q.name)
     kind_told = next.kind_is setting nodes w l p h gone thread n
 
-    -- the loads of a step take what the world says, if it does
+    -- the history with this step agrees with the world's loads, if the loads of the step do
     agree_on : ((c : Course) (a : Access) (m : ℕ) → slice_get (found code log nodes).symbolic.threads t ≡ Some c → Contains c.accesses a
         → a.step ≡ steps_in h q.name → a.takes ≡ Some m → slice_index_or w.loads m (pos 0) ≡ took)
         → AgreesWith (found code log nodes).symbolic w.loads longer
@@ -174,7 +174,7 @@ module _ {B : Type 0} (setting : Setting B) (nodes : List Node) (w : World) (l :
         let same = of_thread setting nodes w l t ic.0 q c there ic.1 name in
         takes c a m (ap (slice_get (found code log nodes).symbolic.threads) (sym same) ∙ ic.1) (at_in c.accesses ia.0 a ia.1) step is)
 
-    -- A step of which nobody sees anything.
+    -- A step that no other thread sees.
     module _ (quiet : QuietAt q (steps_in h q.name)) where
       quiet_so : IsQuiet ops.buffered (kind_of n.request other)
       quiet_so = subst (IsQuiet ops.buffered) (sym kind_told) (quiet_kind q (steps_in h q.name) quiet)

@@ -47,9 +47,8 @@ pub fn drains_have_their_turn<B>()
         × (drains_next s.ops.buffered e.deeds e.thread.name e.event.step ≡ Drained e.thread.name e.event.step c v ∷ []) }
 {}
 
-/// A step doesn't change which stores have drained. After the event at the position, if it isn't a
-/// store in a buffer, or after the drain of the store at the position, they are those before the
-/// next position.
+/// A step doesn't change which stores have drained. They are those before the next position after
+/// the drain of the store at this one, or after its event if that isn't a store in a buffer.
 pub fn drains_go_on<B>()
     ensures step { (s : Setting B) (nodes : List Node) (w : World)
         (p : ℕ) (h : List Deed) (n : Name) (k : ℕ) (r : Request) (took : ℤ) (other : Option Name) → IsLawfulWorld s nodes w → HasGone s nodes w p h

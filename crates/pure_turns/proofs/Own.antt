@@ -1,4 +1,5 @@
--- States that differ in one thread, which is alike in both: each move from one is a move from the other.
+-- Two states that differ in one thread, which is alike in both: each move of the first is a move of
+-- the second.
 use Rattle.std.proofs.Common.{◌≡◌, ◌∙◌, inl, inr, ℕ, ◌+◌, ℤ, pos, true, List, Some, None, refl, sym, ap, subst, IsTrue}
 use Rattle.std.specs.FinMap as fin
 use Rattle.std.specs.FinSet as set
@@ -26,7 +27,7 @@ use Rattle.pure_turns.proofs.Owners.{Equal, equal_keeps}
 use Rattle.pure_turns.proofs.Differ.{ThreadsDiffer, Differ, either_way, put_other, put_own, allows_too, going_same, moved_other}
 
 module _ {B : Type 0} (ops : BufferOps B) (code : Code) (n : Name) where
-  -- a thread does the instruction that is next, and a signal that wakes a thread
+  -- a thread does its next instruction, maybe a signal that wakes a thread
   pub record RanOf (s s₁ : State B) (x : Thread B) : Type 0 where
     pub instr : Instr
     pub at : instr_of code x.local ≡ Some instr
@@ -93,7 +94,7 @@ module _ {B : Type 0} (ops : BufferOps B) (code : Code) (n : Name) where
   performs t u b s vs i _ d children arguments =
       record { value = pos 0; buffer = b; differ = record { shared = refl; owners = refl; threads = put_own n t u _ _ b b s.threads vs d } }
 
-  -- a move from the second state, after which the thread is alike in both
+  -- a move of the second state after which the thread is alike in both
   pub record Twin (live : Liveness) (t u : Local) (s₁ v : State B) (m : Move) : Type 0 where
     pub first : Local
     pub second : Local
@@ -105,7 +106,7 @@ module _ {B : Type 0} (ops : BufferOps B) (code : Code) (n : Name) where
     pub behind : IsBehind u t → IsBehind second first
 
   module _ (live : Liveness) (closed : IsClosed code live) (t u : Local) (b : B) (s v : State B) (d : Differ Equal n t u b s v) (alike : AreAlike live t u) where
-    -- the states share all but the threads
+    -- the states share everything except the threads
     shares : v ≡ record s { threads = v.threads }
     shares = d.shared ∙ ap (λ os. record s { threads = v.threads; owners = os }) (sym d.owners)
 
@@ -170,7 +171,7 @@ module _ {B : Type 0} (ops : BufferOps B) (code : Code) (n : Name) where
         (woke_of s s₁ own w d.threads.there (subst (λ p. Woke ops code s s₁ p w) (sym same) went)))
     own_goes s₁ (move.Drain q form) one own_step = absurd (true≢false (sym own_step))
 
-    -- each move from the first state is one from the second
+    -- each move of the first state is a move of the second
     pub twin_goes : (s₁ : State B) (m : Move) → IsReached ops code s → step ops code s m ≡ Some s₁ → Twin live t u s₁ v m
     twin_goes s₁ m reached one =
         elim (cases_Bool (is_step_of n m)) [

@@ -1,4 +1,4 @@
--- What a checker's states keep.
+-- Invariants of a checker's states.
 use Rattle.std.proofs.Common.{◌≡◌, ◌≢◌, ℕ, suc, zero, ◌+◌, List, [], ◌∷◌, ◌++◌, ℤ, refl, ap, sym, ◌∙◌, subst, arith}
 use Rattle.std.proofs.Common.{Bool, true, false, cond, Option, Some, None, length, take, drop, add-one, Err}
 use Rattle.std.specs.Prelude.{is_some, IfSome, IsTrue, slice_get, if◌then◌else◌}
@@ -40,7 +40,7 @@ pub AreWithin-without : (vars : ℕ) (kept : KeptClauses) (ns : List ℕ) → Ar
 AreWithin-without vars kept [] h = h
 AreWithin-without vars kept (n ∷ ns) h = AreWithin-without vars (remove kept n) ns (AreWithin-remove vars kept n h)
 
--- the opening keeps the variables, and counts the clauses
+-- opening keeps the variables and counts the clauses
 pub keep-vars : (s : Checking) (cs : List (List ℤ)) → (fold keep s cs).vars ≡ s.vars
 keep-vars s [] = refl
 keep-vars s (c ∷ cs) = keep-vars (keep s c) cs
@@ -58,7 +58,7 @@ pub fold-keep-more : (s : Checking) (cs : List (List ℤ)) (k : ℕ) (c : List �
     → fold keep s (take (k + 1) cs) ≡ keep (fold keep s (take k cs)) c
 fold-keep-more s cs k c h = ap (λ j. fold keep s (take j cs)) (add-one k) ∙ fold-suc s cs k c h
 
--- a fault of a line isn't want of memory
+-- a line's fault isn't lack of memory
 map-not-memory : (f : List ℤ → Option CheckFault) (o : Option (List ℤ)) (d : Option CheckFault) → ((c : List ℤ) → f c ≢ Some Memory) → d ≢ Some Memory
     → option_map_or f o d ≢ Some Memory
 map-not-memory f None d h k = k
@@ -92,7 +92,7 @@ clause-not-memory n vars kept lits hints f e m =
     (hints-not-memory n kept _ hints) (λ e. cc) in
     p (sym e ∙ ap (λ g. Some g) m)
 
--- after a line that adds a clause
+-- the state after a line that adds a clause
 pub after-fault : (s : Checking) (lits : List ℤ) (hints : List ℕ) (f : CheckFault) → s.fault ≡ None
     → clause_fault (s.line + 1) s.vars s.kept lits hints ≡ Some f → after s (Add lits hints) ≡ refused f s
 after-fault s lits hints f n e = ap (λ o. if is_some o then s else judged (clause_fault (s.line + 1) s.vars s.kept lits hints) s (Add lits hints)) n

@@ -1,4 +1,4 @@
--- A clause that a line adds is true wherever the kept clauses are.
+-- A clause that a line adds is true in each valuation that makes the kept clauses true.
 use Rattle.std.proofs.Common.{◌≡◌, ◌≢◌, ℕ, suc, zero, ◌+◌, List, [], ◌∷◌, ◌++◌, map, ℤ, pos, negsuc, neg_ℤ, refl, ap, sym, ◌∙◌, subst, arith}
 use Rattle.std.proofs.Common.{Bool, true, false, not, cond, Option, Some, None, Ok, inl, inr}
 use Rattle.std.proofs.Math.IntN.{neg_ℤ-neg_ℤ}
@@ -27,7 +27,7 @@ use Rattle.refute_check.specs.declared.verdict.Checked.TheVariants.{Closed}
 abbrev pub IsTrueAt : Valuation → KeptClauses → ℕ → Type 0
 IsTrueAt v kept n = IfSome (get kept n) (λ c. clause_true v c ≡ true)
 
--- each is
+-- all kept clauses are true
 abbrev AreTrue : Valuation → KeptClauses → Type 0
 AreTrue v kept = (n : ℕ) → IsTrueAt v kept n
 
@@ -49,7 +49,7 @@ AreTrue-without v kept (n ∷ ns) h =
     AreTrue-without v (remove kept n) ns (λ q. subst (λ o. IfSome o (λ c. clause_true v c ≡ true)) (sym (get-remove nat_cmp_total kept n q))
     (chosen v (eq_by_cmp nat_cmp q n) None (get kept q) tt (h q)))
 
--- the literals that the given ones make false are false
+-- the literals that are false if the given ones are true
 abbrev AreFalse : Valuation → List ℤ → Type 0
 AreFalse v given = (l : ℤ) → is_among given (neg_ℤ l) ≡ true → literal_true v l ≡ false
 
@@ -92,7 +92,7 @@ left-true : (v : Valuation) (given c : List ℤ) → AreFalse v given → clause
 left-true v given [] h t = t
 left-true v given (l ∷ c) h t = left-step v given l c (is_among given (neg_ℤ l)) refl h (left-true v given c h) t
 
--- what is left of a true clause: a true literal, or more literals
+-- a true clause has a true literal left, or more than one literal
 by-counted : (v : Valuation) (ls : List ℤ) (nothing more : Option CheckFault) (one : ℤ → Option CheckFault) → clause_true v ls ≡ true → more ≢ None
     → ((l : ℤ) → literal_true v l ≡ true → one l ≢ None) → by_left (counted ls) nothing one more ≢ None
 by-counted v [] nothing more one t h k = λ e. absurd (cc)
@@ -104,7 +104,7 @@ by-kept : (v : Valuation) (o : Option (List ℤ)) (f : List ℤ → Option Check
 by-kept v None f d h k e = e
 by-kept v (Some c) f d h k e = k c h
 
--- hints from literals that are false show a conflict only where some clause that they name is false
+-- hints over false literals show a conflict only if some clause that they name is false
 hints-sound : (v : Valuation) (n : ℕ) (kept : KeptClauses) (given : List ℤ) (hs : List ℕ) → ((h : ℕ) → Contains hs h → IsTrueAt v kept h)
     → AreFalse v given → hints_fault n kept given hs ≢ None
 hints-sound v n kept given [] h f = λ e. cc
@@ -118,7 +118,7 @@ hints-sound v n kept given (i ∷ hs) h f =
     (λ l u. hints-sound v n kept (given ++ l ∷ []) hs (λ j a. h j (suc a.0, omega (arith, a.1), a.2)) (AreFalse-more v given l f u)))
     (λ e. cc)
 
--- a line that passes adds a clause that is true wherever those are that its hints name
+-- a line that passes adds a clause that is true if those that its hints name are
 clause-step : (v : Valuation) (n vars : ℕ) (kept : KeptClauses) (lits : List ℤ) (hints : List ℕ) (w b : Bool) → clause_true v lits ≡ b
     → ((h : ℕ) → Contains hints h → IsTrueAt v kept h) → (if w then hints_fault n kept (map neg_ℤ lits) hints else Some (NoVariable n)) ≡ None → clause_true v lits ≡ true
 clause-step v n vars kept lits hints w true e h p = e

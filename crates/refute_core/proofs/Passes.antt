@@ -1,4 +1,4 @@
--- What each line of a closed derivation passes, and that its hints are clauses before it.
+-- Each line of a closed derivation passes, and its hints are earlier clauses.
 use Rattle.std.proofs.Common.{◌≡◌, ◌∙◌, ℕ, zero, suc, ◌+◌, ◌<◌, ◌≤◌, List, [], ◌∷◌, ◌++◌, length, map, ℤ, neg_ℤ, refl, ap, sym, subst, arith, get_or}
 use Rattle.std.proofs.Common.{Bool, true, false, cond, Option, Some, None, Ok}
 use Rattle.std.specs.Prelude.{is_some, if◌then◌else◌}
@@ -25,19 +25,19 @@ use Rattle.refute_check.specs.declared.verdict.Checked.TheVariants.{Closed}
 use Rattle.refute_check.proofs.Checkings.{fold-stays, keep-next}
 use Rattle.refute_core.specs.Reached.{hints_used}
 
--- there is no fault, and an empty clause was added
+-- a closed verdict means no fault and an empty clause
 pub is_closed : (o : Option CheckFault) (b : Bool) → verdict_of o b ≡ Ok Closed → (o ≡ None) × (b ≡ true)
 is_closed (Some f) b e = absurd (cc)
 is_closed None true e = (refl, refl)
 is_closed None false e = absurd (cc)
 
--- a line passes, and nothing before it had a fault
+-- a line passes, and there was no fault before it
 pub record IsPassed (s : Checking) (l : Line) : Type 0 where
   pub none : s.fault ≡ None
   pub passes : line_fault (s.line + 1) s.vars s.kept l ≡ None
   pub to : after s l ≡ passed s l
 
--- where lines have no fault the first passes
+-- if all lines pass, the first does
 pub first_passes : (s : Checking) (l : Line) (ls : List Line) → (fold after s (l ∷ ls)).fault ≡ None → IsPassed s l
 first_passes s l ls free = before s.fault refl
   where
@@ -57,7 +57,7 @@ first_passes s l ls free = before s.fault refl
     before None is = here (line_fault (s.line + 1) s.vars s.kept l) refl is
     before (Some f) is = absurd (none-some f (sym free ∙ ap (λ (t : Checking). t.fault) (fold-stays s (l ∷ ls) f is) ∙ is))
 
--- a conflict is at the last hint
+-- the conflict is at the last hint
 last_hint : (f : CheckFault) (i h : ℕ) (hs : List ℕ) → (if is_nil hs then None else Some f) ≡ None → Contains (i ∷ hs) h → i ≡ h
 last_hint f i h [] free (zero, below, is) = is
 last_hint f i h [] free (suc k, below, is) = absurd (omega (arith, below))
@@ -89,13 +89,13 @@ hints_kept n kept given [] h free among = absurd (cc)
 hints_kept n kept given (i ∷ hs) h free among =
     named_by n kept given i h hs (get kept i) refl (λ m. hints_kept n kept (given ++ m ∷ []) hs h) free among
 
--- also those of a line that passes
+-- the hints of a line that passes name kept clauses
 clause_kept : (n : ℕ) (kept : KeptClauses) (lits : List ℤ) (hints : List ℕ) (h : ℕ) (within : Bool)
     → (if within then hints_fault n kept (map neg_ℤ lits) hints else Some (NoVariable n)) ≡ None → Contains hints h → is_some (get kept h) ≡ true
 clause_kept n kept lits hints h true free among = hints_kept n kept (map neg_ℤ lits) hints h free among
 clause_kept n kept lits hints h false free among = absurd (cc)
 
--- kept clauses have numbers from 1 to below the next
+-- kept clauses are numbered from 1 to below the next number
 abbrev pub AreNumbered : KeptClauses → ℕ → Type 0
 AreNumbered kept next = (n : ℕ) → is_some (get kept n) ≡ true → (0 < n) × (n < next)
 
@@ -118,7 +118,7 @@ numbered_without : (kept : KeptClauses) (next : ℕ) (ns : List ℕ) → AreNumb
 numbered_without kept next [] are = are
 numbered_without kept next (n ∷ ns) are = numbered_without (remove kept n) next ns (numbered_remove kept next n are)
 
--- a state whose clauses are so numbered
+-- a state with clauses numbered this way
 pub record IsNumbered (s : Checking) : Type 0 where
   pub positive : 0 < s.next
   pub are : AreNumbered s.kept s.next
@@ -144,7 +144,7 @@ no_hint : (k h : ℕ) → Contains (get_or [] k []) h → ⊥
 no_hint zero h (j, below, is) = omega (arith, below)
 no_hint (suc k) h (j, below, is) = omega (arith, below)
 
--- after a first line that passes, its lines go on from there
+-- after a first line that passes, the others go on from there
 pub goes_on : (s : Checking) (l : Line) (ls : List Line) → after s l ≡ passed s l → fold after s (l ∷ ls) ≡ fold after (passed s l) ls
 goes_on s l ls to = ap (λ t. fold after t ls) to
 
@@ -154,7 +154,7 @@ later_hint : (s : Checking) (k h : ℕ) (used : List (List ℕ)) (nil : Bool)
 later_hint s k h used true later among = absurd (no_hint k h among)
 later_hint s k h used false later among = let a = later among in (a.0, omega (arith, a.1))
 
--- each hint is the number of a clause before
+-- each hint is the number of an earlier clause
 pub hints_are_earlier : (s : Checking) (ls : List Line) → IsNumbered s → (fold after s ls).fault ≡ None → (k h : ℕ)
     → Contains (get_or (hints_used ls) k []) h → (0 < h) × (h < s.next + k)
 hints_are_earlier s [] is free k h among = absurd (no_hint k h among)
@@ -172,7 +172,7 @@ hints_are_earlier s (Delete ns ∷ ls) is free k h among =
     hints_are_earlier (passed s (Delete ns)) ls (numbered_passed s (Delete ns) is)
     (sym (ap (λ (t : Checking). t.fault) (goes_on s (Delete ns) ls p.to)) ∙ free) k h among
 
--- over a formula's clauses, its number is at most as many as they are and those before it
+-- over a formula's clauses, a hint is at most the number of clauses before it
 pub hints_within : (f : Formula) (ls : List Line) → IsClosed f ls → (k h : ℕ) → Contains (get_or (hints_used ls) k []) h
     → (0 < h) × (h ≤ length f.clauses + k)
 hints_within f ls closed k h among =
@@ -180,7 +180,7 @@ hints_within f ls closed k h among =
     let a = hints_are_earlier (start f) ls (numbered_start f) e.0 k h among in
     (a.0, omega (arith, a.1, keep-next (opening f.vars) f.clauses))
 
--- an empty clause is added
+-- some line adds an empty clause
 some_line : (s : Checking) (ls : List Line) → (fold after s ls).fault ≡ None → (fold after s ls).closed ≡ true → s.closed ≡ false
     → 0 < length (hints_used ls)
 some_line s [] free closed none = absurd (let e : true ≡ false = sym closed ∙ none in cc)

@@ -1,4 +1,5 @@
--- A closed derivation rests on the clauses that it reaches: nothing satisfies those of the formula.
+-- A closed derivation rests on the clauses that it reaches: no valuation satisfies those of the
+-- formula.
 use Rattle.std.proofs.Common.{◌≡◌, ◌∙◌, ℕ, zero, suc, ◌+◌, ◌<◌, List, [], ◌∷◌, length, map, ℤ, refl, ap, sym, subst, arith, get_or}
 use Rattle.std.proofs.Common.{Bool, true, false, cond, Some, None}
 use Rattle.std.specs.Prelude.{IfSome, ◌||◌}
@@ -20,7 +21,7 @@ use Rattle.refute_core.specs.Laws.{ReachedAreUnsatisfiable}
 use Rattle.refute_core.proofs.Passes.{first_passes, goes_on, is_closed, start_open}
 
 module _ (v : Valuation) (R : ℕ → Type 0) where
-  -- each kept clause of such a number is true
+  -- each kept clause with such a number is true
   abbrev AreTrueIn : KeptClauses → Type 0
   AreTrueIn kept = (n : ℕ) → R n → IsTrueAt v kept n
 
@@ -51,7 +52,7 @@ module _ (v : Valuation) (R : ℕ → Type 0) where
       true_from (keep s c) cs (true_insert s.kept s.next c are (λ r. each 0 (omega arith) (subst R (omega arith) r)))
       (λ k below r. each (suc k) (omega (arith, below)) (subst R (omega arith) r))
 
-  -- where such numbers are closed under hints, the first empty clause has none
+  -- if such numbers are closed under hints, the first empty clause doesn't have one
   never : (s : Checking) (base : ℕ) (ls : List Line) → s.next ≡ suc base → (fold after s ls).fault ≡ None → (fold after s ls).closed ≡ true
       → s.closed ≡ false → AreTrueIn s.kept
       → ((k : ℕ) → R (base + k + 1) → (h : ℕ) → Contains (get_or (hints_used ls) k []) h → R h) → R (base + length (hints_used ls)) → ⊥
@@ -75,7 +76,7 @@ module _ (v : Valuation) (R : ℕ → Type 0) where
       never (passed s (Delete ns)) base ls at (sym (ap (λ (t : Checking). t.fault) on) ∙ free) (sym (ap (λ (t : Checking). t.closed) on) ∙ closed) none
       (true_without s.kept ns are) hinted first
 
--- each of those clauses is true
+-- each of the named clauses is true
 named_true : (v : Valuation) (cs : List (List ℤ)) (places : List ℕ) → satisfies v (map (λ place. get_or cs place []) places) ≡ true → (place : ℕ)
     → Contains places place → clause_true v (get_or cs place []) ≡ true
 named_true v cs [] all place (k, below, is) = absurd (omega (arith, below))

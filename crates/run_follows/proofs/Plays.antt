@@ -1,4 +1,4 @@
--- A list of deeds of which each may come after those before it is the history of a run.
+-- A list of deeds, each of which may follow those before it, is the history of a run.
 use Rattle.std.proofs.Common.{◌<◌, ◌≡◌, ◌∙◌, ℕ, ◌+◌, ℤ, pos, true, false, ◌&&◌, List, [], ◌∷◌, ◌++◌, append_assoc, append-nil}
 use Rattle.std.proofs.Common.{Option, Some, None, refl, sym, ap, ap₂, subst, arith}
 use Rattle.std.specs.Prelude.{option_map, option_and_then}
@@ -41,7 +41,7 @@ use Rattle.run_history.proofs.Threads.{number_is, none_done, children_are}
 use Rattle.run_history.proofs.Frame.{kept_by_step}
 use Rattle.run_laws.proofs.Makes.{makes_run, makes_wake, makes_drain}
 
--- an instruction that asks something is there
+-- the instruction with this request
 pub record AsksBy (code : Code) (t : Local) (r : Request) : Type 0 where
   pub instr : Instr
   pub at : instr_of code t ≡ Some instr
@@ -54,7 +54,7 @@ asks_by code t r (Some i) at e = record { instr = i; at = at; asks = same_Some (
 module _ {B : Type 0} (machine : Machine B) where
   open machine use {ops, model, bound, laws, code, lawful}
 
-  -- and so is a thread that does
+  -- the thread whose next request is this
   pub record Asker (s : State B) (n : Name) (r : Request) : Type 0 where
     pub thread : Thread B
     pub there : fin.get s.threads n ≡ Some thread
@@ -81,7 +81,7 @@ module _ {B : Type 0} (machine : Machine B) where
     going = a.failure ∙ none
 
     module _ (n : Name) (k : ℕ) (v : ℤ) where
-      -- a step that wakes nobody is a run move
+      -- a step that wakes no thread is a run
       plays_run : (r : Request) (o : Option Name) (x : Asker s n r) → is_allowed_in ops.buffered h n r ≡ true → k ≡ steps_in h n
           → v ≡ taken_in ops.buffered code h n r → o ≡ created_by ops code n x.thread.local r → move_for bound (Did n k r v o) ≡ move.Run n
           → Plays s h (Did n k r v o)
@@ -136,7 +136,7 @@ module _ {B : Type 0} (machine : Machine B) where
       plays_did Silent o x number may takes other = plays_run Silent o x may number takes other refl
       plays_did r o x number may takes other = plays_run r o x may number takes other refl
 
-    -- what a thread has pending, by the steps
+    -- a pending store of a thread, by the number of its step
     record IsPlaced (n : Name) (k c : ℕ) (v : ℤ) : Type 0 where
       older : List Issue
       newer : List Issue
@@ -148,7 +148,7 @@ module _ {B : Type 0} (machine : Machine B) where
         let s = split_by_steps h n a.deeds.named (subst (λ b. Rises (pending_issues b h n)) d.buffers (a.deeds.buffers.numbers n).rises) bound k c v d.next in
         record { older = s.0.older; newer = s.0.newer; there = ap (λ b. pending_issues b h n) d.buffers ∙ s.0.there; is_free = s.1 }
 
-    -- a drain of a pending store that needn't wait
+    -- a drain of a pending store that needn't wait is a drain move
     plays_drain : (n : Name) (k c : ℕ) (v : ℤ) → IsPlaced n k c v → (t : Thread B) → fin.get s.threads n ≡ Some t
         → Plays s h (Drained n k c v)
     plays_drain n k c v d t here =
@@ -170,7 +170,7 @@ module _ {B : Type 0} (machine : Machine B) where
               a.deeds.buffers split);
         }
 
-    -- who has something pending is a thread
+    -- only a thread has something pending
     pending_of_thread : (n : Name) (o : Option (Thread B)) → fin.get s.threads n ≡ o → (older newer : List Issue) (x : Issue)
         → pending_issues ops.buffered h n ≡ older ++ x ∷ newer → (t : Thread B) × (fin.get s.threads n ≡ Some t)
     pending_of_thread n (Some t) here older newer x there = (t, here)
@@ -179,7 +179,7 @@ module _ {B : Type 0} (machine : Machine B) where
         (subst (In x) (sym there) (in_at older x newer)) in
         absurd (omega (arith, below, none_done ops code s h n a.deeds.buffers.threads here))
 
-    -- so each deed that may follow is done by a move
+    -- each deed that may follow is done by a move
     pub plays : (d : Deed) → MayFollow ops.buffered bound code h d → Plays s h d
     plays (Did n k r v o) m = plays_did n k v r o (asker s h n r a m.asks) m.number m.may m.takes m.other_is
     plays (Drained n k c v) m =
@@ -187,7 +187,7 @@ module _ {B : Type 0} (machine : Machine B) where
         let t = pending_of_thread n (fin.get s.threads n) refl d.older d.newer _ d.there in
         plays_drain n k c v d t.0 t.1
 
-  -- where the moves of some deeds lead, and what they did
+  -- the state to which the moves of some deeds lead, and their history
   record PlaysAll (s : State B) (h ds : List Deed) : Type 0 where
     state : State B
     leads : run_from ops code s (moves_for bound ds) ≡ Some state
@@ -213,7 +213,7 @@ module _ {B : Type 0} (machine : Machine B) where
             ∙ rest.did ∙ joined;
       }
 
-  -- deeds of which each may come after those before it are those of a run
+  -- deeds each of which may follow those before it are those of a run
   pub follows_is_run : (h : List Deed) → AllFollow ops.buffered bound code h
       → (s : State B) × (run ops code (moves_for bound h) ≡ Some s) × (history ops code (moves_for bound h) ≡ h)
   follows_is_run h all =

@@ -1,4 +1,4 @@
--- What each deed keeps, a history keeps.
+-- A fact of state and history that each deed keeps holds after each run.
 use Rattle.std.proofs.Common.{◌≡◌, ℕ, List, [], ◌∷◌, ◌++◌, IsTrue, Option, Some, None, refl, sym, ap, subst}
 use Rattle.std.specs.Option.{option_map_or}
 use Rattle.std.specs.FinMap as fin
@@ -22,7 +22,7 @@ use Rattle.run_laws.proofs.Steps.{Went, step_went, none_failed}
 use Rattle.run_history.specs.History.{Deed, did, woke, drained, by_instr, deed_of, history_from, history}
 
 module _ {B : Type 0} (ops : BufferOps B) (code : Code) where
-  -- each deed keeps what the history tells of the state
+  -- each deed keeps the relation between state and history
   pub record Keeps (P : State B → List Deed → Type 0) : Type 0 where
     pub ran : (s : State B) (h : List Deed) (n : Name) (t : Thread B) (i : Instr) (r : Request) → IsReached ops code s → s.failed ≡ None
         → fin.get s.threads n ≡ Some t → instr_of code t.local ≡ Some i → request t.local i ≡ r → IsTrue (allows ops s n t r) → P s h
@@ -52,7 +52,7 @@ module _ {B : Type 0} (ops : BufferOps B) (code : Code) where
         (subst (λ x. P x (h ++ drained ops code h n (ops.drain g.thread.buffer form).entry ∷ [])) (sym g.after)
         (keeps.flushed s h n g.thread form reached going g.there g.may p))
 
-    -- so does each move
+    -- each move keeps the relation
     pub kept_by_step : (s u : State B) (h : List Deed) (m : Move) → IsReached ops code s → step ops code s m ≡ Some u → P s h
         → P u (h ++ deed_of ops code s h m)
     kept_by_step s u h m reached one p = kept_by_move s u h m reached (none_failed ops code s u m one) (step_went ops code s u m one) p
@@ -66,6 +66,6 @@ module _ {B : Type 0} (ops : BufferOps B) (code : Code) where
         (kept_by_moves v u (h ++ deed_of ops code s h m) ms (step_is_reached ops code s v m one reached) rest
         (kept_by_move s v h m reached (none_failed ops code s v m one) (step_went ops code s v m one) p)))
 
-    -- so it holds after each run, where it holds at the start
+    -- the relation holds after each run if it holds at the start
     pub holds_after : P (opening ops code) [] → (ms : List Move) (s : State B) → run ops code ms ≡ Some s → P s (history ops code ms)
     holds_after start ms s leads = kept_by_moves (opening ops code) s [] ms (opening_is_reached ops code) leads start

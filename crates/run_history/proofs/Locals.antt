@@ -1,4 +1,4 @@
--- What each thread has to itself is told by the history.
+-- The history determines the local state of each thread.
 use Rattle.std.proofs.Common.{◌≡◌, ◌∙◌, inl, inr, ℕ, ◌+◌, ◌-◌, ℤ, pos, List, [], ◌∷◌, ◌++◌, length, Option, Some, refl, sym, ap}
 use Rattle.std.specs.Prelude.{option_map}
 use Rattle.std.specs.Option.{option_map_or}
@@ -23,7 +23,7 @@ module _ {B : Type 0} (ops : BufferOps B) (code : Code) where
   abbrev local : Thread B → Local
   local t = t.local
 
-  -- what threads have to themselves
+  -- the local states of threads
   abbrev pub AreLocals : ByName Local → ByName (Thread B) → Type 0
   AreLocals ls ts = (q : Name) → fin.get ls q ≡ option_map local (fin.get ts q)
 
@@ -36,7 +36,7 @@ module _ {B : Type 0} (ops : BufferOps B) (code : Code) where
         | inr other ↦ get_put_apart ls n t.local q other ∙ are q ∙ sym (ap (option_map local) (get_put_apart ts n t q other))
       ]
 
-  -- a thread whose local part stays
+  -- replacing a thread's buffer keeps the local states
   locals_stay : (ls : ByName Local) (ts : ByName (Thread B)) (n : Name) (t : Thread B) (b : B) → AreLocals ls ts → fin.get ts n ≡ Some t
       → AreLocals ls (fin.insert ts n (record t { buffer = b }))
   locals_stay ls ts n t b are here q =
@@ -59,7 +59,7 @@ module _ {B : Type 0} (ops : BufferOps B) (code : Code) where
   locals-push : (h : List Deed) (d : Deed) → locals_in code (h ++ d ∷ []) ≡ after_deed code (locals_in code h) d
   locals-push h d = fold-append (after_deed code) _ h (d ∷ [])
 
-  -- a step is done by the instruction at its thread's place
+  -- a step does the instruction at its thread's place
   step_by : (ls : ByName Local) (n : Name) (t : Local) (i : Instr) (k : ℕ) (r : Request) (v : ℤ) (o : Option Name) → fin.get ls n ≡ Some t
       → instr_of code t ≡ Some i → after_deed code ls (Did n k r v o) ≡ with_child code n t i r (fin.insert ls n (after_step t i r v))
   step_by ls n t i k r v o here at =

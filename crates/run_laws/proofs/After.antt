@@ -1,4 +1,4 @@
--- What a thread has after an instruction.
+-- The state of a thread after an instruction.
 use Rattle.std.proofs.Common.{◌≡◌, ◌⊎◌, inl, inr, ℕ, ◌+◌, length, ℤ, [], ◌∷◌, ◌++◌, Bool, true, false, cond, Some, refl, sym, subst}
 use Rattle.std.proofs.lemmas.List.{length-set}
 use Rattle.tc_base.specs.States.{Local}
@@ -14,29 +14,29 @@ pub branch_is : (t : Local) (b : Bool) (to : ℕ) → branched t b to ≡ record
 branch_is t true to = refl
 branch_is t false to = refl
 
--- an instruction at a place leads to another: to the next, or to its target
+-- an instruction at a place leads to another place: the next one or its target
 abbrev pub Leads : Instr → ℕ → ℕ → Type 0
 Leads i p k = (k ≡ p + 1) ⊎ (target i ≡ Some k)
 
--- a branch goes to the next place, or to its target
+-- a branch leads to the next place or to its target
 branch_leads : (t : Local) (e : Expr) (b : Bool) (to : ℕ) → Leads (Branch e to) t.instruction (branched t b to).instruction
 branch_leads t e true to = inl refl
 branch_leads t e false to = inr refl
 
--- a thread goes where its instruction leads
+-- a thread goes to a place to which its instruction leads
 pub place_after : (t : Local) (i : Instr) (v : ℤ) → Leads i t.instruction (local_after t i v).instruction
 place_after t (Branch e to) v = branch_leads t e _ to
 place_after t (Goto to) v = inr refl
 place_after t _ v = inl refl
 
--- a thread has as much as another
+-- a thread has as many slots, handles and flags as another
 pub record HasAsMuch (old new : Local) : Type 0 where
   pub function : new.function ≡ old.function
   pub slots : length new.slots ≡ length old.slots
   pub handles : length new.handles ≡ length old.handles
   pub held : length new.held ≡ length old.held
 
--- an instruction leaves a thread as much as it had
+-- an instruction keeps the numbers of slots, handles and flags
 pub after_has : (t : Local) (i : Instr) (v : ℤ) → HasAsMuch t (local_after t i v)
 after_has t (Set k e) v = record { function = refl; slots = length-set t.slots k _; handles = refl; held = refl }
 after_has t (Load k c) v = record { function = refl; slots = length-set t.slots k v; handles = refl; held = refl }

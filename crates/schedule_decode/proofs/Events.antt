@@ -94,7 +94,7 @@ module _ {B : Type 0} (setting : Setting B) (nodes more : List Node) (w : World)
   abbrev goes : ℕ → List Deed → ℕ → Name → List Deed
   goes m h t n = goes_on ops.buffered code paths w m h t n
 
-  -- what stands at a place among all events is where the world has it
+  -- the event at a place among all events has the position that the world gives its step
   here : (i : ℕ) (e : Of Event) → slice_get (all_events paths) i ≡ Some e → position w (0 + i) ≡ place_of paths w e.thread e.it.step
   here i e at =
       let number = number_is paths (paths_whole setting nodes w l) i e at in
@@ -112,7 +112,7 @@ module _ {B : Type 0} (setting : Setting B) (nodes more : List Node) (w : World)
       find_both (λ (a : Of Event). place_of paths w a.thread a.it.step == p) (λ (a : ℕ × Of Event). position w a.0 == p) 0 (all_events paths)
       (λ i e at. ap (λ n. n == p) (here i e at))
 
-  -- the end of both is one
+  -- both have the same end
   pub same_end : last_place paths w ≡ end_of paths w
   same_end =
       by (find_both (λ (a : Of Event). is_failure a.it.kind) (λ (a : ℕ × Of Event). is_failure a.1.it.kind) 0 (all_events paths) (λ i e at. refl))
@@ -251,7 +251,7 @@ module _ {B : Type 0} (setting : Setting B) (nodes more : List Node) (w : World)
           (λ v apart. steps_other before q.name v (steps_in before q.name) request took other apart
           ∙ others_stay ops.buffered code paths w (x.step - steps_in h q.name) h t q.name v apart))
 
-    -- so with each event
+    -- the moves of each event are those of the plan
     pub event_made : (event : ℕ) → event ≡ number_of paths t x.step
         → IsMadeOf bound code log (with_drain ops.buffered code paths w upto q.name x)
         (moves.with_event ops.buffered bound paths symbolic terms w m event t q x)

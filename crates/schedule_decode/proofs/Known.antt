@@ -48,12 +48,12 @@ only_store kind.Store e = refl
 only_store kind.Load e = absurd cc
 only_store k e = absurd cc
 
--- a cell of memory, whose terms are there
+-- a cell of memory, whose terms exist
 pub record IsOfMemory (code : Code) (nodes : List Node) (w : World) (c : Cell) : Type 0 where
   pub terms : CellIsOf (length nodes) c
   pub number : cell_by nodes w.loads c < length code.memory
 
--- an event at a position, by the number that it has
+-- an event at a position, with its number
 pub record IsKnown (buffered : Bool) (code : Code) (paths : Paths) (symbolic : Symbolic) (nodes : List Node) (w : World) (p : ℕ)
     (e : ℕ × Of Event) : Type 0 where
   pub walk : Walk
@@ -63,7 +63,7 @@ pub record IsKnown (buffered : Bool) (code : Code) (paths : Paths) (symbolic : S
   pub at : position w e.0 ≡ p
   pub cell : is_pending buffered e.1.it ≡ true → IfSome (cell_of symbolic e.1.thread e.1.it.step) (IsOfMemory code nodes w)
 
--- so is each event before the end
+-- each event before the end is known
 abbrev pub AreKnown : Bool → Code → Paths → Symbolic → List Node → World → Type 0
 AreKnown buffered code paths symbolic nodes w =
     (p : ℕ) (e : ℕ × Of Event) → p < last_place paths w → event_here paths w p ≡ Some e → IsKnown buffered code paths symbolic nodes w p e

@@ -50,7 +50,7 @@ use Rattle.schedule_decode.proofs.Events.{same_end, made_up_to}
 use Rattle.schedule_decode.proofs.Made.{IsMadeOf, made_on, others_stay}
 use Rattle.schedule_decode.proofs.Runs.{own_run}
 
--- A fold that leaves some out is one over the others.
+-- A fold that skips some elements is a fold over the others.
 fold_but : {X Y : Type 0} (f : Y → X → Y) (p : X → Bool) (y : Y) (xs : List X)
     → fold (λ a x. if p x then a else f a x) y xs ≡ fold f y (filter (λ x. not (p x)) xs)
 fold_but f p y [] = refl
@@ -62,7 +62,7 @@ fold_but {X} {Y} f p y (x ∷ xs) = by (p x) (λ a. fold_but f p a xs)
     by true later = later y
     by false later = later (f y x)
 
--- A number stands once among those from one on, or not at all.
+-- A number outside a range doesn't occur in it.
 not_among : (k a n : ℕ) → (k < a) ⊎ (a + n ≤ k) → filter (λ t. k == t) (range_with_len a n) ≡ []
 not_among k a zero out = refl
 not_among k a (suc n) out =
@@ -148,7 +148,7 @@ module _ {B : Type 0} (setting : Setting B) (nodes more : List Node) (w : World)
         | inr fails ↦ let f = fail_is_last code log setting.log_is l.fits t.index t.walk x t.there i fails in absurd (not f.0 (omega (arith, f.1, step)))
       ]
 
-  -- So many steps to the end of a path are so many moves of its thread.
+  -- The `k` steps to the end of a path are `k` moves of its thread.
   record Ran (k : ℕ) (h : List Deed) (q : Walk) (later : List Deed) : Type 0 where
     moves : moves_for bound later ≡ moves_for bound h ++ replicate k (move.Run q.name)
     steps : steps_in later q.name ≡ steps_in h q.name + k
@@ -207,7 +207,7 @@ module _ {B : Type 0} (setting : Setting B) (nodes more : List Node) (w : World)
             gone = r.gone;
           }
 
-  -- What is left to a thread.
+  -- The rest of a thread's path.
   record RestMade (h : List Deed) (t : ℕ) (later : List Deed) (m : Made) : Type 0 where
     made : IsMade later m
     on : GoesOn h later
@@ -246,7 +246,7 @@ module _ {B : Type 0} (setting : Setting B) (nodes more : List Node) (w : World)
             gone = λ passes. r.gone (fails_by_place code log setting.log_is t q there ∙ place_passes log.failing t passes);
           })
 
-  -- What is left to some threads that don't fail.
+  -- The rest of the paths of some threads that don't fail.
   all_made : (ts : List ℕ) (h : List Deed) (m : Made) → at_end h → AllAreThere code log h → ((t : ℕ) → Contains ts t → is_failing paths t ≡ false)
       → IsMade h m → IsMade (fold planned h ts) (fold (spec.with_rest paths) m ts)
   all_made [] h m gone are_there passing made = made
@@ -255,7 +255,7 @@ module _ {B : Type 0} (setting : Setting B) (nodes more : List Node) (w : World)
       all_made ts (planned h t) (spec.with_rest paths m t) (r.gone (passing t (in_front t ts))) (λ u. r.on.there u.name (are_there u))
       (λ u i. passing u (in_back u t ts i)) r.made
 
-  -- All of the plan.
+  -- The whole plan.
   abbrev before : List Deed
   before = up_to ops.buffered code paths w last
 
@@ -276,7 +276,7 @@ module _ {B : Type 0} (setting : Setting B) (nodes more : List Node) (w : World)
         (all_threads setting nodes w l g before (come setting nodes w l g))
         (λ t i. not-true (is_failing paths t) (of_filter (λ u. not (is_failing paths u)) t range i).1) first)
 
-    -- the thread that fails is there
+    -- the failing thread exists
     failing_within : (k : ℕ) → log.failing ≡ failing.Thread k → k < length paths.threads
     failing_within k is =
         let within =
@@ -318,7 +318,7 @@ module _ {B : Type 0} (setting : Setting B) (nodes more : List Node) (w : World)
   gone_to =
       gone_up_to setting nodes w l g last (λ t q x there i. none_before setting nodes w l t q x there i)
 
-  -- so all of a plan is made
+  -- the moves of the whole plan are made
   pub plan_made : IsMade (plan.plan ops.buffered code paths w) (spec.made ops.buffered bound paths symbolic terms w)
   plan_made =
       whole_made (made_at (last_place paths w))

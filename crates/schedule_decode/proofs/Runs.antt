@@ -32,7 +32,7 @@ use Rattle.plan_runs.proofs.Next.{next_is}
 use Rattle.plan_runs.proofs.Steps.{QuietAt, quiet_goes, one_more}
 use Rattle.path_laws.specs.history.Along.{PathThread}
 
--- a step that is no signal is a thread's own move
+-- a step other than a signal is a move of its own thread
 pub own_run : (bound : Binding) (n : Name) (k : ℕ) (r : Request) (took : ℤ) (other : Option Name)
     → ((c : ℕ) → kind_of r other ≢ Some (kind.Signal c)) → move_for bound (Did n k r took other) ≡ move.Run n
 own_run bound n k (WakeOne c) took other not = absurd (not c refl)
@@ -48,7 +48,7 @@ module _ {B : Type 0} (setting : Setting B) (nodes : List Node) (w : World) (l :
   abbrev goes : ℕ → List Deed → ℕ → Name → List Deed
   goes m h t n = goes_on ops.buffered code paths w m h t n
 
-  -- a quiet step is no signal
+  -- a quiet step isn't a signal
   no_signal : (q : Walk) (k c : ℕ) → QuietAt setting nodes w l g q k → kind_at q k ≢ Some (kind.Signal c)
   no_signal q k c quiet signals = by (find (λ (e : Event). e.step == k) q.events) refl
     where

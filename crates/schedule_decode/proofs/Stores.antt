@@ -1,4 +1,4 @@
--- The stores of the plan of a lawful world, as the accesses of its paths tell them.
+-- The stores in the plan of a lawful world, by the accesses of its paths.
 use Rattle.std.proofs.Common.{◌≡◌, ◌∙◌, ℕ, ℤ, List, ◌++◌, Some, sym, ap}
 use Rattle.run_history.specs.History.{Deed}
 use Rattle.run_history.specs.pending.Deeds.{IsIssuedIn}
@@ -28,14 +28,14 @@ module _ {B : Type 0} (setting : Setting B) (nodes more : List Node) (w : World)
   abbrev terms : List Node
   terms = (found code log nodes).nodes ++ more
 
-  -- more terms leave what an access asks as it is
+  -- more terms don't change an access's request
   asked_stays : (t : ℕ) (a : Access) → HasAccess symbolic t a → asked_in terms w.loads a ≡ asked_in (found code log nodes).nodes w.loads a
   asked_stays t a has =
       let same = more_mean_same ops.buffered bound code (paths_of code log) symbolic w (found code log nodes).nodes more
       (have_terms code setting.lawful (paths_of code log) nodes) (have_tests code setting.lawful (paths_of code log) nodes) in
       sym (same.asked t a has)
 
-  -- the access of a store that has been issued
+  -- the access of an issued store
   pub record IsStoreOf (t k c : ℕ) : Type 0 where
     pub access : Access
     pub has : HasAccess symbolic t access

@@ -70,7 +70,7 @@ filter-swap : {X : Type 0} (p q : X → Bool) (xs : List X) → filter q (filter
 filter-swap p q xs =
     sym (filter-twice p q (λ x. p x && q x) xs (λ x. refl)) ∙ filter-twice q p (λ x. p x && q x) xs (λ x. swapped (p x) (q x))
 
--- What a thread has issued.
+-- The issues of a thread.
 
 undrained : List Deed → Name → Issue → Bool
 undrained h q i = not (has_drained h q i.number)
@@ -106,7 +106,7 @@ stores_of q is = filter_map (stored_of q) is
 abbrev pub is_of : Name → Stored → Bool
 is_of q w = same q w.thread
 
--- the stores of a thread that wait are those that it issued and that are pending
+-- the waiting stores of a thread are its pending issues
 abbrev pub WaitsAs : Bool → List Deed → Name → List Stored → Type 0
 WaitsAs buffered h q ws = filter (is_of q) ws ≡ stores_of q (pending_issues buffered h q)
 
@@ -154,7 +154,7 @@ waits-step buffered h q n k r v o ws none is =
     ∙ sym (filter_map-append (stored_of q) (filter (λ i. not (drains q i.number (Did n k r v o))) (pending_issues buffered h q)) (filter now more))
     ∙ ap (stores_of q) (sym (pending-push buffered h (Did n k r v o) q))
 
--- a bar is no store
+-- a bar isn't a store
 bars_store_nothing : (q : Name) (k : ℕ) (b : Bool) (test : Issue → Bool)
     → stores_of q (filter test (cons_option (if b then Some (record { number = k; what = barred }) else None) [])) ≡ []
 bars_store_nothing q k true test = by_bool (λ c. stores_of q (cond c (record { number = k; what = barred } ∷ []) []) ≡ []) (test (record {
@@ -272,7 +272,7 @@ module _ {B : Type 0} (ops : BufferOps B) (model : Model) (bound : Binding) (law
   pub seen_is : (ms : List Move) (s : State B) → run ops code ms ≡ Some s → SeenIs s (history ops code ms)
   seen_is ms s leads = holds_after ops code SeenIs keeps_seen opening_seen ms s leads
 
-  -- so deeds determine the value that a request takes
+  -- the deeds determine the value that a request takes
   pub taken_is : (s : State B) (h : List Deed) (t : Thread B) (r : Request) → SeenIs s h
       → taken ops code s t r ≡ taken_by ops (seen_in ops.buffered code h).memory t r
   taken_is s h t r p = by r ∙ ap (λ memory. taken_by ops memory t r) (sym p.memory)
@@ -283,7 +283,7 @@ module _ {B : Type 0} (ops : BufferOps B) (model : Model) (bound : Binding) (law
       by (CompareExchange c e v) = refl
       by r = refl
 
--- Which of a thread's stores drains.
+-- Which store of a thread drains.
 
 form_none : (b : Bool) (c : ℕ) → (if b then None else Some c) ≡ None → b ≡ true
 form_none true c e = refl
@@ -312,7 +312,7 @@ first_own : (n : Name) (form : Option ℕ) (ws : List Stored) → first_by n for
 first_own n form [] = refl
 first_own n form (w ∷ ws) = first_own_by n form w ws _ refl (first_own n form ws)
 
--- a store for which no other needs to wait doesn't drain by the form of a newer one
+-- a store that needn't wait doesn't drain in the form of a newer one
 module _ (bound : Binding) (same_cell : (barred : Bool) → bound true barred ≡ true) (bars : bound false true ≡ true) where
   bound_all : bound false false ≡ true → (cell bar : Bool) → bound cell bar ≡ false → ⊥
   bound_all all true bar free = false≢true (sym free ∙ same_cell bar)
@@ -359,7 +359,7 @@ module _ (bound : Binding) (same_cell : (barred : Bool) → bound true barred �
       ∙ ap (λ b. if b then Some w else first_by n form (stores_of n newer)) (by_itself form e.cell is)
 
 module _ {B : Type 0} (ops : BufferOps B) (model : Model) (bound : Binding) (laws : Laws ops model bound) (code : Code) where
-  -- the first of a thread's stores that drains by a form is the one that does
+  -- the first of a thread's stores that drains in a form is the one that does
   pub first_drains : (s : State B) (h : List Deed) (n : Name) (t : Thread B) (form : Option ℕ) → SeenIs ops model bound laws code s h
       → fin.get s.threads n ≡ Some t → ops.may_drain t.buffer form ≡ true
       → IsSomeAnd (first_by n form (seen_in ops.buffered code h).waiting)

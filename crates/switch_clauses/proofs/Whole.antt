@@ -1,4 +1,4 @@
--- The clauses of a formula stand on those of its order.
+-- The clauses of a formula extend those of its order.
 use Rattle.std.proofs.Common.{◌≡◌, ◌∙◌, ℕ, ◌<◌, ◌≤◌, true, List, [], ◌∷◌, ℤ, map, refl, arith}
 use Rattle.std.specs.List.{All, list_all, range_with_len}
 use Rattle.std.proofs.lemmas.Bool.{and_from, le-leb}

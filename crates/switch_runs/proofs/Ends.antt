@@ -1,4 +1,5 @@
--- Which events take place in a history that reproduces a log: those up to the end of its world.
+-- The events that take place in a history that reproduces a log are those up to the end of its
+-- world.
 use Rattle.std.proofs.Common.{◌≡◌, ◌≢◌, ◌∙◌, inl, inr, ℕ, ◌<◌, ◌≤◌, ℤ, Bool, true, false, ◌&&◌, List, [], ◌∷◌, ◌++◌, length, Option, Some, None, refl, sym, ap, ap₂, subst, arith}
 use Rattle.std.specs.Prelude.{option_map, slice_get, IsSomeAnd}
 use Rattle.std.specs.List.{All, Contains, cons_option, filter_map, find, last_or}
@@ -118,7 +119,7 @@ module _ {B : Type 0} (setting : Setting B) (moves : List Move) (again : Reprodu
         shows = shows_drain b ps t x.step q d.cell d.value there;
       }
 
-  -- where no event fails no step has failed
+  -- if no event fails, no step has failed
   module _ (none : find (λ (e : Of Event). is_failure e.it.kind) (all_events ps) ≡ None) where
     no_failure : (d : Deed) → In d h → fails d ≡ None
     no_failure (Did n k Fail took other) i =
@@ -137,7 +138,7 @@ module _ {B : Type 0} (setting : Setting B) (moves : List Move) (again : Reprodu
     no_thread : failed_in h ≡ None
     no_thread = ap (last_or None) (none_found fails h no_failure)
 
-    -- so it is a deadlock, and no store waits
+    -- in a deadlock no store waits
     all_drained : AllDrained b h
     all_drained = by log.failing again.ends
       where
@@ -164,7 +165,7 @@ module _ {B : Type 0} (setting : Setting B) (moves : List Move) (again : Reprodu
           issued = d.there ∙ ap (λ r. d.older ++ Did q.name x.step r d.took d.other ∷ d.newer) s.2;
         })
 
-  -- In a world that has the events in their order.
+  -- In a world with the same order of events.
   module _ (w : World) (world : IsWorld w) (events : length w.positions ≡ length (all_events ps)) (small : All (λ p. p < 256) w.positions)
       (ordered : AreInOrder b ps w h) where
     abbrev place : (t k : ℕ) → ℕ
@@ -221,7 +222,7 @@ module _ {B : Type 0} (setting : Setting B) (moves : List Move) (again : Reprodu
         let q = event_numbered ps a.whole i.0 e i.1 in
         (q, failure_is e.it.kind f.1)
 
-    -- what takes place is before the end
+    -- each event that takes place is before the end
     pub within : (t k : ℕ) → TakesPlace b ps h t k → place t k < end
     within t k x = by found refl
       where
@@ -231,7 +232,7 @@ module _ {B : Type 0} (setting : Setting B) (moves : List Move) (again : Reprodu
             (omega (arith, has_number ps t k (a.events t k x), events)) small
         by (Some e) at = let f = fails_at e at in let last = fail_last e.thread e.it f.0 f.1 t k x in omega (arith, last)
 
-    -- and the other way round, where the stores before the event that fails have drained
+    -- each event before the end takes place, if the stores before the failing event have drained
     module _ (before_fail : (t u : ℕ) (q : Walk) (x f : Event) → IsThread code log t q → Contains q.events x → (b && is_store x.kind) ≡ true
         → HasEvent ps u f → f.kind ≡ kind.Fail → IsBefore ps w t x.step u f.step → has_drained h q.name x.step ≡ true) where
       event_takes : (t : ℕ) (q : Walk) (x : Event) → IsThread code log t q → Contains q.events x → place t x.step < end → TakesPlace b ps h t x.step

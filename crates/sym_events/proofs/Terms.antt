@@ -1,4 +1,4 @@
--- The terms that accesses and tests name are made before them.
+-- The terms that accesses and tests name exist before them.
 use Rattle.std.proofs.Common.{◌≡◌, ℕ, ◌+◌, ◌<◌, ◌≤◌, ℤ, pos, Bool, List, [], ◌∷◌, ◌++◌, length, fold}
 use Rattle.std.proofs.Common.{Option, Some, None, refl, arith}
 use Rattle.std.specs.Prelude.{nat_lt, slice_get, unwrap_or}
@@ -61,7 +61,7 @@ one_test d e x up are within =
     let were = all_later d.nodes e.nodes d.accesses d.tests up are in
     record { accesses = were.accesses; tests = All-push (TestIsOf (length e.nodes)) d.tests x were.tests within }
 
--- what a compare-and-exchange writes is made
+-- the term that a compare-and-exchange writes exists
 replaced_within : (nodes : List Node) (v e f : ℕ) → let w = replaced_term nodes v e f in w.term < length w.nodes
 replaced_within nodes v e f =
     let change = made nodes (Binary Xor v f) in
@@ -70,7 +70,7 @@ replaced_within nodes v e f =
     let masked = made mask.nodes (Binary And change.term mask.term) in
     made_within masked.nodes (Binary Xor v masked.term)
 
--- so is the test of a range
+-- the term of a range test exists
 range_within : (x : Made) (last : ℤ) → let w = range_test x last in w.term < length w.nodes
 range_within x last =
     let zero = made x.nodes (Constant (pos 0)) in
@@ -79,7 +79,7 @@ range_within x last =
     let high = made top.nodes (Binary Le x.term top.term) in
     made_within high.nodes (Binary And low.term high.term)
 
--- what an instruction adds names terms that are there then
+-- an instruction adds accesses and tests whose terms exist then
 instr_of_terms : (line : ℕ) (wanted : Bool) (d : Doing) (i : Instr) → HasTerms d → IsTrue (names_within (length d.slots) i)
     → AreOfTerms d.nodes d.accesses d.tests
     → AreOfTerms (after_instr line wanted d i).nodes (after_instr line wanted d i).accesses (after_instr line wanted d i).tests
@@ -136,12 +136,12 @@ instr_of_terms line wanted d i s named are =
 
 module _ (code : Code) (lawful : IsLawful code) where
   module _ (f : ℕ) (outcomes : List Bool) (fails : Option ℕ) where
-    -- a step that does an instruction, if one is there
+    -- a step that does the instruction, if there is one
     abbrev stepped : Doing → ℕ → Option Instr → Doing
     stepped d place o = option_map_or (λ i.
         record (after_instr (unwrap_or (line_at code f place) 0) (wanted_of outcomes fails d i) d i) { steps = d.steps + 1 }) o d
 
-    -- those of an execution are of its nodes
+    -- the accesses and tests of an execution name terms of its nodes
     abbrev IsOfTerms : Doing → Type 0
     IsOfTerms d = AreOfTerms d.nodes d.accesses d.tests
 
@@ -165,7 +165,7 @@ module _ (code : Code) (lawful : IsLawful code) where
   abbrev CourseIsOf : List Node → Course → Type 0
   CourseIsOf nodes c = AreOfTerms nodes c.accesses c.tests
 
-  -- of all threads so far, and the terms that they hand over are there too
+  -- the accesses and tests of all threads so far, and the terms handed over, name existing nodes
   record AreOf (x : Executed) : Type 0 where
     handed : helpers.HaveTerms x
     courses : All (CourseIsOf x.nodes) x.symbolic.threads

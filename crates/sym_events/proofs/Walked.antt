@@ -68,7 +68,7 @@ is_ok : {X E : Type 0} (r : Result X E) (d : X) → result_err r ≡ None → r 
 is_ok (Ok x) d none = refl
 is_ok (Err e) d none = absurd (none-some e (sym none))
 
--- a thread's name has a path
+-- the name of a thread has a path
 abbrev IsUnder : List ThreadPath → ThreadPath → Type 0
 IsUnder ts t = (p : Path) × (path_under t.name ts ≡ Some p)
 

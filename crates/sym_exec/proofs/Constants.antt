@@ -31,7 +31,7 @@ use Rattle.sym_exec.proofs.Tells.{one_less}
 abbrev HaveInts : List Node → Type 0
 HaveInts nodes = All HasInt nodes
 
--- what is made is a node more at most
+-- making a node adds at most that node
 with_int : (nodes : List Node) (node : Node) → HaveInts nodes → HasInt node → HaveInts (with_node nodes node)
 with_int nodes node are is = either HaveInts (list_any (same_node node) nodes) nodes (nodes ++ node ∷ []) are (All-push HasInt nodes node are is)
 
@@ -123,7 +123,7 @@ module _ (code : Code) (lawful : IsLawful code) where
       by None at = are
       by (Some i) at = let p = placed code f place i lawful at in instr_ints _ _ d i are (p.lawful.ints place i p.at)
 
-  -- and of all threads
+  -- the constants of all threads are ints
   threads_ints : (paths : Paths) (ws : List Walk) (x : Executed) → HaveInts x.nodes → HaveInts (fold (with_thread code paths) x ws).nodes
   threads_ints paths [] x are = are
   threads_ints paths (w ∷ ws) x are =

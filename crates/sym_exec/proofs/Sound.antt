@@ -1,4 +1,4 @@
--- Executions whose terms are all of their nodes stay so.
+-- An execution whose terms are all among its nodes stays one.
 use Rattle.std.proofs.Common.{◌≡◌, ℕ, ◌<◌, ◌≤◌, ◌+◌, ◌-◌, List, [], ◌∷◌, length, Bool, ◌&&◌, Option, Some, None, ℤ, pos, refl, ap, sym, subst, ◌∙◌}
 use Rattle.std.proofs.Common.{arith, fold, replicate, take, slice_get, length-append}
 use Rattle.std.specs.Prelude.{unwrap_or, nat_lt, nat_le, bytes_eq}
@@ -35,7 +35,7 @@ use Rattle.sym_exec.specs.Executed.{Course, Executed, handed_by, handed_to, argu
 use Rattle.sym_exec.proofs.Grown.{grows_none, grows_both, grows_made, made_within, stays_within, stay_of, expr_grows, expr_within}
 use Rattle.sym_exec.proofs.Grown.{below_more, names_more, all_names_more}
 
--- a test of range, and what a compare-and-exchange writes
+-- a range test and the term of a compare-and-exchange only add nodes
 pub range_grows : (x : Made) (last : ℤ) → Grows x.nodes (range_test x last).nodes
 range_grows x last =
     let none : Node = Constant (pos 0) in
@@ -69,7 +69,7 @@ replaced_grows nodes v e f =
     (grows_both same.nodes mask.nodes all (grows_made same.nodes third)
     (grows_both mask.nodes masked.nodes all (grows_made mask.nodes fourth) (grows_made masked.nodes fifth))))
 
--- a term is one of some nodes
+-- a term is one of these nodes
 abbrev IsOf : List Node → ℕ → Type 0
 IsOf nodes term = term < length nodes
 
@@ -97,7 +97,7 @@ pub exprs_made : (nodes : List Node) (slots : List ℕ) (es : List Expr) → Are
 exprs_made nodes slots es are named =
     exprs_from nodes slots es (record { terms = []; nodes = nodes }) are (record { grow = grows_none nodes; within = All-nil (IsOf nodes) }) named
 
--- one goes on as another, with as many slots
+-- one execution extends another, with as many slots
 pub record GoesOn (d e : Doing) : Type 0 where
   pub grows : Grows d.nodes e.nodes
   pub sound : HasTerms e
@@ -213,7 +213,7 @@ instr_goes line wanted d (Swap k c e) s named =
 instr_goes line wanted d (Cas k c e new) s named = replacing_goes d k (Fixed c) e new s
 instr_goes line wanted d _ s named = record { grows = grows_none d.nodes; sound = s; size = refl }
 
--- what an instruction of lawful code names is there
+-- everything that an instruction of lawful code names exists
 names_there : (code : Code) (g : Func) (n : ℕ) (i : Instr) → g.ints ≤ n → IsTrue (names_what_is code g i) → IsTrue (names_within n i)
 names_there code g n (Set k e) up h =
     let h = and_parts (nat_lt k g.ints) (names_slots g.ints e) h in
@@ -263,7 +263,7 @@ instr_counted : (line : ℕ) (wanted : Bool) (d : Doing) (i : Instr) → Counted
 instr_counted line wanted d (Branch e to) = record { steps = refl; branches = omega arith }
 instr_counted line wanted d _ = record { steps = refl; branches = omega arith }
 
--- one goes on as another by a step at most
+-- one execution extends another by at most one step
 pub record StepsOn (d e : Doing) : Type 0 where
   pub goes : GoesOn d e
   pub steps : e.steps ≤ d.steps + 1
@@ -293,12 +293,12 @@ step_by code f outcomes fails d place (Some i) at lawful up s =
     record (after_instr (unwrap_or (line_at code f place) 0) (wanted_of outcomes fails d i) d i) { steps = d.steps + 1 }) o d)) (sym at)
     (does_on (unwrap_or (line_at code f place) 0) (wanted_of outcomes fails d i) d i s (instr_named code f place (length d.slots) i lawful at up))
 
--- each step goes on
+-- each step extends the execution
 pub step_goes : (code : Code) (f : ℕ) (outcomes : List Bool) (fails : Option ℕ) (d : Doing) (place : ℕ)
     → IsLawful code → ints_of code f ≤ length d.slots → HasTerms d → StepsOn d (after_step code f outcomes fails d place)
 step_goes code f outcomes fails d place = step_by code f outcomes fails d place (instr_at code f place) refl
 
--- and so do all steps
+-- all steps extend the execution
 pub all_go : (code : Code) (f : ℕ) (outcomes : List Bool) (fails : Option ℕ) (d : Doing) (places : List ℕ)
     → IsLawful code → ints_of code f ≤ length d.slots → HasTerms d → GoesOn d (after_all code f outcomes fails d places)
 all_go code f outcomes fails d [] lawful up s = (stays_on d s).goes
@@ -320,14 +320,14 @@ start_sound ints arguments loads nodes are =
       creates = All-nil (HandsOf zero.nodes);
     }
 
--- it has all slots of its function
+-- a thread starts with all slots of its function
 pub start_has : (ints : ℕ) (arguments : List ℕ) (loads : ℕ) (nodes : List Node) → ints ≤ length (started ints arguments loads nodes).slots
 start_has ints arguments loads nodes =
     let none : Node = Constant (pos 0) in
     let zero = made nodes none in
     omega (arith, length-append arguments (replicate (ints - length arguments) zero.term), length-replicate (ints - length arguments) zero.term)
 
--- what a thread hands to its children, and so what a child takes, is of the nodes
+-- the terms that a thread hands over, and so those that a child takes, are among the nodes
 handed_by_sound : (nodes : List Node) (number : ℕ) (c : Course) → All (HandsOf nodes) c.creates → AreOf nodes (handed_by number c)
 handed_by_sound nodes number c are = by (slice_get c.creates (number - 1)) refl
   where
@@ -355,7 +355,7 @@ arguments_sound x n are = by (last_or None n)
     by None = All-nil (IsOf x.nodes)
     by (Some k) = handed_to_sound x.nodes x.symbolic.threads (take (length n - 1) n) k are
 
--- and with each thread it stays so
+-- each thread keeps terms among the nodes
 pub thread_sound : (code : Code) (paths : Paths) (x : Executed) (w : Walk) → IsLawful code → HaveTerms x → HaveTerms (with_thread code paths x w)
 thread_sound code paths x w lawful are =
     let nodes = x.nodes in

@@ -1,4 +1,4 @@
--- What the code's steps make together.
+-- The results of the code's steps together.
 use Rattle.std.proofs.Common.{◌≡◌, ◌∙◌, ℕ, suc, ◌+◌, ◌<◌, ℤ, pos, List, ◌∷◌, length, get_or, drop, refl, ap, sym, add-one}
 use Rattle.std.proofs.Math.Seq.{drop-cons}
 use Rattle.sym_terms.specs.declared.node.Node.{Node}
@@ -13,7 +13,7 @@ pub range_is : (x zero low top high : Made) (last : ℤ) → zero ≡ made x.nod
     → made high.nodes (Binary And low.term high.term) ≡ range_test x last
 range_is x zero low top high last ez el et eh = rw (eh, et, el, ez) refl
 
--- what a compare-and-exchange writes, made step by step
+-- the term of a compare-and-exchange, made step by step
 pub replaced_is : (nodes : List Node) (v e f : ℕ) (change same mask masked : Made) → change ≡ made nodes (Binary Xor v f)
     → same ≡ made change.nodes (Binary Eq v e) → mask ≡ made same.nodes (Unary Neg same.term)
     → masked ≡ made mask.nodes (Binary And change.term mask.term)

@@ -1,4 +1,4 @@
--- An execution tells what a thread does that goes along the path by itself.
+-- An execution determines what a thread does that runs its path alone.
 use Rattle.std.proofs.Common.{◌≡◌, ◌∙◌, ℕ, zero, suc, ◌<◌, ◌≤◌, ◌+◌, ◌-◌, ◌^◌, ℤ, pos, negsuc, List, [], ◌∷◌, ◌++◌, map, length, get_or, set, drop, fold}
 use Rattle.std.proofs.Common.{Bool, true, false, cond, ◌&&◌, Option, Some, None, refl, ap, ap₂, sym, subst, arith, append_assoc}
 use Rattle.std.specs.Prelude.{option_and_then, unwrap_or, int_le, int_lt, nat_lt, nat_le, ◌-ℤ◌}
@@ -63,7 +63,7 @@ loads_after line wanted d (Swap k c e) = refl
 loads_after line wanted d (Cas k c e new) = refl
 loads_after line wanted d _ = omega arith
 
--- what a thread has after an instruction that its request may fail: the slots, and the values that are left
+-- a thread after an instruction whose request may fail: its slots, and the values left
 pub record After (t : Local) (i : Instr) (vs : List ℤ) (a : Alone) : Type 0 where
   pub slots : a.local.slots ≡ (local_after t i (get_or vs 0 (pos 0))).slots
   pub values : a.values ≡ cond (is_load i) (drop 1 vs) vs
@@ -88,7 +88,7 @@ after_is t (InRange e) vs = after_site t (InRange e) vs (is_distance (value_in t
 after_is t _ [] = record { slots = refl; values = refl }
 after_is t _ (v ∷ vs) = record { slots = refl; values = refl }
 
--- what a compare-and-exchange writes has its value by bits
+-- the term that a compare-and-exchange writes has its value by bit operations
 pub replaced_value : (nodes : List Node) (v e f : ℕ) (loads : List ℤ) (a b c : ℤ) → AreTerms nodes → v < length nodes → e < length nodes → f < length nodes
     → value_of nodes loads v ≡ a → value_of nodes loads e ≡ b → value_of nodes loads f ≡ c → HasValue loads (replaced_term nodes v e f) (exchanged a b c)
 replaced_value nodes v e f loads a b c are wv we wf va vb vc =
@@ -128,7 +128,7 @@ exprs_terms slots loads nodes (e ∷ es) xs of g are named =
 pub one_less : (n : ℕ) → pos (suc n) -ℤ pos 1 ≡ pred_ℤ (pos (suc n))
 one_less n = -ℤ_one (pos (suc n))
 
--- an index is before a length exactly where it is not after the last
+-- an index is before a length exactly if it isn't after the last index
 last_is_before : (v : ℤ) (n : ℕ) → int_le v (pos n -ℤ pos 1) ≡ int_lt v (pos n)
 last_is_before (pos k) zero = sym (le-ltb k 0 (omega arith))
 last_is_before (pos k) (suc n) = ap (int_le (pos k)) (one_less n) ∙ sym (leb-suc-suc k n)
@@ -140,7 +140,7 @@ within_is len v short =
     ap (λ b. int_le (pos 0) v && int_le v (cond b (pos (2 ^ 31 - 1)) (pos len -ℤ pos 1))) (le-ltb (2 ^ 31) len short)
     ∙ ap (λ b. int_le (pos 0) v && b) (last_is_before v len)
 
--- what one instruction tells
+-- what one instruction determines
 pub record Told (loads : List ℤ) (d e : Doing) (t : Local) (i : Instr) (v : ℤ) : Type 0 where
   pub terms : AreTerms e.nodes
   pub slots : (local_after t i v).slots ≡ slots_by loads e
@@ -159,19 +159,19 @@ kept_told : (loads : List ℤ) (d : Doing) (nodes : List Node) (s : List ℤ) �
     → s ≡ map (value_of nodes loads) d.slots
 kept_told loads d nodes s g of is = is ∙ sym (values_stay d.nodes nodes loads d.slots g of)
 
--- a test comes out as its term tells
+-- a test has the outcome of its term
 test_comes : (loads : List ℤ) (x : Made) (v : ℤ) (b : Bool) (step line : ℕ) (wanted : Bool) → HasValue loads x v → is_nonzero v ≡ b
     → (later : List Node) → Grows x.nodes later
     → map (outcome_by later loads) (record { step = step; line = line; term = x.term; wanted = wanted } ∷ []) ≡ b ∷ []
 test_comes loads x v b step line wanted h is later g =
     ap (λ w. is_nonzero w ∷ []) (value_stays x.nodes later loads x.term g h.within ∙ h.value) ∙ ap (λ c. c ∷ []) is
 
--- of a test, the length of an index is no more than an int
+-- the length in an index test is an int
 abbrev pub IsShort : Instr → Type 0
 IsShort (Inside len i) = len ≤ 2 ^ 31
 IsShort _ = Unit {0}
 
--- of an expression that is tested
+-- an instruction that tests an expression
 expr_told : (loads : List ℤ) (line : ℕ) (wanted : Bool) (d : Doing) (i : Instr) (t : Local) (v : ℤ) (e : Expr) (branches : ℕ) → AreTerms d.nodes → HasTerms d
     → IsTrue (names_slots (length d.slots) e) → t.slots ≡ slots_by loads d → (local_after t i v).slots ≡ t.slots
     → condition t i ≡ Some (is_nonzero (value_in t e)) → Told loads d (record (testing d line wanted (term_in d e)) { branches = branches }) t i v
@@ -351,7 +351,7 @@ exprs_values slots loads nodes (e ∷ es) xs vs of g are within named is =
     (All-push (λ n. n < length x.nodes) xs.terms x.term (stay_of xs.nodes x.nodes xs.terms up within) h.within) named.1 all
     ∙ append_assoc vs (v ∷ []) (map (λ e. expr_value_of e (map (value_of nodes loads) slots)) es)
 
--- what an instruction hands over
+-- the terms that an instruction hands over
 pub record Hands (loads : List ℤ) (d e : Doing) (t : Local) (i : Instr) : Type 0 where
   pub hands : List Handed
   pub creates : e.creates ≡ d.creates ++ hands
@@ -372,7 +372,7 @@ hands_over loads line wanted d (Create h f es) t are s named is =
     }
 hands_over loads line wanted d _ t are s named is = record { hands = []; creates = sym (append-nil d.creates); given = λ later g. refl }
 
--- what an instruction asks of a cell
+-- the request of an instruction for a cell
 pub record Asks (loads : List ℤ) (d e : Doing) (t : Local) (i : Instr) (v : ℤ) : Type 0 where
   pub found : List Access
   pub accesses : e.accesses ≡ d.accesses ++ found
@@ -512,7 +512,7 @@ cons_is None xs = refl
 cons_is (Some x) xs = refl
 
 module _ (code : Code) (f : ℕ) (outcomes : List Bool) (fails : Option ℕ) where
-  -- a step, where an instruction is at the place, and where none is
+  -- a step, with an instruction at its place or without one
   abbrev stepped_by : Doing → ℕ → Option Instr → Doing
   stepped_by d place o = option_map_or (λ i.
       record (after_instr (unwrap_or (line_at code f place) 0) (wanted_of outcomes fails d i) d i) { steps = d.steps + 1 }) o d
@@ -529,7 +529,7 @@ module _ (code : Code) (f : ℕ) (outcomes : List Bool) (fails : Option ℕ) whe
       let e = after_step code f outcomes fails d place in
       omega (arith, loads_by d place (instr_at code f place), loads_grow places e)
 
--- lawful code tests no index against more cells than there are
+-- an index test of lawful code has a length of at most the number of cells
 pub short_is : (code : Code) (f place : ℕ) (i : Instr) → IsLawful code → instr_at code f place ≡ Some i → IsShort i
 short_is code f place (Inside len i) lawful at =
     let p = placed code f place (Inside len i) lawful at in
@@ -538,7 +538,7 @@ short_is code f place (Inside len i) lawful at =
     omega (arith, few, lawful.cells)
 short_is code f place _ lawful at = tt
 
--- what a step adds, and what the later steps add
+-- the values that a step adds, and those that the later steps add
 more : {A B : Type 0} (fn : A → B) (old new all : List A) (here later : List B) → all ≡ old ++ new → map fn new ≡ here
     → map fn all ++ later ≡ map fn old ++ (here ++ later)
 more fn old new all here later is gives =
@@ -552,7 +552,7 @@ module _ (code : Code) (f : ℕ) (outcomes : List Bool) (fails : Option ℕ) (lo
   abbrev next : Doing → ℕ → Doing
   next d place = after_step code f outcomes fails d place
 
-  -- what a step tells
+  -- what a step determines
   record StepTold (place : ℕ) (places : List ℕ) (d : Doing) (a : Alone) : Type 0 where
     stands : StandsFor code f outcomes fails loads places (next d place) (goes_on code a)
     test : List Test
@@ -568,7 +568,7 @@ module _ (code : Code) (f : ℕ) (outcomes : List Bool) (fails : Option ℕ) (lo
     asked : (later : List Node) → Grows (next d place).nodes later → map (asked_in later loads) found
         ≡ option_map_or (λ i. asked_by (get_or a.values 0 (pos 0)) (request a.local i)) (instr_of code a.local) []
 
-  -- no instruction is at the place, and nothing is done
+  -- with no instruction at the place, nothing is done
   no_step : (place : ℕ) (places : List ℕ) (d : Doing) (a : Alone) → StandsFor code f outcomes fails loads (place ∷ places) d a
       → instr_at code f place ≡ None → StepTold place places d a
   no_step place places d a s at =
@@ -598,7 +598,7 @@ module _ (code : Code) (f : ℕ) (outcomes : List Bool) (fails : Option ℕ) (lo
         asked = λ later g. sym (ap (λ o. option_map_or (λ i. asked_by (get_or a.values 0 (pos 0)) (request a.local i)) o []) none);
       }
 
-  -- an instruction is there, and is done
+  -- an instruction at the place is done
   one_step : (place : ℕ) (places : List ℕ) (d : Doing) (a : Alone) (i : Instr) → StandsFor code f outcomes fails loads (place ∷ places) d a
       → instr_at code f place ≡ Some i → StepTold place places d a
   one_step place places d a i s at =

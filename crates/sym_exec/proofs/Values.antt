@@ -28,14 +28,14 @@ use Rattle.sym_exec.proofs.Grown.{grows_both, grows_made, made_within, stays_wit
 pub value_stays : (a b : List Node) (loads : List ℤ) (term : ℕ) → Grows a b → term < length a → value_of b loads term ≡ value_of a loads term
 value_stays a b loads term g within = ap (λ ns. value_of ns loads term) g.1 ∙ folds.keep a g.0 loads term within
 
--- and so do those of several
+-- the values of several terms stay too
 pub values_stay : (a b : List Node) (loads : List ℤ) (ts : List ℕ) → Grows a b → AreOf a ts → map (value_of b loads) ts ≡ map (value_of a loads) ts
 values_stay a b loads [] g are = refl
 values_stay a b loads (t ∷ ts) g are =
     ap₂ (λ x xs. x ∷ xs) (value_stays a b loads t g (All-head (λ n. n < length a) t ts are))
     (values_stay a b loads ts g (All-tail (λ n. n < length a) t ts are))
 
--- a node that is made has its value over the values of its parts
+-- a made node has its value, given the values of its parts
 pub made_value : (nodes : List Node) (node : Node) (loads : List ℤ) → AreTerms nodes → NamesBelow (length nodes) node
     → value_of (made nodes node).nodes loads (made nodes node).term ≡ node_value (values_of nodes loads) loads node
 made_value nodes node loads are names = terms.named nodes node loads are names
@@ -77,7 +77,7 @@ binary_value op nodes a b v w loads are wa wb ea eb =
       value = made_value nodes node loads are (wa, wb) ∙ ap₂ (binary op) ea eb;
     }
 
--- the term of an expression has its value over the values of the slots
+-- the term of an expression has its value, given the values of the slots
 pub expr_value : (nodes : List Node) (slots : List ℕ) (e : Expr) (loads : List ℤ) → AreTerms nodes → AreOf nodes slots
     → IsTrue (names_slots (length slots) e) → HasValue loads (expr_term nodes slots e) (expr.value_of e (map (value_of nodes loads) slots))
 expr_value nodes slots (expr.Number n) loads are of named = constant_value nodes n loads are
@@ -109,7 +109,7 @@ pub truth_nonzero : (p : Bool) → is_nonzero (truth p) ≡ p
 truth_nonzero true = refl
 truth_nonzero false = refl
 
--- the test of a range is 1 where it holds, and else 0
+-- the range test is 1 if the value is in the range, and otherwise 0
 pub range_value : (x : Made) (v last : ℤ) (loads : List ℤ) → HasValue loads x v
     → HasValue loads (range_test x last) (truth (int_le (pos 0) v && int_le v last))
 range_value x v last loads h =

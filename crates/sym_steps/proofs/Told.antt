@@ -1,4 +1,4 @@
--- What the next step of a thread asks is told by the terms of its path.
+-- The terms of a thread's path determine its next request.
 use Rattle.std.proofs.Common.{◌≡◌, ◌∙◌, ℕ, suc, ◌+◌, ◌≤◌, ◌<◌, ◌==◌, ◌&&◌, ℤ, pos, Bool, true, false, not, cond}
 use Rattle.std.proofs.Common.{List, [], ◌∷◌, ◌++◌, map, length, take, drop, fold, get_or, Option, Some, None, refl, ap, ap₂, sym, subst, arith, append-nil, slice_index_or}
 use Rattle.std.specs.Prelude.{slice_get, option_map}
@@ -85,12 +85,12 @@ apart_below m n lt = grind (arith, lt)
 apart_above : (m n : ℕ) → n < m → (m == n) ≡ false
 apart_above m n lt = grind (arith, lt)
 
--- what a path has of an event that it maps from what a step asks
+-- the kind of an event that a path maps from a step's kind
 kind_back : (o : Option EventKind) (event : EventKind → Event) → ((a : EventKind) → (event a).kind ≡ a) → option_map (λ (e : Event). e.kind) (option_map event o) ≡ o
 kind_back None event is = refl
 kind_back (Some a) event is = ap (λ k. Some k) (is a)
 
--- where a branch leads with outcomes there is one
+-- a branch that leads on has an outcome left
 outcome_there : (next to : ℕ) (os : List Bool) (on : Onward) → path.branched next to os ≡ Some on → (b : Bool) × (rest : List Bool) × (os ≡ b ∷ rest)
 outcome_there next to [] on e = absurd (none-some on e)
 outcome_there next to (b ∷ os) on e = (b, os, refl)
@@ -248,7 +248,7 @@ module _ {B : Type 0} (setting : Setting B) (nodes : List Node) (loads : List �
           one_wanted (outcome_by later loads) wanted b add.test
           (ap (map (outcome_by later loads)) (sym one) ∙ q.comes later grows_plain ∙ ap (λ o. cons_option o []) tests) tests_come
 
-      -- a branch goes by the path's next outcome
+      -- a branch uses the path's next outcome
       branches : BranchesAlong w t i
       branches ex to at_branch =
           let on = next_leads setting along thread going x in
@@ -263,7 +263,7 @@ module _ {B : Type 0} (setting : Setting B) (nodes : List Node) (loads : List �
           ∙ ap (wanted_of w.outcomes failing_step d) (sym at_branch)
           ∙ sym goes)
 
-      -- a site passes unless it is to fail
+      -- a site passes unless it should fail
       site_goes : (b : Bool) → condition t i ≡ Some b → is_site i ≡ true → b ≡ not (fails_next log h w)
       site_goes b tests site =
           comes_out b tests
@@ -296,7 +296,7 @@ module _ {B : Type 0} (setting : Setting B) (nodes : List Node) (loads : List �
           ∙ ap (option_map (λ (z : Event). z.kind)) (sym event)
           ∙ ap₂ (λ es n. option_map (λ (z : Event). z.kind) (find (λ (z : Event). z.step == n) es)) (sym walk.events) x.steps
 
-      -- its cells
+      -- the cells of the step
       abbrev at_step : Access → Bool
       at_step a = a.step == k
 

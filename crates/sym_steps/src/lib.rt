@@ -36,9 +36,9 @@ pub fn loads_go_on_agreeing()
         → AgreesWith symbolic loads (first ++ later) → AgreesWith symbolic loads first }
 {}
 
-/// In a history along the paths, if the loads took the values of their symbols, each thread's slots
-/// have the values of their terms, its tests had their wanted outcomes, and its accesses are those
-/// of its path.
+/// In a history along the paths, let the loads take the values of their symbols. Then each thread's
+/// slots have the values of their terms, its tests had their wanted outcomes, and its accesses are
+/// those of its path.
 pub fn histories_have_values<B>()
     ensures { (s : Setting B) (nodes : List Node) (loads : List ℤ) (h : ValuedHistory s nodes loads) (t : ExecutedThread s.code s.log nodes) (l : Local)
         → fin.get (locals_in s.code h.deeds) t.name ≡ Some l → HasValues s.code s.log nodes loads h.deeds t.index t.walk t.course l }

@@ -1,4 +1,4 @@
--- The conjuncts of a deadlock are its rule.
+-- The conjuncts of a deadlock are true exactly if its rule is met.
 use Rattle.std.proofs.Common.{◌≡◌, ◌∙◌, ℕ, Bool, true, false, not, ◌&&◌, ◌==◌, nat_eq, ◌⊎◌, List, [], ◌∷◌, map, Option, Some, None, inl, inr}
 use Rattle.std.proofs.Common.{refl, sym, ap, eqb-true, eq-eqb, if◌then◌else◌, is_none}
 use Rattle.std.specs.Prelude.{slice_get, option_to_list}
@@ -51,7 +51,7 @@ ender_cases None = inl refl
 ender_cases (Some g) = inr (g, refl)
 
 module _ (paths : Paths) where
-  -- nothing ends the sleep of a thread's step
+  -- no event ends the sleep of a thread's step
   abbrev asleep : (t step : ℕ) → List Literal
   asleep t k = sleeps_on (all_events paths) (all_sleeps paths) t k
 
@@ -143,7 +143,7 @@ module _ (paths : Paths) where
         (unended_is (ender_of w s.place) g.0.event
         (sleeps s.place s.element s.at (eqb-true s.element.thread t both.0) (eqb-true s.element.it.step k both.1))))
 
-    -- what a thread is blocked at, each way
+    -- the ways in which a thread may be blocked
     module _ (t : ℕ) (q : Walk) (at : slice_get paths.threads t ≡ Some q) where
       rule_at : (symbolic : Symbolic) (b : Blocked) → IsWorldOf paths symbolic w → list_any (case_at nodes w) (cannot_go_on paths t q b) ≡ true
           → CannotGoOn paths w t b

@@ -1,4 +1,4 @@
--- The conjuncts of children are the rule of children.
+-- The conjuncts of children are true exactly if the rule of children is met.
 use Rattle.std.proofs.Common.{◌≡◌, ◌∙◌, ℕ, true, List, [], ◌∷◌, ◌⊎◌, map, filter, bytes_eq, Some, inl, inr, refl, sym, ap, subst, if◌then◌else◌}
 use Rattle.std.specs.Prelude.{slice_get}
 use Rattle.std.specs.List.{Contains, flat_map}
@@ -46,7 +46,7 @@ module _ (paths : Paths) where
       let name : q.name ≡ child p.name k = ap (λ (x : Walk). x.name) (sym other) ∙ is.4 ∙ ap (λ (x : Walk). child x.name k) one in
       ap (λ n. bytes_eq n (child p.name k)) name ∙ same_refl (child p.name k)
 
-  -- what is made of a child is there
+  -- the result for a child is in the list
   in_children : {X : Type 0} (t k c : ℕ) (p q : Walk) (f : ℕ → Walk → List X) (y : X) → slice_get paths.threads t ≡ Some p
       → slice_get paths.threads c ≡ Some q → IsChild paths t k c → Contains (f c q) y → Contains (of_children paths.threads p k f) y
   in_children t k c p q f y parent thread is there =
@@ -74,7 +74,7 @@ module _ (paths : Paths) where
   abbrev all_joined : ℕ → Walk → List Conjunct
   all_joined t p = flat_map (joined (all_events paths) paths.threads t p) p.joins
 
-  -- the conjuncts are in the formula
+  -- the conjuncts of creates are in the formula
   create_in : (t c : ℕ) (l : Link) (x : Event) → Creates paths t l → IsChild paths t l.child c → HasEvent paths c x
       → Contains (children_formula paths) (created_before (all_events paths) t l c x)
   create_in t c l x creates is has =
@@ -96,7 +96,7 @@ module _ (paths : Paths) where
       (in_flat_map (joined (all_events paths) paths.threads t p) l z p.joins joins.2
       (in_children t l.child c p q (λ d r. exited_before (all_events paths) t l d r ∷ []) z joins.1 at is (in_front z []))))
 
-  -- and there are no others
+  -- the formula has no other conjuncts
   pub record ByCreate (z : Conjunct) : Type 0 where
     pub thread : ℕ
     pub link : Link
@@ -159,7 +159,7 @@ module _ (paths : Paths) where
   ]
 
   module _ (nodes : List Node) (w : World) (c : ℕ) where
-    -- where a conjunct of a join is true, an event of the child is its end, and comes before
+    -- if a conjunct of a join is true, the child has an exit, which comes before
     exit_there : (t : ℕ) (l : Link) (q : Walk) → slice_get paths.threads c ≡ Some q → body_at nodes w (exited_before (all_events paths) t l c q).body ≡ true
         → HasExited paths w c t l.step
     exit_there t l q at holds =

@@ -1,4 +1,4 @@
--- What holds of all literals here: they name steps that are events, sleeps with what may end them, and no terms.
+-- All literals here name steps that are events, or sleeps with possible enders, and no terms.
 use Rattle.std.proofs.Common.{◌≡◌, ℕ, Bool, true, false, List, [], ◌∷◌, ◌++◌, map, filter, Some, inl, inr, subst}
 use Rattle.std.proofs.Common.{if◌then◌else◌, not, ◌&&◌, ◌==◌}
 use Rattle.std.specs.Prelude.{option_to_list, slice_get}
@@ -29,7 +29,7 @@ use Rattle.order_events.proofs.Lists.{of_map, of_filter}
 use Rattle.sync_order.proofs.Regions.{is_pair}
 use Rattle.order_events.proofs.Parts.{of_one, of_option, of_if, in_of_each, each_in}
 
--- all literals of a part of a formula are such
+-- a property of all literals of a part of a formula
 module _ (L : Literal → Type 0) where
   abbrev pub BodyHas : Body → Type 0
   BodyHas (Any cases) = All (All L) cases
@@ -43,7 +43,7 @@ module _ (L : Literal → Type 0) where
       let m = of_map (λ (l : Literal). l ∷ []) c ls i in
       subst (All L) m.2 (each_in L (m.0 ∷ []) (λ k j. subst L (of_one k m.0 j) (each m.0 m.1))))
 
--- steps of threads that are events, all literals that name two of them, and those of sleeps and events
+-- a property of the literals that name two event steps, or a sleep and an event
 pub record AreLiterals (paths : Paths) (Step : (t k : ℕ) → Type 0) (L : Literal → Type 0) : Type 0 where
   pub event : (t : ℕ) (x : Event) → HasEvent paths t x → Step t x.step
   pub create : (t : ℕ) (l : Link) → Creates paths t l → Step t l.step

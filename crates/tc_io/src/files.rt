@@ -191,7 +191,7 @@ pub fn read_up_to<R: Read>(
     ensures gave { GaveAtMost (limit + 1) (R.remaining from.old) (R.remaining from.new) taken.old taken.new }
     ensures within { IfOk result (λ bytes. length bytes.items ≤ limit) }
     ensures counted { IfOk result (λ bytes. taken.new ≡ counted_on taken.old (length bytes.items)) }
-    // Where the reader tells what it has left, these are all its bytes, and it has none now.
+    // If the reader tells what it has left, these are all its bytes, and it has none now.
     ensures all { IfOk result (λ bytes. IfSome (R.remaining from.old) (λ all. bytes.items ≡ all)) }
     ensures too_long { IsErrOf result FetchFault.TooLong → taken.new ≡ counted_on taken.old (limit + 1) }
     ensures longer { IsErrOf result FetchFault.TooLong → IfSome (R.remaining from.old) (λ all. limit < length all) }

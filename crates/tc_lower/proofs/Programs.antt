@@ -98,7 +98,7 @@ seam : {A : Type 0} (xs : List A) (y : A) (ys : List A) → slice_get (xs ++ y �
 seam [] y ys = refl
 seam (x ∷ xs) y ys = seam xs y ys
 
--- ---- things that are there
+-- ---- existing things
 
 abbrev pub AllThere : List lawful.Array → Code → Func → ℕ → List Named → Type 0
 AllThere arrays code f base [] = Unit {0}
@@ -185,7 +185,7 @@ memory_length (Condition c ∷ gs) = omega (arith, memory_length gs)
 
 -- ---- functions
 
--- a function is lawful, and keeps these arrays apart
+-- a function is lawful and treats these arrays as separate
 record IsLawfulWith (arrays : List lawful.Array) (code : Code) (f : Func) : Type 0 where
   pub lawful : IsLawfulFunction code f
   pub apart : (k : ℕ) (i : Instr) → slice_get f.instrs k ≡ Some i → IsTrue (keeps_apart arrays i)

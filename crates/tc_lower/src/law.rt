@@ -16,9 +16,9 @@ pub fn code_is_lawful()
     ensures { (source : List ℕ) (p : Program) → cells p.globals ≤ CELLS → HasInts p → IsLawful (code_of source p) }
 {}
 
-/// A name in a body stands for a thing of the kind that the rules for names give it, and for
-/// nothing without a declaration. So if a program keeps those rules, each use of a name has its
-/// code.
+/// A name in a body denotes a thing of the kind that the rules for names give it, and a name
+/// without a declaration denotes nothing. So if a program keeps those rules, each use of a name has
+/// its code.
 pub fn names_stand_for_what_they_mean()
     ensures { (source : List ℕ) (p : Program) (parameters : List Name) (b : Body) (x : Name)
         → Agree (meaning_in source (own_declarations parameters b.locals ++ program_declarations p) x)

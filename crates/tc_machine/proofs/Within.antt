@@ -1,4 +1,4 @@
--- In a state that a run of lawful code reaches, each buffered store is to a cell that is there.
+-- In a state that a run of lawful code reaches, each buffered store is to an existing cell.
 use Rattle.std.proofs.Common.{
   ◌≡◌,
   ◌∙◌,
@@ -65,7 +65,7 @@ within_append n [] qs h k = k
 within_append n (Store e ∷ ps) qs h k = (h.0, within_append n ps qs h.1 k)
 within_append n (PendingBar ∷ ps) qs h k = within_append n ps qs h k
 
--- so is each, and so are the others
+-- one of the stores is to such a cell, and so are the others
 within_one : (n : ℕ) (older : List Pending) (e : Entry) (newer : List Pending) → AreWithin n (older ++ Store e ∷ newer) → e.cell < n
 within_one n [] e newer h = h.0
 within_one n (Store d ∷ older) e newer h = within_one n older e newer h.1
@@ -85,7 +85,7 @@ named_cell bound k c h = some_named (bound false false) h
     some_named false h = same_Some k c h
 
 module _ {B : Type 0} (ops : BufferOps B) (model : Model) (bound : Binding) (laws : Laws ops model bound) where
-  -- a buffer stands for stores to cells below a number
+  -- a buffer represents stores to cells below a number
   record HoldsWithin (n : ℕ) (b : B) : Type 0 where
     pending : List Pending
     stands : Stands ops b pending
@@ -130,7 +130,7 @@ module _ {B : Type 0} (ops : BufferOps B) (model : Model) (bound : Binding) (law
           within = within_rest n some.older some.store some.newer (subst (AreWithin n) some.drains.there h.within);
         }
 
-    -- and so is the cell of the form
+    -- the cell of the form is below the number
     form_within : (c : ℕ) → form ≡ Some c → c < n
     form_within c is =
         let some = laws.may_drain_stands b h.pending form h.stands may in
@@ -192,19 +192,19 @@ module _ {B : Type 0} (ops : BufferOps B) (model : Model) (bound : Binding) (law
 
     module _ (s : State B) (reached : IsReached ops code s) (q : Name) (t : Thread B) (there : fin.get s.threads q ≡ Some t) (form : Option ℕ)
         (may : ops.may_drain t.buffer form ≡ true) where
-      -- the store that drains is to a cell that is there
+      -- the store that drains is to an existing cell
       pub drained_is_there : (ops.drain t.buffer form).entry.cell < length s.memory
       drained_is_there =
           subst (λ n. (ops.drain t.buffer form).entry.cell < n) (sym (reached_is_whole ops code s lawful reached).cells)
           (drains_within (length code.memory) t.buffer form (all_within s reached q t there) may)
 
-      -- and so is the cell that its form names
+      -- the cell that its form names exists
       pub form_is_there : (c : ℕ) → form ≡ Some c → c < length s.memory
       form_is_there c is =
           subst (λ n. c < n) (sym (reached_is_whole ops code s lawful reached).cells)
           (form_within (length code.memory) t.buffer form (all_within s reached q t there) may c is)
 
-    -- where a thread's drain is enabled, its store is to a cell that is there
+    -- if a thread's drain is enabled, its store is to an existing cell
     pub drains_within_memory : (s : State B) → IsReached ops code s → (q : Name) (form : Option ℕ) → IsSome (step ops code s (move.Drain q form))
         → IfSome (fin.get s.threads q) (λ t. (ops.drain t.buffer form).entry.cell < length s.memory)
     drains_within_memory s reached q form enabled =

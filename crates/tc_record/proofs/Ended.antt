@@ -1,4 +1,4 @@
--- How a seeded run ends, and what holds of its log.
+-- The end of a seeded run, and facts on its log.
 use Rattle.std.proofs.Common.{◌≡◌, ◌∙◌, ◌≤◌, ◌%◌, inl, inr, ℕ, List, [], ◌∷◌, length, Option, Some, None, IsSome, refl, ap, sym, subst, arith, true≢false}
 use Rattle.std.specs.Prelude.{IsTrue, is_some}
 use Rattle.std.specs.Option.{option_map_or}
@@ -36,7 +36,7 @@ use Rattle.tc_record.proofs.Reached.{has_threads}
 use Rattle.tc_record.proofs.Sizes.{recorded_size}
 
 module _ {B : Type 0} (ops : BufferOps B) (model : Model) (bound : Binding) (laws : Laws ops model bound) (code : Code) (lawful : IsLawful code) where
-  -- where a word chooses no move, none is enabled
+  -- if a word chooses no move, none is enabled
   still : (s : State B) → IsReached ops code s → (word : ℕ) → chosen ops code s word ≡ None → (m : Move) → step ops code s m ≡ None
   still s r word none m =
       none_unless (step ops code s m) (λ enabled.
@@ -47,7 +47,7 @@ module _ {B : Type 0} (ops : BufferOps B) (model : Model) (bound : Binding) (law
         | inr past ↦ omega (arith, mod_below word (length all) (omega (arith, some.1)), past.0)
       ])
 
-  -- A run ends as is said where it ends.
+  -- A run has the end that its state has.
 
   abbrev EndsWell : Ended B → Type 0
   EndsWell run = IsEndAt ops code run.state (Some run.end)
@@ -104,7 +104,7 @@ module _ {B : Type 0} (ops : BufferOps B) (model : Model) (bound : Binding) (law
     run_has_log has = some_log model run.state (has_threads ops code run.state reached)
 
     module _ (x : StoredLog) (has : HasLog run) (is : IsLogOf model run.state x) where
-      -- its moves reproduce that
+      -- its moves reproduce the log
       pub run_reproduces : Reproduces ops code x.log run.moves
       run_reproduces = reproduced ops code run.state model x run.moves (run_leads ops code seed steps) (stuck has) is
 
@@ -112,11 +112,11 @@ module _ {B : Type 0} (ops : BufferOps B) (model : Model) (bound : Binding) (law
       told_by (inl e) = e ∙ tells_failure model run.state x is (at_failure e).1
       told_by (inr e) = e ∙ tells_deadlock model run.state x is (at_deadlock e).1.unfailed
 
-      -- it tells which of the two the end was
+      -- the log says which of the two ends it was
       pub run_is_told : run.end ≡ told_end x.log.failing
       run_is_told = told_by has
 
-      -- and it has a text, which isn't too long
+      -- the log has a text, which isn't too long
       pub log_is_of_format : IsTrue (is_of_format x.log)
       log_is_of_format = of_format ops code run.state reached (within has) x.log.threads (threads_are model run.state x is)
 

@@ -1,4 +1,4 @@
--- The moves of a seeded run lead to its state, and are no more than its words.
+-- The moves of a seeded run lead to its state, and are at most as many as its words.
 use Rattle.std.proofs.Common.{◌≡◌, ◌∙◌, ◌≤◌, ℕ, zero, suc, ◌+◌, List, [], ◌∷◌, length, Option, Some, None, refl, ap, sym, arith}
 use Rattle.std.specs.Prelude.{option_and_then}
 use Rattle.std.specs.Option.{option_map_or}
@@ -71,7 +71,7 @@ module _ {B : Type 0} (ops : BufferOps B) (code : Code) where
   so_many zero s = refl
   so_many (suc k) s = ap suc (so_many k (next_u64 s).1)
 
-  -- they are no more than may be made
+  -- there are at most as many moves as allowed
   pub run_is_short : (seed steps : ℕ) → length (seeded_run ops code seed steps).moves ≤ steps
   run_is_short seed steps =
       let few = few_from (first_words mix_u64 steps seed) (opening ops code) in

@@ -25,7 +25,7 @@ abbrev pub words : ℕ → Stream → List ℕ
 words zero s = []
 words (suc k) s = (next_u64 s).0 ∷ words k (next_u64 s).1
 
--- those of SplitMix64 are the words of its state
+-- the words of SplitMix64 are the words of its state
 pub words_of_seed : (k seed : ℕ) → words k (stream_of splitmix_steps seed) ≡ first_words mix_u64 k seed
 unfolding first_words
 words_of_seed zero seed = refl
@@ -37,7 +37,7 @@ pub length-words : (k : ℕ) (s : Stream) → length (words k s) ≡ k
 length-words zero s = refl
 length-words (suc k) s = ap suc (length-words k (next_u64 s).1)
 
--- some words and the rest of so many, before and after the next
+-- the words drawn and those still to draw, before and after the next one
 
 pub none_drawn : (rng seed count : ℕ) → rng ≡ seed → words (count - 0) (stream_of splitmix_steps rng) ≡ seed_words seed count
 none_drawn rng seed count same =
@@ -71,7 +71,7 @@ module _ {B : Type 0} where
   behind_either ms u (Some e) r = refl
 
 module _ {B : Type 0} (ops : BufferOps B) (code : Code) where
-  -- what is chosen is enabled
+  -- the chosen move is enabled
   pub chosen_is_enabled : (s : State B) (word : ℕ) (m : Move) → Some m ≡ chosen ops code s word → IsSome (step ops code s m)
   chosen_is_enabled s word m is = listed_is_enabled ops code s _ m (sym is)
 

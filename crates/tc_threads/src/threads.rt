@@ -115,7 +115,7 @@ impl<M: MemoryModel> Threads<M> {
         }
     }
 
-    /// Creates a child of a thread, by an instruction that is no branch.
+    /// Creates a child of a thread, by an instruction that isn't a branch.
     pub fn create(
         &mut self,
         name: &ThreadName,

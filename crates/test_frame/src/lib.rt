@@ -22,12 +22,12 @@ pub struct Join<'a> {
     back: &'a str,
 }
 
-/// What comes of the files.
+/// The outcome for the files.
 #[derive(Drop)]
 pub enum Joined {
-    /// The first is empty, which is refused.
+    /// The first file is empty, which is refused.
     Empty,
-    /// The first and then the second, and the other way round.
+    /// The two files joined, in both orders.
     Both(Vec<u8>, Vec<u8>),
 }
 
@@ -75,7 +75,7 @@ impl<'a> Join<'a> {
     }
 }
 
-/// One behind the other.
+/// Joins two texts.
 fn append(alloc: Global, first: &[u8], second: &[u8]) -> Result<Vec<u8>, AllocError>
     ensures { IfOk result (λ both. both.items ≡ first.now ++ second.now) }
 {

@@ -5,7 +5,7 @@ use std::test;
 use tc_io::Shelf;
 use test_shelves::mem::{Fail, MemShelf, MemSink};
 
-/// Two files, the call of the shelf that fails after some bytes, and what must come of them.
+/// Two files, the call of the shelf that fails after some bytes, and the answer that must come.
 #[derive(Clone, Copy)]
 struct Row<'a> {
     first: &'a str,
@@ -14,12 +14,12 @@ struct Row<'a> {
     after: usize,
     status: u8,
     said: &'a str,
-    /// What the outputs hold afterwards, where they are there.
+    /// The contents of the outputs afterwards, if they exist.
     out: Option<&'a str>,
     back: Option<&'a str>,
 }
 
-/// Tests that a name holds this, or nothing.
+/// Tests that a name has this text, or no file.
 fn holds(rt: &(impl Abort + AllocGlobal), shelf: &mut MemShelf, name: &str, want: Option<&str>) {
     let is_wanted = match (shelf.fetch(rt.alloc(), name, 99), want) {
         (Ok(bytes), Some(want)) => bytes.as_slice() == want.as_bytes(),

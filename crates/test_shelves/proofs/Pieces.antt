@@ -7,7 +7,7 @@ use Rattle.tc_io.proofs.Pieces.{none_taken}
 use Rattle.test_shelves.specs.Mem.{tells_with}
 use Rattle.test_shelves.specs.Readings.{PlainReading}
 
--- the bytes in the buffer are those that come next
+-- the bytes in the buffer are the next ones of the file
 module _ (held : Files) (taken now : ℕ) (faults : PlainFaults) (r later : PlainReading) (bytes buf : List ℕ) (count : ℕ) where
   from_open : bytes ≡ bytes_at held r.name → 0 < length buf → count ≡ min (length (drop r.given bytes)) (length buf)
       → take count buf ≡ take count (drop r.given bytes) → later ≡ record r { given = r.given + count } → now ≡ counted_on taken count
@@ -29,7 +29,7 @@ module _ (held : Files) (taken now : ℕ) (faults : PlainFaults) (r later : Plai
             nil_from_length _ (ap length (sym rest) ∙ ap (λ n. length (drop n bytes)) (omega (arith, zero)) ∙ gone),
       )
 
-  -- the same, from what the parts are
+  -- the same, from the parts
   pub gave_piece : (reading : Option PlainReading) (files : Files) (as_before : PlainFaults) → files ≡ held → as_before ≡ faults → reading ≡ Some r
       → bytes ≡ bytes_at files r.name → 0 < length buf → count ≡ min (length (drop r.given bytes)) (length buf)
       → take count buf ≡ take count (drop r.given bytes) → later ≡ record r { given = r.given + count } → now ≡ counted_on taken count

@@ -1,4 +1,4 @@
--- What is a thread's own, by its marks.
+-- What a thread owns, by its marks.
 use Rattle.std.proofs.Common.{◌≡◌, ◌∙◌, ℕ, zero, suc, Bool, false, List, ◌∷◌, map, replicate, ap, refl, sym}
 use Rattle.std.specs.Prelude.{slice_set}
 use Rattle.std.proofs.lemmas.List.{map-set}
@@ -13,7 +13,7 @@ none_joined : (n : ℕ) → map can_be_joined (replicate n Unset) ≡ replicate 
 none_joined zero = refl
 none_joined (suc n) = ap (λ bs. false ∷ bs) (none_joined n)
 
--- at the start
+-- a thread without marks owns nothing
 pub none_marked : (code : Code) (f : ℕ) → nothing_own code f ≡ own_of (unmarked code f)
 none_marked code f =
     ap (λ (joinable : List Bool). let new : Own = record { held = replicate code.mutexes false; joinable = joinable } in new)

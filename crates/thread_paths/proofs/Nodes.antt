@@ -1,4 +1,4 @@
--- One way down, node by node.
+-- One descent, node by node.
 use Rattle.std.proofs.Common.{◌≡◌, ◌∙◌, ℕ, zero, suc, ◌+◌, ◌<◌, ◌≤◌, inl, inr, Bool, true, false, not, ◌&&◌, List, [], ◌∷◌, ◌++◌, length, get_or}
 use Rattle.std.proofs.Common.{Some, None, refl, ap, sym, subst, arith, append_assoc, append-nil, add-zero, zero-add, eq-eqb}
 use Rattle.std.specs.Prelude.{◌⊎◌, ◌==◌, nat_le, if◌then◌else◌}
@@ -27,7 +27,7 @@ use Rattle.thread_paths.proofs.Outcomes.{all_from, behind_from, front_from, behi
 abbrev to : ℕ → List Bool → Onward
 to k outcomes = record { place = k; outcomes = outcomes }
 
--- one that isn't a branch leads on with the same outcomes
+-- an instruction that isn't a branch leads on with the same outcomes
 plainly : (k : ℕ) (i : Instr) (b : Bool) (r : List Bool) → is_branch i ≡ false → onward k i r ≡ Some (to (place_after k i b) r)
 plainly k (Branch e at) b r is = absurd cc
 plainly k (Goto at) b r is = refl
@@ -70,7 +70,7 @@ module _ (code : Code) (f : ℕ) (aim : Aim) where
           ap (λ x. option_map_or (λ j. option_map_or (on_by m t j) (onward k j o) false) x false) at
           ∙ ap (λ x. option_map_or (on_by m t i) x false) leads
 
--- The outcomes that an instruction takes, the next of some: one or none.
+-- The outcomes that an instruction uses: one or none.
 
 -- later outcomes that begin with these
 pub record Follows (piece rest : List Bool) (least : ℕ) (later : List Bool) (s : ℕ) : Type 0 where
@@ -139,12 +139,12 @@ module _ (code : Code) (scope : Scope) where
   abbrev ways : ℕ → List Bool → Bool
   ways n outcomes = goes code scope.function scope.aim n (unmarked code scope.function) 0 outcomes
 
-  -- what is said of a path, said of its parts
+  -- a fact of a path from the facts of its parts
   of_parts : (q outcomes : List Bool) (s n : ℕ) → q ≡ outcomes → s ≡ suc n → takes code scope q s ≡ ways n outcomes
   of_parts q outcomes s n is steps = ap (λ x. takes code scope x s) is ∙ ap (takes code scope outcomes) steps
 
   module _ (start : List Bool) (first n : ℕ) where
-    -- a false more
+    -- one more false
     module _ (i : Instr) (at at' : At) (o o' : List Bool) (own : Own) (node : IsNode code scope start first n at o own)
         (there : instr_at code scope.function at.place ≡ Some i) (pushed : IsPushed scope.most i at o o' at') where
       no_rest : (rest : List Bool) → o ≡ node.done ++ rest → rest ≡ []
@@ -203,7 +203,7 @@ module _ (code : Code) (scope : Scope) where
       }
 
     module _ (at : At) (o : List Bool) (own : Own) (node : IsNode code scope start first n at o own) where
-      -- nothing goes on, but for what has an excuse
+      -- no path goes on, except those with an excuse
       spent_by : (Excused : List Bool → ℕ → Type 0)
           → ((q : List Bool) (s : ℕ) → takes code scope q s ≡ true → Passes n node.done node.rest at.least q s → Excused q s)
           → (q : List Bool) (s : ℕ) → takes code scope q s ≡ true → (leaves_behind o q ≡ true) ⊎ Passes n node.done node.rest at.least q s
@@ -284,7 +284,7 @@ module _ (code : Code) (scope : Scope) where
         leads : (r : List Bool) → onward at.place i (piece_is.piece ++ r) ≡ Some (to next.place r)
         leads r = piece_is.leads r ∙ ap (λ k. Some (to k r)) place_is
 
-        -- a path that passes leaves the way, ends here or goes further
+        -- a path that passes leaves the descent, ends here or goes further
         record Further (q : List Bool) (s : ℕ) : Type 0 where
           pub can : excludes node.marks i false ≡ false
           pub passes : Passes (n + 1) done piece_is.after at.least q s

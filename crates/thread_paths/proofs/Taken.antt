@@ -1,4 +1,4 @@
--- The paths that a thread may take, told by their places and told step by step.
+-- The search by steps and the search by places find the same paths that a thread may take.
 use Rattle.std.proofs.Common.{◌≡◌, ◌∙◌, ℕ, zero, suc, ◌+◌, ◌-◌, ◌==◌, Bool, true, false, not, ◌&&◌, ◌||◌, List, [], ◌∷◌, length}
 use Rattle.std.proofs.Common.{Option, Some, None, Result, Ok, Err, refl, ap, sym, arith, unwrap_or}
 use Rattle.std.specs.Prelude.{slice_get, if◌then◌else◌}
@@ -23,7 +23,7 @@ use Rattle.thread_paths.specs.declared.aim.Scope.{Scope}
 use Rattle.thread_paths.specs.helpers.Descents.{ends_with, is_last, goes, stays, takes}
 use Rattle.thread_paths.proofs.Nodes.{goes_nowhere, goes_short, goes_last, goes_more}
 
--- the last of a place and those after it
+-- the last of one place and the places after it
 abbrev last_of : ℕ → List ℕ → ℕ
 last_of k [] = k
 last_of k (p ∷ ps) = last_of p ps
@@ -61,7 +61,7 @@ module _ (code : Code) (f : ℕ) (aim : Aim) where
   abbrev fails_by : ℕ → List ℕ → Bool
   fails_by k ps = aim.may_fail && is_site (last_instr k ps)
 
-  -- whether a way of these places, the first of which is k, is one that a thread may take, and ends as it should
+  -- whether a thread may take a path with these places, of which k is the first, to its proper end
   abbrev judged : Marks → ℕ → ℕ → Result (List ℕ) Misfit → Bool
   judged t number to (Ok []) = false
   judged t number to (Ok (k ∷ ps)) =
@@ -90,7 +90,7 @@ module _ (code : Code) (f : ℕ) (aim : Aim) where
         one_by false = ap (λ x. not (excludes t x false || false) && ends_with code f aim.end x place) (sym instr_is)
     one_place (b ∷ last) place = refl
 
-    -- a step more
+    -- one more step
     more_places : (n : ℕ) (on : Onward) (r : Result (List ℕ) Misfit) (to : ℕ) → places_from code f (suc n) on.place on.outcomes ≡ r
         → (not (excludes t i false) && judged (marked t i) (number + 1) to r) ≡ judged t number to (before k r)
     more_places n on (Err e) to is = and_none (not (excludes t i false))
@@ -109,7 +109,7 @@ module _ (code : Code) (f : ℕ) (aim : Aim) where
             ap (λ v. fails_by p ps && v) (ne_eqb (length (steps_at code f (p ∷ ps))) 0 (λ e. absurd (omega (arith, e)))) ∙ and_none (fails_by p ps)
 
   module _ (t : Marks) (k : ℕ) (o : List Bool) (number : ℕ) where
-    -- of no instruction or outcome
+    -- without an instruction
     told_past : (n : ℕ) → instr_at code f k ≡ None → Told n t k o number
     told_past n at =
         goes_nowhere code f aim n t k o at ∙ sym (ap (judged t number (end_from code f (suc n) k o)) (past_exit code f (suc n) k o (omega arith) at))
@@ -159,12 +159,12 @@ module _ (code : Code) (f : ℕ) (aim : Aim) where
       next_of None at = told_past (suc n) at
       next_of (Some i) at = next_by i at (onward k i o) refl
 
-  -- step by step and by places the same paths are told
+  -- the search by steps finds a path if and only if the search by places does
   pub told : (n : ℕ) (t : Marks) (k : ℕ) (o : List Bool) (number : ℕ) → Told n t k o number
   told zero t k o number = first_of t k o number (instr_at code f k) refl
   told (suc n) t k o number = next_of t k o number n (told n) (instr_at code f k) refl
 
-  -- Ends, by the places.
+  -- The end of a path, by its places.
 
   fails_is : (k : ℕ) (ps : List ℕ) → fails_at_end code f aim (k ∷ ps) ≡ fails_by k ps
   fails_is k ps = ap (λ x. aim.may_fail && option_map_or (λ j. is_site (step_at code f j).instr) x false) (get_last k ps)
@@ -228,7 +228,7 @@ module _ (code : Code) (scope : Scope) where
         judged_by (Ok (k ∷ ps)) along ∙ ap (λ v. not v && (fails_by code f aim k ps
         || ends_with code f aim.end (last_instr code f aim k ps) (end_from code f (suc n) 0 o))) possible ∙ ends
 
-  -- a path of no steps
+  -- a path without steps
   stays_is : (end : End) → stays code f end ≡ has_end code f end (path [] 0) []
   stays_is Exit = refl
   stays_is Used = refl

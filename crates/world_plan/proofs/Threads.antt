@@ -29,7 +29,7 @@ one_fails : (f : Failing) (t u : ℕ) → has_failed f t ≡ true → has_failed
 one_fails (failing.Thread k) t u a b = eqb-true t k a ∙ sym (eqb-true u k b)
 one_fails failing.Deadlock t u a b = absurd (false≢true a)
 
--- an event fails only where its step is to
+-- no instruction asks for a failure by itself
 no_failure : (m : Marks) (i : Instr) → asks m i ≡ Some kind.Fail → ⊥
 no_failure m Exit e = cc
 no_failure m i e = cc
@@ -45,7 +45,7 @@ module _ (code : Code) (log : Log) (is : is_log log ≡ true) where
       let b = thread_path_at code log u q bt in
       one_place log is t u a.0 b.0 a.1 b.1 (ap (λ (x : Walk). x.name) a.2 ∙ same ∙ sym (ap (λ (x : Walk). x.name) b.2))
 
-  -- a thread fails where the log says so of its place
+  -- a thread fails if the log says so for its place
   pub fails_by_place : (t : ℕ) (q : Walk) → IsThread code log t q → fails_in log q.name ≡ has_failed log.failing t
   fails_by_place t q at =
       let a = thread_path_at code log t q at in
@@ -55,7 +55,7 @@ module _ (code : Code) (log : Log) (is : is_log log ≡ true) where
       → fails_in log q.name ≡ true → t ≡ u
   one_failing t u p q at bt a b = one_fails log.failing t u (sym (fails_by_place t p at) ∙ a) (sym (fails_by_place u q bt) ∙ b)
 
-  -- an event that fails is the last step of the thread that does
+  -- an event that fails is the last step of the failing thread
   pub fail_is_last : Fits code log → (t : ℕ) (q : Walk) (x : Event) → IsThread code log t q → Contains q.events x → x.kind ≡ kind.Fail
       → (fails_in log q.name ≡ true) × (x.step + 1 ≡ length q.places)
   fail_is_last fits t q x there i fail =

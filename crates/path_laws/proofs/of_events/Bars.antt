@@ -36,7 +36,7 @@ abbrev is_bar : Instr → Bool
 is_bar Stbar = true
 is_bar _ = false
 
--- a bar is one instruction's
+-- only one instruction is a bar
 stbar_is : (i : Instr) → is_bar i ≡ true → i ≡ Stbar
 stbar_is Stbar e = refl
 stbar_is i e = absurd (true≢false (sym e))
@@ -55,14 +55,14 @@ bar_is t (Nonzero x) e = absurd (site_is_no_bar _ e)
 bar_is t (InRange x) e = absurd (site_is_no_bar _ e)
 bar_is t i e = absurd cc
 
--- it adds one, and nothing else does
+-- a bar adds one, and nothing else does
 bars_more : (m : Marks) (i : Instr) → (marked m i).bars ≡ m.bars + cond (is_bar i) 1 0
 bars_more m Stbar = refl
 bars_more m i = omega arith
 
 -- The bars before a step.
 
--- what is at a place within a list
+-- there is an element at each place within a list
 there : {X : Type 0} (xs : List X) (k : ℕ) → k < length xs → (x : X) × (slice_get xs k ≡ Some x)
 there xs k few = elim (slice_get_cases xs k).1 [ inl is ↦ (is.0, is.2) | inr past ↦ absurd (omega (arith, few, past.0)) ]
 
@@ -79,7 +79,7 @@ module _ (m : Marks) (ss : List Step) where
       ∙ ap (λ (x : Marks). x.bars) (marks-append m (take k ss) (s ∷ []))
       ∙ bars_more (marks_after m (take k ss)) s.instr
 
-  -- as many where no bar stands between
+  -- two places have the same number of bars before them if there is no bar between
   bars_same : (d a : ℕ) → a + d ≤ length ss → ((i : ℕ) (s : Step) → a ≤ i → i < a + d → slice_get ss i ≡ Some s → is_bar s.instr ≡ false)
       → bars_at (a + d) ≡ bars_at a
   bars_same zero a few none = let same : a + 0 ≡ a = omega arith in ap bars_at same
@@ -90,7 +90,7 @@ module _ (m : Marks) (ss : List Step) where
       let no = none (a + d) s.0 (omega arith) (omega arith) s.1 in
       ap bars_at next ∙ bars_next (a + d) s.0 s.1 ∙ ap₂ (λ x b. x + cond b 1 0) rest no ∙ omega arith
 
-  -- never fewer
+  -- there are never fewer bars later
   bars_rise : (d a : ℕ) → a + d ≤ length ss → bars_at a ≤ bars_at (a + d)
   bars_rise zero a few = let same : a ≡ a + 0 = omega arith in let e = ap bars_at same in omega (arith, e)
   bars_rise (suc d) a few =
@@ -100,7 +100,7 @@ module _ (m : Marks) (ss : List Step) where
       let one = ap bars_at next ∙ bars_next (a + d) s.0 s.1 in
       omega (arith, rest, one)
 
-  -- and more behind a bar
+  -- there are more bars after a bar
   bars_grow : (a i b : ℕ) (s : Step) → a ≤ i → i < b → b ≤ length ss → slice_get ss i ≡ Some s → is_bar s.instr ≡ true → bars_at a < bars_at b
   bars_grow a i b s lo hi few at bar =
       let one = bars_next i s at ∙ ap (λ x. bars_at i + cond x 1 0) bar in
@@ -139,7 +139,7 @@ is_between n j i k took other lo hi =
     ∙ ap (λ b. true && b && nat_lt i k) (lt-ltb j i lo)
     ∙ ap (λ b. true && true && b) (lt-ltb i k hi)
 
--- a step that is an event is no bar
+-- a bar that is an event fails
 event_is_no_bar : (m : Marks) (i : Instr) (fails : Bool) (asked : EventKind) → kind_with m i fails ≡ Some asked → is_bar i ≡ true → fails ≡ true
 event_is_no_bar m i true asked e bar = refl
 event_is_no_bar m i false asked e bar = absurd (none-some asked (ap (λ x. kind_with m x false) (sym (stbar_is i bar)) ∙ e))
@@ -158,7 +158,7 @@ module _ {B : Type 0} (setting : Setting B) (history : HistoryAlong setting) (th
   abbrev start : Marks
   start = unmarked code w.function
 
-  -- a deed's step on the path does the instruction that asks for it
+  -- the path has the instruction of a deed's step
   step_on : (older : List Deed) (i : ℕ) (r : Request) (took : ℤ) (other : Option Name)
       (s : IsStep setting history thread older i r took other)
       → slice_get ss i ≡ Some (record { place = s.next.local.instruction; instr = s.next.instr })
@@ -192,7 +192,7 @@ module _ {B : Type 0} (setting : Setting B) (history : HistoryAlong setting) (th
         (step_on at.older b.number Bar b.took b.other s) (bar_is s.next.local s.next.instr s.asks) in
         omega (arith, grow, x_bars, y_bars)
 
-    -- where none stands in the history none stands on the path
+    -- if the history has no bar between two steps, neither has the path
     no_bar_at : has_bar_between h w.name x.step y.step ≡ false → (i : ℕ) (s : Step) → x.step ≤ i → i < y.step → slice_get ss i ≡ Some s
         → is_bar s.instr ≡ true → ⊥
     no_bar_at none i s lo hi at bar = by (nat_lt x.step i) refl

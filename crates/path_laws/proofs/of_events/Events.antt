@@ -37,7 +37,7 @@ use Rattle.path_laws.proofs.of_events.Steps.{step_is}
 abbrev the_done : EventDone → EventDone
 the_done e = e
 
--- a deed is a thread's step of a number, and asks this
+-- a deed is the step of a thread with this number, and has this kind
 record IsDeedOf (d : Deed) (n : Name) (k : ℕ) (asked : EventKind) : Type 0 where
   request : Request
   took : ℤ
@@ -45,7 +45,7 @@ record IsDeedOf (d : Deed) (n : Name) (k : ℕ) (asked : EventKind) : Type 0 whe
   is : d ≡ Did n k request took other
   asks : kind_of request other ≡ Some asked
 
--- so is one that tells of an event
+-- a deed that gives an event is the step of that event
 deed_tells : (n : Name) (d : Deed) (e : EventDone) → event_by n d ≡ Some e → IsDeedOf d n e.step e.kind
 deed_tells n (Drained q k c v) e told = absurd (none-some e told)
 deed_tells n (Did q k r v o) e told = by (same n q) refl told
@@ -68,7 +68,7 @@ deed_tells n (Did q k r v o) e told = by (same n q) refl told
     by true s m = asked_by (kind_of r o) refl s m
     by false s m = absurd (none-some e m)
 
--- where it stands in a history, that is done
+-- the event of a deed in a history is done in that history
 done_by : (h : List Deed) (d : Deed) (n : Name) (k : ℕ) (asked : EventKind) → In d h → IsDeedOf d n k asked → IsDoneIn h n k asked
 done_by h d n k asked i e =
     let s = in_split d h i in
@@ -109,7 +109,7 @@ module _ {B : Type 0} (setting : Setting B) (history : HistoryAlong setting) (th
   abbrev k : IsWalk code log w
   k = walk_is code log is fits thread
 
-  -- a thread that has done a step is there
+  -- a thread that has done a step exists
   pub there_by_step : 0 < steps_in h w.name → (t : Thread B) × (fin.get r.state.threads w.name ≡ Some t)
   there_by_step some = by (fin.get r.state.threads w.name) refl
     where
@@ -117,7 +117,7 @@ module _ {B : Type 0} (setting : Setting B) (history : HistoryAlong setting) (th
       by None none = absurd (omega (arith, some, none_done ops code r.state h w.name r.told.tells.deeds.buffers.threads none))
       by (Some t) here = (t, here)
 
-  -- its events so far
+  -- the events of a thread so far
   told_events : (t : Thread B) → fin.get r.state.threads w.name ≡ Some t → filter_map (event_by w.name) h ≡ events_before (steps_in h w.name) w.events
   told_events t here =
       let p = k.thread in
@@ -135,7 +135,7 @@ module _ {B : Type 0} (setting : Setting B) (history : HistoryAlong setting) (th
       let from = from_mapped (event_by w.name) (done_as x) h told in
       done_by h from.of w.name x.step x.kind from.there (deed_tells w.name from.of (done_as x) from.gives)
 
-  -- a step that asks something is an event
+  -- a step that has a kind is an event
   pub done_event : (n : ℕ) (asked : EventKind) → IsDoneIn h w.name n asked
       → (x : Event) × In x w.events × (x.step ≡ n) × (x.kind ≡ asked) × (n < steps_in h w.name)
   done_event n asked d =
@@ -151,7 +151,7 @@ module _ {B : Type 0} (setting : Setting B) (history : HistoryAlong setting) (th
       let kept = from_filter (λ (e : Event). nat_lt e.step (steps_in h w.name)) from.0 w.events from.1 in
       (from.0, kept.0, ap (λ (e : EventDone). e.step) from.2, ap (λ (e : EventDone). e.kind) from.2, s.done)
 
-  -- where all steps are done all events are
+  -- if all steps are done, all events are
   pub whole_events : is_thread_in h w.name ≡ true → HasDoneAll h w → filter_map (event_by w.name) h ≡ map done_as w.events
   whole_events is_there done =
       let t = thread_of machine log h r w.name is_there in

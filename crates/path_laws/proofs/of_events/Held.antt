@@ -1,4 +1,4 @@
--- What a thread of a run holds is told by the events of its path so far.
+-- The events of a thread's path so far determine what it holds in a run.
 use Rattle.std.proofs.Common.{◌≡◌, ◌∙◌, ℕ, ◌+◌, ◌≤◌, ◌<◌, Bool, true, false, List, [], ◌∷◌, ◌++◌, length, take}
 use Rattle.std.proofs.Common.{Option, sym, ap, subst, arith, slice_index_or}
 use Rattle.std.specs.Prelude.{unwrap_or}
@@ -25,7 +25,7 @@ use Rattle.path_laws.proofs.of_events.Sites.{walk_fails_at_site}
 use Rattle.path_laws.specs.history.Along.{HistoryAlong, PathThread}
 use Rattle.path_laws.proofs.of_history.Told.{its_run}
 
--- where a thread stands, also after it failed, it has what the marks of its path so far say
+-- a thread, also one that has failed, has the marks of its path so far
 stands_marks : (code : Code) (b : Bool) (t : Local) (ps : List ℕ) → Stands code b t ps
     → HasMarks t (marks_after (unmarked code t.function) (steps_at code t.function ps))
 stands_marks code false t ps h = h.marks
@@ -59,7 +59,7 @@ module _ {B : Type 0} (setting : Setting B) (history : HistoryAlong setting) (th
       (subst (λ ps. HasMarks t.local (marks_after (unmarked code t.local.function) (steps_at code t.local.function (take n ps)))) k.places
       (stands_marks code (fails_by failed w.name) t.local _ k.so.stands)))
 
-  -- so it holds a mutex where the last of these events that is about it takes it
+  -- a thread holds a mutex if the last of these events on the mutex acquires it
   pub holds_told : (m : ℕ) → m < code.mutexes → holds t.local m ≡ unwrap_or (held_upto m t.local.steps w.events) false
   holds_told m within =
       let n = t.local.steps in

@@ -33,7 +33,7 @@ module _ (code : Code) (f : ℕ) (fails : Bool) where
   abbrev pub events_from : ℕ → Marks → List Step → List Event
   events_from j m ss = events_of code f (marked_from fails j m ss)
 
-  -- the event of a step, by what it asks
+  -- the event of a step, by its kind
   abbrev pub event_at : ℕ → Step → Marks → EventKind → Event
   event_at j s m asked = record { step = j; line = unwrap_or (line_at code f s.place) 0; kind = asked; bars = m.bars }
 
@@ -62,7 +62,7 @@ module _ (code : Code) (f : ℕ) (fails : Bool) where
       by (Some asked) e (inl same) rest = subst (IsEventAt fails j m (s ∷ ss)) same (here asked e)
       by (Some asked) e (inr i) rest = rest i
 
-  -- a step that asks something is an event
+  -- a step with the kind of an event is an event
   pub event_there : (j : ℕ) (m : Marks) (ss : List Step) (k : ℕ) (s : Step) (asked : EventKind) → slice_get ss k ≡ Some s
       → kind_with (marks_after m (take k ss)) s.instr (fails && length (drop (suc k) ss) == 0) ≡ Some asked
       → In (event_at (j + k) s (marks_after m (take k ss)) asked) (events_from j m ss)
@@ -76,7 +76,7 @@ module _ (code : Code) (f : ℕ) (fails : Bool) where
   none_earlier j m ss =
       each_of (λ x. j ≤ x.step) (events_from j m ss) (λ x i. let e = event_is_at j m ss x i in omega (arith, e.number))
 
-  -- and their steps rise
+  -- the steps of events rise
   pub events_rise : (j : ℕ) (m : Marks) (ss : List Step) → Rising (events_from j m ss)
   events_rise j m [] = tt
   events_rise j m (s ∷ ss) = by (kind_with m s.instr (fails && length ss == 0)) (events_rise (j + 1) (marked m s.instr) ss)

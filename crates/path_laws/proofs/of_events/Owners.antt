@@ -1,4 +1,4 @@
--- Who owns a mutex is told by the regions of paths.
+-- The regions of paths determine who owns a mutex.
 use Rattle.std.proofs.Common.{◌≡◌, ◌↔◌, ◌∙◌, inl, inr, ℕ, suc, ◌<◌, ℤ, Bool, true, false, cond, ◌==◌, ◌&&◌, length, take, drop, List, [], ◌∷◌, ◌++◌}
 use Rattle.std.proofs.Common.{Option, Some, None, refl, sym, ap, subst, arith}
 use Rattle.std.specs.Prelude.{unwrap_or, option_map}
@@ -39,7 +39,7 @@ use Rattle.path_laws.proofs.of_events.Regions.{held_upto, to_region, from_region
 use Rattle.path_laws.proofs.of_events.Sites.{takes_by, taken_within}
 use Rattle.path_laws.proofs.of_events.Held.{holds_told}
 
--- a deed that takes a mutex
+-- a deed that acquires a mutex
 record IsTaking (m : ℕ) (n : Name) (d : Deed) : Type 0 where
   number : ℕ
   request : Request
@@ -88,7 +88,7 @@ taking m n (Did q k (BeginWait c l) took other) e = absurd (left_so m l n e)
 taking m n (Did q k Silent took other) e = absurd (none-some (Some n) e)
 taking m n d e = absurd (none-some (Some n) e)
 
--- the region of an event that takes a mutex
+-- the region of an event that acquires a mutex
 abbrev region_at : Event → List Event → ℕ → Region
 region_at x later l = record { mutex = l; «from» = x.step; to = left_at l later }
 
@@ -116,7 +116,7 @@ module _ {B : Type 0} (setting : Setting B) (history : HistoryAlong setting) whe
   abbrev r : RunOf machine log h
   r = its_run setting history
 
-  -- the deed by which an owner took a mutex
+  -- the deed by which an owner acquired a mutex
   pub record TookIt (m : ℕ) (n : Name) : Type 0 where
     pub within : m < code.mutexes
     pub thread : IsNameOfThread code log n
@@ -143,7 +143,7 @@ module _ {B : Type 0} (setting : Setting B) (history : HistoryAlong setting) whe
     abbrev n : Name
     n = w.name
 
-    -- a region is of a mutex that is there
+    -- the mutex of a region exists
     region_within : (g : Region) → In g w.regions → g.mutex ≡ m → m < code.mutexes
     region_within g i mutex =
         let e = region_event w.events g (subst (In g) k.regions i) in

@@ -1,4 +1,5 @@
--- A thread has a mutex, by the steps that it has done, exactly where a region of its path is open after them.
+-- After some steps of its path, a thread holds a mutex exactly if a region of the path is open
+-- then.
 use Rattle.std.proofs.Common.{◌≡◌, ◌∙◌, inl, inr, ℕ, zero, suc, ◌+◌, ◌-◌, ◌≤◌, ◌<◌, Bool, true, false, cond, ◌==◌, ◌&&◌, List, [], ◌∷◌, length, take}
 use Rattle.std.proofs.Common.{Option, Some, None, refl, sym, ap, ap₂, subst, arith, true≢false}
 use Rattle.std.specs.Prelude.{slice_get, nat_lt, unwrap_or, option_map, option_and_then}
@@ -24,7 +25,7 @@ use Rattle.path_walk.specs.declared.event.Region.{Region}
 use Rattle.path_laws.specs.events.Done.{IsOpenAfter}
 use Rattle.path_laws.proofs.of_events.Marked.{events_from, none_earlier, Rising}
 
--- the thread fails, if it does, at a site, in its last step
+-- if the thread fails, it does so at a site, in its last step
 abbrev pub FailsAtSite : Bool → List Step → Type 0
 FailsAtSite b [] = Unit {0}
 FailsAtSite b (s ∷ []) = b ≡ true → is_site s.instr ≡ true
@@ -46,7 +47,7 @@ site_later : (b : Bool) (s : Step) (ss : List Step) → FailsAtSite b (s ∷ ss)
 site_later b s [] h = tt
 site_later b s (t ∷ ss) h = h
 
--- a site marks nothing
+-- a site changes no mark
 pub site_marks : (m : Marks) (i : Instr) → is_site i ≡ true → marked m i ≡ m
 site_marks m (Inside len e) h = refl
 site_marks m (Holds k) h = refl
@@ -56,7 +57,7 @@ site_marks m (Nonzero e) h = refl
 site_marks m (InRange e) h = refl
 site_marks m i h = absurd (true≢false (sym h))
 
--- the marks have as many mutexes after each instruction
+-- each instruction keeps the number of marks for mutexes
 held_long : (t : Marks) (i : Instr) → length (marked t i).held ≡ length t.held
 held_long t (Lock l) = length-set t.held l true
 held_long t (Unlock l) = length-set t.held l false
@@ -68,11 +69,11 @@ module _ (m : ℕ) where
   abbrev is_it : Option ℕ → Bool
   is_it o = option_map_or (λ l. l == m) o false
 
-  -- whether an event takes the mutex, or leaves it
+  -- whether an event acquires the mutex (true) or releases it (false)
   abbrev hold : EventKind → Option Bool
   hold k = cond (is_it (takes k)) (Some true) (cond (is_it (leaves k)) (Some false) None)
 
-  -- what the last of the events before a step that does either does
+  -- the effect on the mutex of the last event before a step that has one
   abbrev pub held_upto : ℕ → List Event → Option Bool
   held_upto n [] = None
   held_upto n (e ∷ es) = option_or (held_upto n es) (cond (nat_lt e.step n) (hold e.kind) None)
@@ -81,7 +82,7 @@ module _ (m : ℕ) where
   either true c d = refl
   either false c d = refl
 
-  -- a step does to the marks what its event does
+  -- a step changes the marks as its event does
   mutex_step : (t : Marks) (i : Instr) (fails : Bool) → (fails ≡ true → is_site i ≡ true) → m < length t.held
       → unwrap_or (option_and_then hold (kind_with t i fails)) (has_mutex t m) ≡ has_mutex (marked t i) m
   mutex_step t i true site within = ap (λ (x : Marks). has_mutex x m) (sym (site_marks t i (site refl)))
@@ -91,7 +92,7 @@ module _ (m : ℕ) where
   mutex_step t (Wake c l) false site within = either (l == m) true (has_mutex t m) ∙ sym (index_or-set t.held l m true false within)
   mutex_step t i false site within = refl
 
-  -- no event before the first step
+  -- no event comes before the first step
   none_held : (n : ℕ) (es : List Event) → Each (λ x. n ≤ x.step) es → held_upto n es ≡ None
   none_held n [] each = refl
   none_held n (e ∷ es) each =
@@ -109,7 +110,7 @@ module _ (m : ℕ) where
   unwrap_both None y d = refl
   unwrap_both (Some b) y d = refl
 
-  -- so the marks tell what the events do
+  -- the marks are as the events leave them
   pub held_is : (code : Code) (f : ℕ) (b : Bool) (j : ℕ) (t : Marks) (ss : List Step) (k : ℕ) → m < length t.held → k ≤ length ss → FailsAtSite b ss
       → has_mutex (marks_after t (take k ss)) m ≡ unwrap_or (held_upto (j + k) (events_from code f b j t ss)) (has_mutex t m)
   held_is code f b j t ss zero within few site =
@@ -131,7 +132,7 @@ module _ (m : ℕ) where
 
   -- Open regions.
 
-  -- the region of an event that takes a mutex
+  -- the region of an event that acquires a mutex
   abbrev region_at : Event → List Event → ℕ → Region
   region_at e later l = record { mutex = l; «from» = e.step; to = left_at l later }
 
@@ -175,12 +176,12 @@ module _ (m : ℕ) where
       by true e = none-some true (sym e)
       by false e = none-some false (sym e)
 
-  -- parts of an option of which neither is there
+  -- if the first of two options or else the second is none, both are
   neither : (x y : Option Bool) → option_or x y ≡ None → (x ≡ None) × (y ≡ None)
   neither None y e = (refl, e)
   neither (Some b) y e = absurd (none-some b (sym e))
 
-  -- where no event before a step does anything, the first that leaves the mutex isn't before it
+  -- if no event before a step has an effect, the first release isn't before it
   none_left : (n : ℕ) (es : List Event) (j : ℕ) → held_upto n es ≡ None → left_at m es ≡ Some j → n ≤ j
   none_left n [] j none left = absurd (none-some j left)
   none_left n (e ∷ es) j none left =
@@ -216,7 +217,7 @@ module _ (m : ℕ) where
       by (Some true) is e rest = further n x es (rest is)
       by (Some false) is e rest = absurd (true≢false (sym (same_Some false true e)))
 
-  -- the first step that leaves it is one of the events'
+  -- the first step that releases the mutex is that of an event
   left_in : (es : List Event) (j k : ℕ) → left_at m es ≡ Some j → Each (λ y. k < y.step) es → k < j
   left_in [] j k left each = absurd (none-some j left)
   left_in (e ∷ es) j k left each = by (is_it (leaves e.kind)) left (λ l. left_in es j k l each.1)
@@ -225,7 +226,7 @@ module _ (m : ℕ) where
       by true left rest = subst (λ i. k < i) (same_Some e.step j left) each.0
       by false left rest = rest left
 
-  -- where none leaves it before a step, the last before it isn't one that does
+  -- if no event before a step releases the mutex, the last effect before it isn't a release
   never_left : (n : ℕ) (es : List Event) → Rising es → ((j : ℕ) → left_at m es ≡ Some j → n ≤ j) → held_upto n es ≡ Some false → ⊥
   never_left n [] rise lasts e = none-some false e
   never_left n (x ∷ es) rise lasts e = by (held_upto n es) refl e (λ later. never_left n es rise.1 later)
@@ -256,7 +257,7 @@ module _ (m : ℕ) where
       by (takes x.kind) refl o.there
       (λ i. from_region n es rise.1 (record { region = o.region; there = i; mutex = o.mutex; open_after = o.open_after }))
     where
-      -- the last of the later ones is none, or takes it
+      -- the last later event with an effect is none, or acquires the mutex
       last_by : (y : Option Bool) → held_upto n es ≡ y → ((j : ℕ) → left_at m es ≡ Some j → n ≤ j) → option_or y (Some true) ≡ Some true
       last_by None e lasts = refl
       last_by (Some true) e lasts = refl

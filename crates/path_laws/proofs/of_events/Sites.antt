@@ -1,4 +1,4 @@
--- The failing step of a path is a site, and the mutexes of its steps are there.
+-- The failing step of a path is a site, and the mutexes of its steps exist.
 use Rattle.std.proofs.Common.{◌≡◌, ◌∙◌, ℕ, ◌+◌, ◌-◌, ◌<◌, ◌==◌, ◌&&◌, Bool, true, false, cond, List, length, Option, Some, None, Result, Ok, Err}
 use Rattle.std.proofs.Common.{refl, sym, ap, subst, arith, true≢false}
 use Rattle.std.specs.Prelude.{slice_get, unwrap_or, option_map, nat_lt}
@@ -40,7 +40,7 @@ ends_so code f Fails p ps told fails = by (ends_at_site code f ps) told
     by true e = refl
     by false e = absurd cc
 
--- an instruction takes a mutex
+-- an instruction acquires this mutex
 pub data TakesMutex (i : Instr) (m : ℕ) : Type 0 where
   By_lock : i ≡ Lock m → TakesMutex i m
   By_wake : (c : ℕ) → i ≡ Wake c m → TakesMutex i m
@@ -53,7 +53,7 @@ takes_by t (Wake c l) false k m is takes_it =
     let same : Some l ≡ takes k = ap (λ x. option_map_or takes x None) is in By_wake c (ap (Wake c) (same_Some l m (same ∙ takes_it)))
 takes_by t i false k m is takes_it = let none : None ≡ takes k = ap (λ x. option_map_or takes x None) is in absurd (none-some m (none ∙ takes_it))
 
--- which is there
+-- the mutex that an instruction acquires exists
 instr_within : (code : Code) (f p : ℕ) (i : Instr) (m : ℕ) → IsLawful code → instr_at code f p ≡ Some i → TakesMutex i m → m < code.mutexes
 instr_within code f p i m lawful at (By_lock is) =
     let at_lock = at ∙ ap (λ x. Some x) is in
@@ -90,7 +90,7 @@ module _ (code : Code) (log : Log) (w : Walk) (k : IsWalk code log w) where
   pub walk_fails_at_site : FailsAtSite (fails_in log w.name) walk_steps
   walk_fails_at_site = fails_at_site (fails_in log w.name) walk_steps last_site
 
-  -- so is the instruction at the place of that step
+  -- the instruction at the place of that step is a site
   pub last_is_site : (n p : ℕ) (i : Instr) → slice_get w.places n ≡ Some p → instr_at code w.function p ≡ Some i
       → (fails_in log w.name && n + 1 == length w.places) ≡ true → is_site i ≡ true
   last_is_site n p i at instr fails =
@@ -99,7 +99,7 @@ module _ (code : Code) (log : Log) (w : Walk) (k : IsWalk code log w) where
       omega (arith, eqb-true (n + 1) (length w.places) both.1, length-map w.places (step_at code w.function)) in
       last_site (record { place = p; instr = i }) (ap (slice_get walk_steps) last ∙ path_step code w n p i at instr) both.0
 
-  -- a step that takes a mutex names one that is there
+  -- the mutex that a step acquires exists
   pub taken_within : IsLawful code → (m place : ℕ) (s : Step) → slice_get walk_steps place ≡ Some s → TakesMutex s.instr m → m < code.mutexes
   taken_within lawful m place s at takes_it = by (slice_get w.places place) (sym (slice_get-map (step_at code w.function) w.places place) ∙ at)
     where

@@ -29,7 +29,7 @@ use Rattle.path_laws.proofs.of_events.Marked.{event_at, events_from}
 
 -- Sleeps begin with events.
 
--- a sleep is begun by an event
+-- an event begins this sleep
 pub record IsSleepOf (x : Event) (c m : ℕ) (s : Sleep) : Type 0 where
   pub step : s.step ≡ x.step
   pub condition : s.condition ≡ c
@@ -53,7 +53,7 @@ sleep_of_event (e ∷ es) x c m (inr i) is =
 
 -- Wakes follow sleeps.
 
--- the step after one that begins a wait wakes from it
+-- the step after one that begins a wait is its wake
 abbrev NextWakes : Step → List Step → Type 0
 NextWakes s [] = Unit {0}
 NextWakes s (t ∷ ss) = (c m : ℕ) → s.instr ≡ instr.Sleep c m → t.instr ≡ instr.Wake c m
@@ -62,7 +62,7 @@ abbrev WakesFollow : List Step → Type 0
 WakesFollow [] = Unit {0}
 WakesFollow (s ∷ ss) = NextWakes s ss × WakesFollow ss
 
--- the second half of a wait stands behind the first
+-- the second half of a wait follows the first
 wake_behind : (code : Code) (f k c m : ℕ) → IsLawful code → instr_at code f k ≡ Some (instr.Sleep c m) → instr_at code f (k + 1) ≡ Some (instr.Wake c m)
 wake_behind code f k c m lawful at =
     let g = placed code f k (instr.Sleep c m) lawful at in
@@ -96,18 +96,18 @@ module _ (code : Code) (lawful : IsLawful code) (f : ℕ) where
       subst (λ xs. WakesFollow (steps_at code f xs)) (sym u.all)
       (next_wakes n k os u.instr u.next u.rest u.at u.leads u.told, wakes_follow n u.next.place u.next.outcomes u.rest u.told)
 
-  -- when a sleep ends, in steps that end before a number
+  -- the end of a sleep, among steps that end before a number
   pub record WakesSo (end : ℕ) (s : Sleep) : Type 0 where
     pub next : (k : ℕ) → s.wake ≡ Some k → k ≡ s.step + 1
     pub last : s.wake ≡ None → s.step + 1 ≡ end
 
-  -- an event that begins a wait is of the first half of one
+  -- an event that begins a wait is the first half of a wait
   sleep_is : (m : Marks) (i : Instr) (fails : Bool) (c l : ℕ) → kind_with m i fails ≡ Some (kind.Sleep c l) → i ≡ instr.Sleep c l
   sleep_is m i true c l e = absurd cc
   sleep_is m (instr.Sleep d n) false c l e = let same : instr.Sleep d n ≡ instr.Sleep c l = cc in same
   sleep_is m i false c l e = absurd cc
 
-  -- a wake is an event, even if it were to fail
+  -- a wake is an event, even as the failing step
   wake_asks : (m : Marks) (c l : ℕ) (fails : Bool) → (k : EventKind) × (kind_with m (instr.Wake c l) fails ≡ Some k)
   wake_asks m c l true = (kind.Fail, refl)
   wake_asks m c l false = (kind.Wake c l, refl)
@@ -156,7 +156,7 @@ module _ (code : Code) (lawful : IsLawful code) (f : ℕ) where
         by None e i rest = rest i
         by (Some k) e i rest = by_kind k e i rest
 
--- so it is on the path of each thread
+-- the sleeps of each thread's path end with their wakes
 pub walk_wakes : (code : Code) (lawful : IsLawful code) (log : Log) (w : Walk) → IsWalk code log w → (s : Sleep) → In s w.sleeps
     → WakesSo code lawful w.function (length w.places) s
 walk_wakes code lawful log w k s i =

@@ -17,14 +17,14 @@ use Rattle.path_laws.proofs.of_history.Next.{next_on_path, asks_told}
 use Rattle.path_laws.specs.history.Along.{HistoryAlong, PathThread}
 use Rattle.path_laws.proofs.of_history.Told.{its_run, up_to}
 
--- how many steps the parts of a history have
+-- the number of steps in two parts of a history
 pub steps_both : (xs ys : List Deed) (n : Name) → steps_in (xs ++ ys) n ≡ steps_in xs n + steps_in ys n
 steps_both xs ys n = sum_by-append (λ d. cond (is_step_of n d) 1 0) xs ys
 
 pub steps_first : (d : Deed) (h : List Deed) (n : Name) → steps_in (d ∷ h) n ≡ cond (is_step_of n d) 1 0 + steps_in h n
 steps_first d h n = sum_by-cons (λ d. cond (is_step_of n d) 1 0) d h
 
--- a step of a thread in a history, after so many others of it
+-- a step of a thread in a history, after `k` others of that thread
 pub record StepAt (h : List Deed) (n : Name) (k : ℕ) : Type 0 where
   pub older : List Deed
   pub newer : List Deed
@@ -80,7 +80,7 @@ module _ {B : Type 0} (setting : Setting B) (history : HistoryAlong setting) (th
   open history use {deeds as h, along}
   open thread use {walk as w}
 
-  -- a deed of a thread is the next step of its path after those before it
+  -- a deed of a thread is the next step of its path after the deeds before it
   pub record IsStep (older : List Deed) (k : ℕ) (r : Request) (took : ℤ) (other : Option Name) : Type 0 where
     pub going : failed_in older ≡ None
     pub may : MayFollow ops.buffered bound code older (Did w.name k r took other)

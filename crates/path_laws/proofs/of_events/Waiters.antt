@@ -1,4 +1,4 @@
--- Who waits, and who has exited, is told by the sleeps and the events of paths.
+-- The sleeps and the events of paths determine who waits and who has exited.
 use Rattle.std.proofs.Common.{◌≡◌, ◌↔◌, ◌∙◌, inl, inr, ℕ, ◌+◌, ◌<◌, ◌==◌, ◌&&◌, ◌||◌, ℤ, Bool, true, false, not, cond, List, [], ◌∷◌, ◌++◌}
 use Rattle.std.proofs.Common.{Option, Some, None, refl, sym, ap, ap₂, subst, arith, append_assoc, true≢false}
 use Rattle.std.specs.Prelude.{is_none, option_map, option_and_then}
@@ -70,7 +70,7 @@ begins_wait c n (Did q k (WakeAll d) took other) e = absurd (begun_so _ e)
 begins_wait c n (Did q k Silent took other) e = absurd (none-some true e)
 begins_wait c n d e = absurd (none-some true e)
 
--- one that does is the last that does or ends one
+-- the deed that begins a sleep still going is the last that begins or ends a wait of the thread
 last_wait : (h older newer : List Deed) (n : Name) (k c m : ℕ) (took : ℤ) (other : Option Name) → h ≡ older ++ Did n k (BeginWait c m) took other ∷ newer
     → filter_map (waits_by c n) newer ≡ [] → IsLast (waits_by c n) h true
 last_wait h older newer n k c m took other there lasts = record {
@@ -82,7 +82,7 @@ last_wait h older newer n k c m took other there lasts = record {
   last = lasts;
 }
 
--- of two parts of which nothing is left nothing is left of the first
+-- if two lists together are empty, the first is empty
 first_nil : {X : Type 0} (xs ys : List X) → xs ++ ys ≡ [] → xs ≡ []
 first_nil [] ys e = refl
 first_nil (x ∷ xs) ys e = absurd cc
@@ -97,7 +97,7 @@ exit_is (Start f) other e = absurd (by (option_and_then (last_or None) other) e)
     by (Some k) e = cc
 exit_is r other e = absurd cc
 
--- a deed that is one
+-- a deed that is an exit
 record IsExit (n : Name) (d : Deed) : Type 0 where
   number : ℕ
   took : ℤ

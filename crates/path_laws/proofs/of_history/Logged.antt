@@ -33,7 +33,7 @@ use Rattle.path_laws.proofs.of_history.Whole.{stands_all, went_all}
 module _ {B : Type 0} (setting : Setting B) where
   open setting use {machine, ops, bound, code, log, log_is as is}
 
-  -- What reproduces a log does all steps of its paths.
+  -- Moves that reproduce a log do all steps of its paths.
   module _ (moves : List Move) (again : Reproduces ops code log moves) where
     -- the history of what reproduces a log
     abbrev pub history_again : HistoryAlong setting
@@ -86,7 +86,7 @@ module _ {B : Type 0} (setting : Setting B) where
     abbrev s : State B
     s = r.state
 
-    -- a thread that is there has gone its whole path
+    -- a thread of the state has gone its whole path
     module _ (n : Name) (t : Thread B) (here : fin.get s.threads n ≡ Some t) where
       abbrev p : IsNameOfThread code log n
       p = named code log is fits n (r.on n t here).path (r.on n t here).there
@@ -108,7 +108,7 @@ module _ {B : Type 0} (setting : Setting B) where
       function_told : function_of code log n ≡ Some t.local.function
       function_told = ap (function_of code log) (sym p.name_is) ∙ k.walk.function ∙ ap (λ f. Some f) (sym k.function)
 
-      -- and its children are there
+      -- the children of a thread exist
       child_there : (j f : ℕ) → child_function code log n t.local.function (suc j) ≡ Some f → (c : Thread B) × (fin.get s.threads (child n (suc j)) ≡ Some c)
       child_there j f creates =
           let g = t.local.function in
@@ -147,7 +147,7 @@ module _ {B : Type 0} (setting : Setting B) where
         let t = some_value (fin.get s.threads []) (main_is_there ops code s (reached machine log h r)) in
         (t.0, ap (fin.get s.threads) main ∙ t.1)
 
-    -- so all threads of the log are there, by the length of their names
+    -- all threads of the log exist, by the length of their names
     there_by : (m : ℕ) (n : Name) (p : Path) → length n ≤ m → path_under n log.threads ≡ Some p → (t : Thread B) × (fin.get s.threads n ≡ Some t)
     there_by zero n p few under =
         elim (parent_of n) [

@@ -35,7 +35,7 @@ use Rattle.path_laws.proofs.of_history.Walks.{IsWalking, walking, walk_is, no_el
 use Rattle.path_laws.proofs.of_history.Places.{IsNextPlace, next_place, marked_at}
 use Rattle.path_laws.specs.history.Along.{HistoryAlong, PathThread}
 
--- a path that isn't dead excludes no step
+-- paths that aren't dead exclude no step
 beq_not : (b fails : Bool) → beq b fails ≡ false → b ≡ not fails
 beq_not true true e = absurd (true≢false e)
 beq_not true false e = refl
@@ -48,7 +48,7 @@ wanted_by t m (Ready v) fails marks e = beq_not _ fails (ap (λ xs. beq (can_be_
 wanted_by t m (Lock k) fails marks e = ap (λ xs. slice_index_or xs k false) (sym marks.held) ∙ e
 wanted_by t m i fails marks e = tt
 
--- what it asks next is told by the history
+-- the history determines the thread's next request
 pub asks_told : (code : Code) (h : List Deed) (w : Walk) (x : IsNextOnPath code h w) → asks_next code h w.name ≡ Some (request x.local x.instr)
 asks_told code h w x =
     ap (option_and_then (λ (l : Local). option_map (request l) (instr_of code l))) x.there ∙ ap (option_map (request x.local)) x.next
@@ -65,7 +65,7 @@ module _ (code : Code) (w : Walk) (k : ℕ) where
       ∙ ap (option_map (step_at code w.function)) at
       ∙ ap (λ o. Some (the_step (record { place = place; instr = unwrap_or o Exit }))) instr
 
-  -- whether it is the last
+  -- whether a step is the last one
   pub last_step : k < length w.places → (length (drop (suc k) (steps_at code w.function w.places)) == 0) ≡ (k + 1 == length w.places)
   last_step few =
       let rest = length-drop (suc k) (steps_at code w.function w.places) in
@@ -85,7 +85,7 @@ module _ {B : Type 0} (setting : Setting B) (history : HistoryAlong setting) (th
   none_failed : r.state.failed ≡ None
   none_failed = r.told.tells.failure ∙ going
 
-  -- a thread that is there stands where the first places of its path lead
+  -- each thread of the state is where the first places of its path lead
   module _ (t : Thread B) (here : fin.get r.state.threads w.name ≡ Some t) where
     abbrev k : IsWalking setting history thread t
     k = walking setting history thread t here
@@ -95,14 +95,14 @@ module _ {B : Type 0} (setting : Setting B) (history : HistoryAlong setting) (th
         subst (λ ps. IsAlong code t.local (take t.local.steps ps)) k.places
         (subst (λ o. Stands code (fails_by o w.name) t.local (take t.local.steps (places_in code log w.name t.local.function))) none_failed k.so.stands)
 
-    -- and has steps left where the history tells so
+    -- a thread has steps left if the history says so
     goes_on : t.local.has_exited ≡ true → (i : Instr) → instr_at code t.local.function t.local.instruction ≡ Some i → ⊥
     goes_on gone i at =
         none-some i
         (sym (none_behind_exit code t.local lawful
         ((exited_past_exit ops code r.state lawful (reached machine log h r) w.name t here).0 gone)) ∙ at)
 
-    -- its place is the next of the path
+    -- the thread's place is the next one of the path
     next_there : t.local.steps < length w.places → IsNextPlace code w.function t.local.steps 0 t.local.outcomes k.so.on.later w.places
     next_there left =
         let f = w.function in
@@ -154,11 +154,11 @@ module _ {B : Type 0} (setting : Setting B) (history : HistoryAlong setting) (th
       by (Some t) here =
           (t, here, same_Some t.local x.local (sym (r.told.tells.locals w.name ∙ ap (option_map (λ (t : Thread B). t.local)) here) ∙ x.there))
 
-  -- its place leaves it steps
+  -- a thread with a next step on its path has steps left
   pub steps_left : (x : IsNextOnPath code h w) → steps_in h w.name < length w.places
   steps_left x = slice_get_within w.places (steps_in h w.name) x.local.instruction x.place
 
-  -- and it goes on by the outcomes that are left
+  -- the next step goes on with the outcomes that are left
   pub next_leads : (x : IsNextOnPath code h w) → (on : Onward) × (onward x.local.instruction x.instr x.later ≡ Some on)
   next_leads x =
       let t = thread_next x in
@@ -175,7 +175,7 @@ module _ {B : Type 0} (setting : Setting B) (history : HistoryAlong setting) (th
   pub along_next : (x : IsNextOnPath code h w) → IsAlong code x.local (take x.local.steps w.places)
   along_next x = let t = thread_next x in subst (λ (l : Local). IsAlong code l (take l.steps w.places)) t.2 (stands t.0 t.1)
 
-  -- the marks that the steps before it made
+  -- the marks after the steps before it
   abbrev marks_now : Local → Marks
   marks_now l = marks_after (unmarked code w.function) (take l.steps (steps_at code w.function w.places))
 
@@ -184,7 +184,7 @@ module _ {B : Type 0} (setting : Setting B) (history : HistoryAlong setting) (th
       subst (λ ss. HasMarks x.local (marks_after (unmarked code w.function) ss)) (sym (take-map (step_at code w.function) x.local.steps w.places))
       (subst (λ f. HasMarks x.local (marks_after (unmarked code f) (steps_at code f (take x.local.steps w.places)))) x.function (along_next x).marks)
 
-  -- whether it is the failing step
+  -- whether the next step is the one that fails
   pub fails_there : (x : IsNextOnPath code h w)
       → (fails_in log w.name && length (drop (suc x.local.steps) (steps_at code w.function w.places)) == 0) ≡ fails_next log h w
   fails_there x =

@@ -48,7 +48,7 @@ use Rattle.path_laws.specs.history.Next.{fails_next, failing_next, IsNextOnPath,
 use Rattle.path_laws.proofs.of_history.Walks.{IsWalk, walk_is}
 use Rattle.path_laws.proofs.of_history.Next.{asks_told, steps_left, along_next}
 
--- What a deed makes of the failure.
+-- The failure after a deed.
 
 failed-push : (h : List Deed) (d : Deed) → failed_in h ≡ None → failed_in (h ++ d ∷ []) ≡ fails d
 failed-push h d none = last_of-push fails h d ∙ ap (option_or (fails d)) none ∙ or_nothing (fails d)
@@ -76,7 +76,7 @@ module _ (code : Code) (log : Log) (fits : Fits code log) where
           let none : p.steps ≡ 0 = sym (eqb-true 0 p.steps e) in
           absurd (fails_nowhere p.outcomes (ap (λ n. ended code f Fails p (places_from code f n 0 p.outcomes)) (sym none) ∙ told))
 
-  -- a thread that has a function is on its path at its beginning
+  -- a thread whose function is known is on its path at its beginning
   pub born_on : (n : Name) (f : ℕ) (vs : List ℤ) → function_of code log n ≡ Some f → IsOnPath log None n (born_local code f vs)
   born_on n f vs function =
       elim (option_is (path_under n log.threads)) [
@@ -94,7 +94,7 @@ module _ (code : Code) (log : Log) (fits : Fits code log) where
             }
       ]
 
-  -- at the start main alone is there
+  -- only main exists at the start
   pub start_on : AreOnPathsIn code log []
   start_on n t at =
       elim (get_put_cases fin.empty [] (born_local code (length code.functions - 1) []) n t at) [
@@ -110,13 +110,13 @@ branch_adds : (t : Local) (b : Bool) (to : ℕ) → (branched t b to).outcomes �
 branch_adds t true to = refl
 branch_adds t false to = refl
 
--- what stands behind the first outcomes
+-- the outcome after the first ones begins the later ones
 head_of : (os later : List Bool) (b : Bool) → slice_get (os ++ later) (length os) ≡ Some b → (rest : List Bool) × (later ≡ b ∷ rest)
 head_of [] [] b at = absurd (none-some b at)
 head_of [] (o ∷ later) b at = (later, ap (λ x. x ∷ later) (same_Some o b at))
 head_of (o ∷ os) later b at = head_of os later b at
 
--- a branch goes by the next outcome, and no other instruction goes by any
+-- a branch uses the next outcome, and no other instruction uses one
 outcomes_moved : (w : Walk) (t : Local) (i : Instr) (v : ℤ) (later : List Bool) → w.outcomes ≡ t.outcomes ++ later → BranchesAlong w t i
     → (rest : List Bool) × (w.outcomes ≡ (local_after t i v).outcomes ++ rest)
 outcomes_moved w t (Branch e to) v later is branch =
@@ -132,7 +132,7 @@ outcomes_left : (w : Walk) (t : Local) (i : Instr) (r : Request) (v : ℤ) (late
 outcomes_left w t i Fail v later is branch = (later, is)
 outcomes_left w t i r v later is branch = outcomes_moved w t i v later is branch
 
--- the threads after a step of a thread
+-- the threads after a thread's step
 after_its_step : (code : Code) (ls : ByName Local) (n : Name) (t : Local) (i : Instr) (k : ℕ) (r : Request) (v : ℤ) (o : Option Name)
     → fin.get ls n ≡ Some t → instr_of code t ≡ Some i
     → after_deed code ls (Did n k r v o) ≡ with_child code n t i r (fin.insert ls n (after_step t i r v))
@@ -140,7 +140,7 @@ after_its_step code ls n t i k r v o here at =
     ap (λ x. option_map_or (λ (l : Local). option_map_or (λ a. with_child code n l a r (fin.insert ls n (after_step l a r v))) (instr_of code l) ls) x ls) here
     ∙ ap (λ x. option_map_or (λ a. with_child code n t a r (fin.insert ls n (after_step t a r v))) x ls) at
 
--- who is under a name then
+-- the thread under a name after the step
 data Which (code : Code) (ls : ByName Local) (n : Name) (t u : Local) (i : Instr) (r : Request) (q : Name) (l : Local) : Type 0 where
   Own : q ≡ n → l ≡ u → Which code ls n t u i r q l
   Born : (f : ℕ) → r ≡ Start f → q ≡ child n (t.children + 1) → l ≡ born_local code f (arguments_of t i) → Which code ls n t u i r q l
@@ -164,7 +164,7 @@ which code ls n t u i (Start f) q l at =
 which code ls n t u i Silent q l at = which_old code ls n t u i Silent q l at
 which code ls n t u i r q l at = which_old code ls n t u i r q l at
 
--- who fails, where one thread does or doesn't
+-- the named thread fails exactly if the flag is true
 fails_itself : (b : Bool) (n : Name) → fails_by (if b then Some n else None) n ≡ b
 fails_itself true n = same_refl n
 fails_itself false n = refl
@@ -202,7 +202,7 @@ module _ {B : Type 0} (setting : Setting B) (history : HistoryAlong setting) (th
   abbrev walk : IsWalk code log w
   walk = walk_is code log is fits thread
 
-  -- the child that it creates is created on the path
+  -- the path creates the child that the step creates
   created_next : (f : ℕ) → request t x.instr ≡ Start f → function_of code log (child w.name (t.children + 1)) ≡ Some f
   created_next f asks =
       let g = w.function in
@@ -260,7 +260,7 @@ module _ {B : Type 0} (setting : Setting B) (history : HistoryAlong setting) (th
     starts_unfailed : (f : ℕ) → r ≡ Start f → failing_next log h w ≡ None
     starts_unfailed f is = sym fails_so ∙ ap (λ a. fails (Did w.name k a took other)) is
 
-    -- each thread is on its path then
+    -- each thread is on its path after the step
     on_by : (q : Name) (l : Local) → Which code (locals_in code h) w.name t u x.instr r q l → IsOnPath log (failing_next log h w) q l
     on_by q l (Own name same) = subst (λ m. IsOnPath log (failing_next log h w) m l) (sym name) (subst (IsOnPath log (failing_next log h w) w.name) (sym same) own_on)
     on_by q l (Born f is name same) =

@@ -33,7 +33,7 @@ module _ {B : Type 0} (machine : Machine B) (log : Log) where
   abbrev local_of : Option (Thread B) → Option Local
   local_of o = option_map (λ (t : Thread B). t.local) o
 
-  -- threads of a state are on their paths exactly where those of its history are
+  -- threads of a state are on their paths exactly if those of its history are
   module _ (s : State B) (h : List Deed) (a : Tells ops model bound laws code s h) where
     pub on_told : AreOnPaths log s → AreOnPathsIn code log h
     on_told on n l at = by (fin.get s.threads n) refl
@@ -79,7 +79,7 @@ module _ {B : Type 0} (machine : Machine B) (log : Log) where
     pub reached : IsReached ops code r.state
     reached = record { moves = r.moves; leads = r.leads }
 
-    -- a thread of the history is there, has its steps, and what it has to itself is told
+    -- each thread of the history is in the state
     pub thread_of : (n : Name) → is_thread_in h n ≡ true → (t : Thread B) × (fin.get r.state.threads n ≡ Some t)
     thread_of n there = some_value (fin.get r.state.threads n) (r.told.tells.deeds.buffers.threads.there n ∙ there)
 
@@ -109,7 +109,7 @@ module _ {B : Type 0} (machine : Machine B) (log : Log) where
             (on_before_moves ops code log front.0 all.0 ks (record { moves = ms; leads = front.1 }) rest all.3);
       }
 
-  -- what reproduces a log
+  -- the run of moves that reproduce a log
   abbrev pub reproduced_run : (moves : List Move) → Reproduces ops code log moves → RunOf (history ops code moves)
   reproduced_run moves r = record {
     moves = moves;

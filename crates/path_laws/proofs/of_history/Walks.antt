@@ -47,22 +47,22 @@ pub record IsWalk (code : Code) (log : Log) (w : Walk) : Type 0 where
   pub blocked : w.blocked
       ≡ blocked_after (ending_of log w.name) (marks_after (unmarked code w.function) (steps_at code w.function w.places)) w.sleeps
       (standing code w.function path)
-  -- where the paths aren't dead, none of its steps is one that no run does
+  -- if the paths aren't dead, no step of the thread is one that no run can do
   pub alive : (paths_of code log).dead ≡ false
       → list_any is_impossible (marked_steps code w.function (fails_in log w.name) (steps_at code w.function w.places)) ≡ false
 
--- of two tests, either of which fails, the first does
+-- if two tests both fail, the first does
 first_fails : (a b : Bool) → (a || b) ≡ false → a ≡ false
 first_fails true b e = e
 first_fails false b e = refl
 
--- what none of a list passes, no element does
+-- if no element of a list passes, the one at a place doesn't
 pub no_element : {X : Type 0} (p : X → Bool) (xs : List X) (k : ℕ) (x : X) → list_any p xs ≡ false → slice_get xs k ≡ Some x → p x ≡ false
 no_element p xs k x none at =
     false_from_ne_true (p x) (λ yes.
     true≢false (sym (list_any_at p xs k x (slice_get_within xs k x at) (ap p (get_or_from_slice_get xs k x x at) ∙ yes)) ∙ none))
 
--- a thread of the paths is that of a path of the log
+-- a thread of the paths has a path of the log
 pub thread_path_at : (code : Code) (log : Log) (j : ℕ) (w : Walk) → IsThread code log j w
     → (p : ThreadPath) × (slice_get log.threads j ≡ Some p) × (walk_of code log p ≡ w)
 thread_path_at code log j w there = by (slice_get log.threads j) refl
@@ -106,7 +106,7 @@ module _ (code : Code) (log : Log) (is : is_log log ≡ true) (fits : Fits code 
   pub walk_is : (t : PathThread code log) → IsWalk code log t.walk
   walk_is t = let p = thread_path_at code log t.index t.walk t.there in subst (IsWalk code log) p.2 (walk_told t.index p.0 p.1)
 
-  -- a name that has a path is that of a thread
+  -- a name with a path is that of a thread
   pub named : (n : Name) (path : Path) → path_under n log.threads ≡ Some path → IsNameOfThread code log n
   named n path under =
       let p = place_of n path log.threads under in

@@ -102,7 +102,7 @@ leads_by k (Branch e to) os on is =
 leads_by k (Goto to) os on is = Jumps (ap (λ (o : Onward). Some o.place) (same_Some (record { place = to; outcomes = os }) on is))
 leads_by k i os on is = Next (sym (ap (λ (o : Onward). o.place) (same_Some (record { place = k + 1; outcomes = os }) on is)))
 
--- what leads to a wake is the sleep before it
+-- only the sleep before a wake leads to it
 sleep_before : (code : Code) (f k p c m : ℕ) (i : Instr) → IsLawful code → instr_at code f k ≡ Some i → instr_at code f p ≡ Some (Wake c m)
     → Leads k i p → i ≡ Sleep c m
 sleep_before code f k p c m i lawful at wake (Next is) =
@@ -121,7 +121,7 @@ sleep_before code f k p c m i lawful at wake (Jumps is) =
     let there : t.instr ≡ Wake c m = same_Some t.instr (Wake c m) (sym t.there ∙ ap (λ (x : Func). slice_get x.instrs p) (sym same) ∙ w.at) in
     absurd (true≢false (sym (ap is_bound there) ∙ t.unbound))
 
--- nothing begins at a wake
+-- no function begins with a wake
 none_at_start : (code : Code) (f c m : ℕ) → IsLawful code → instr_at code f 0 ≡ Some (Wake c m) → ⊥
 none_at_start code f c m lawful at = let g = placed code f 0 (Wake c m) lawful at in g.lawful.wake 0 c m g.at
 
@@ -145,7 +145,7 @@ last_of xs x =
     ap (slice_get (xs ++ x ∷ [])) last ∙ get_seam xs x []
 
 module _ (code : Code) (lawful : IsLawful code) (log : Log) (w : Walk) (k : IsWalk code log w) where
-  -- a path that is blocked at a wake rests there
+  -- a path that is blocked at a wake ends there
   record RestsAtWake (c m n : ℕ) : Type 0 where
     rests : is_failing (ending_of log w.name) ≡ false
     at : standing code w.function k.path ≡ Some (Wake c m)

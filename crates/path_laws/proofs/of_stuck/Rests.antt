@@ -1,4 +1,4 @@
--- What a thread asks that has done all steps of its path in the log of a deadlock.
+-- The next request of a thread that has done its whole path in the log of a deadlock.
 use Rattle.std.proofs.Common.{◌≡◌, ◌↔◌, ◌∙◌, inl, inr, ℕ, Bool, true, false, ◌==◌, ◌&&◌, cond, List}
 use Rattle.std.proofs.Common.{IsSome, Option, Some, None, Result, Ok, Err, refl, sym, ap, ap₂, subst, slice_index_or, true≢false}
 use Rattle.std.specs.Prelude.{slice_get, option_map, option_and_then, if◌then◌else◌}
@@ -43,7 +43,7 @@ use Rattle.path_laws.proofs.of_history.Walks.{IsWalking, walking}
 use Rattle.path_laws.proofs.of_history.Whole.{stands_all, went_all}
 use Rattle.path_laws.specs.stuck.Blocked.{asked_at}
 
--- what a mapped option is comes from one
+-- a mapped option with a value comes from an option with one
 pub mapped_from : {X Y : Type 0} (f : X → Y) (o : Option X) (y : Y) → option_map f o ≡ Some y → (x : X) × (o ≡ Some x) × (f x ≡ y)
 mapped_from f None y e = absurd (none-some y e)
 mapped_from f (Some x) y e = (x, refl, same_Some (f x) y e)
@@ -51,11 +51,11 @@ mapped_from f (Some x) y e = (x, refl, same_Some (f x) y e)
 abbrev the_ok : List ℕ → Result (List ℕ) Misfit
 the_ok ps = Ok ps
 
--- in a deadlock all paths rest
+-- in the log of a deadlock all paths rest
 rests_in : (log : Log) (n : Name) → log.failing ≡ Deadlock → ending_of log n ≡ Rests
 rests_in log n dead = ap (λ f. ending_by (option_and_then (λ k. option_map (λ (t : ThreadPath). t.name) (slice_get log.threads k)) (place_in f)) n) dead
 
--- an instruction at which a thread can be blocked asks what that says
+-- an instruction that can block a thread has the request that blocks it
 asks_there : (t : Local) (m : Marks) (ss : List Wait) (i : Instr) → HasMarks t m → can_block i ≡ true
     → Some (request t i) ≡ option_map asked_at (blocked_at m ss i)
 asks_there t m ss (Lock l) marks can = refl
@@ -63,7 +63,7 @@ asks_there t m ss (Wake c l) marks can = refl
 asks_there t m ss (Join v) marks can = ap (λ hs. Some (Await (child_number (slice_index_or hs v Unset)))) (sym marks.handles)
 asks_there t m ss i marks can = absurd (true≢false (sym can))
 
--- a thread that rests can be blocked where it stands
+-- a thread that rests is at an instruction that can block
 can_be_blocked : (code : Code) (f : ℕ) (p : Path) (ps : List ℕ) (i : Instr) → ended code f Rests p (Ok ps) ≡ Ok ps → standing code f p ≡ Some i
     → can_block i ≡ true
 can_be_blocked code f p ps i told at = by (can_block i) (ap (λ o. cond (option_map_or can_block o true) (the_ok ps) (Err NotBlocked)) (sym at) ∙ told)
@@ -93,7 +93,7 @@ module _ {B : Type 0} (setting : Setting B) (history : HistoryAlong setting) (th
   rests : ending_of log w.name ≡ Rests
   rests = rests_in log w.name dead
 
-  -- it hasn't failed
+  -- the thread hasn't failed
   stands : IsAlong code t.local w.places
   stands =
       let not_fails : fails_by r.state.failed w.name ≡ false =
@@ -103,7 +103,7 @@ module _ {B : Type 0} (setting : Setting B) (history : HistoryAlong setting) (th
   path : path_by t.local ≡ k.walk.path
   path = went_all setting history thread done t here
 
-  -- and stands where the path says
+  -- the thread is at the instruction where its path ends
   standing_there : standing code w.function k.walk.path ≡ instr_at code t.local.function t.local.instruction
   standing_there =
       ap₂ (standing code) (sym k.function) (sym path) ∙ ap (instr_at code t.local.function) stands.end
@@ -143,7 +143,7 @@ module _ {B : Type 0} (setting : Setting B) (history : HistoryAlong setting) (th
             ∙ sym (ap (option_map asked_at) (blocked_is ∙ ap (option_and_then (blocked_at marks w.sleeps)) at))
       ]
 
-  -- so it is left exactly where the path says that it is blocked
+  -- the thread hasn't exited exactly if its path is blocked
   pub left_blocked : (has_exited_in h w.name ≡ false) ↔ IsSome w.blocked
   left_blocked = (
     λ going.

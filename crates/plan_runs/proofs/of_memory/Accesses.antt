@@ -1,4 +1,4 @@
--- The accesses of the stores and loads of a history that has gone up to a position of a lawful world.
+-- The accesses of a history's stores and loads, up to a position of a lawful world.
 use Rattle.std.proofs.Common.{◌≡◌, ◌∙◌, inl, ℕ, ◌<◌, ◌==◌, ◌&&◌, ℤ, true, not, List}
 use Rattle.std.proofs.Common.{Some, None, refl, ap, ap₂, sym, arith}
 use Rattle.std.specs.Prelude.{slice_get}
@@ -38,7 +38,7 @@ use Rattle.world_plan.specs.Going.{IsLawfulWorld}
 use Rattle.plan_runs.proofs.of_memory.Empty.{own_rule}
 use Rattle.sym_steps.specs.Valued.{ValuedHistory}
 
--- what an issued store asks
+-- the request of an issued store
 abbrev pub written : (c : ℕ) (v : ℤ) → Asked
 written c v = record { cell = c; takes = None; writes = Some v }
 
@@ -56,7 +56,7 @@ module _ {B : Type 0} (setting : Setting B) (nodes : List Node) (w : World) (l :
   course_at t q there =
       let p = thread_path_at code log t q there in (_, (found_at_log code log nodes setting.lawful setting.log_is l.terms t p.0 p.1).course)
 
-  -- the cells of a thread's two steps are one
+  -- the cell at the step of an access is the cell of that access
   pub cell_at_step : (t k : ℕ) (a : Access) → HasAccess (found code log nodes).symbolic t a → a.step ≡ k
       → cell_of (found code log nodes).symbolic t k ≡ Some a.cell
   cell_at_step t k a has step =
@@ -94,14 +94,14 @@ module _ {B : Type 0} (setting : Setting B) (nodes : List Node) (w : World) (l :
           };
         }
 
-    -- accesses are to one cell where their cells have one number
+    -- accesses are to one cell if their cells have the same number
     pub one_cell : (t u : ℕ) (a b : Access) → IsReachedIn code log nodes h t a → IsReachedIn code log nodes h u b
         → is_same_cell (found code log nodes).nodes w a.cell b.cell
         ≡ (cell_by (found code log nodes).nodes w.loads a.cell == cell_by (found code log nodes).nodes w.loads b.cell)
     one_cell t u a b first second =
         same_cells setting nodes w valued t u a b first second
 
-    -- two steps of a thread
+    -- the cells of two steps of a thread
     pub cells_of_steps : (t j k : ℕ) (y z : Asked) (a : IsOfStep t j y) (b : IsOfStep t k z) (x e : Event) → x.step ≡ j → e.step ≡ k
         → same_cell ops.buffered bound (paths_of code log) (found code log nodes).symbolic (found code log nodes).nodes w t x e ≡ (y.cell == z.cell)
     cells_of_steps t j k y z a b x e first second =
@@ -110,7 +110,7 @@ module _ {B : Type 0} (setting : Setting B) (nodes : List Node) (w : World) (l :
         ∙ one_cell t t a.access b.access a.reached b.reached
         ∙ ap₂ (λ (c d : Asked). c.cell == d.cell) a.asked b.asked
 
-  -- stores that the model binds are in order
+  -- stores that the model binds come in order
   pub bound_before : (t : ℕ) (q : Walk) (x y : Event) → IsThread code log t q → Contains q.events x → Contains q.events y → x.step < y.step
       → y.kind ≡ kind.Store
       → bound (same_cell ops.buffered bound (paths_of code log) (found code log nodes).symbolic (found code log nodes).nodes w t x y) (not (x.bars == y.bars))

@@ -29,7 +29,7 @@ module _ {B : Type 0} (setting : Setting B) (nodes : List Node) (w : World) (l :
   pub own_rule : (t : ℕ) → OwnRule ops.buffered bound (paths_of code log) (found code log nodes).symbolic (found code log nodes).nodes w t
   own_rule t = l.lawful.meets (Own t)
 
-  -- what may not overtake stores comes after all of its thread that are before it
+  -- an event that may not overtake stores comes after all earlier ones of its thread
   kept_behind : (t : ℕ) (x y : Event) → may_overtake y.kind ≡ false
       → is_kept ops.buffered bound (paths_of code log) (found code log nodes).symbolic (found code log nodes).nodes w t x y ≡ true
   kept_behind t x y last = by (not (ops.buffered && is_store x.kind)) (may_overtake y.kind) last

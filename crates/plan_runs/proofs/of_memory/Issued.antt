@@ -24,7 +24,7 @@ use Rattle.path_laws.specs.events.Done.{IsDoneIn}
 use Rattle.path_laws.proofs.of_events.Events.{event_done, done_event}
 use Rattle.path_laws.proofs.of_events.Steps.{steps_both, steps_first}
 
--- a request that is a store asks a cell to take a value
+-- a request that is a store writes a value to a cell
 no_create : (o : Option ℕ) → option_map kind.Create o ≡ Some kind.Store → ⊥
 no_create None e = none-some _ e
 no_create (Some k) e = cc
@@ -52,7 +52,7 @@ done_issued h n k d =
       },
     )
 
--- what was issued in the first deeds was issued
+-- a store issued in the first deeds is issued in all
 issued_in_all : (older newer : List Deed) (n : Name) (k c : ℕ) (v : ℤ) → IsIssuedIn older n k c v → IsIssuedIn (older ++ newer) n k c v
 issued_in_all older newer n k c v i = record {
   before = i.before;
@@ -62,7 +62,7 @@ issued_in_all older newer n k c v i = record {
   issued = ap (λ g. g ++ newer) i.issued ∙ append_assoc i.before (Did n k (Write c v) i.took i.other ∷ i.after) newer;
 }
 
--- a deed that drains a thread's step
+-- a deed that drains a step of a thread
 record IsDrainOf (d : Deed) (n : Name) (k : ℕ) : Type 0 where
   cell : ℕ
   value : ℤ
@@ -100,7 +100,7 @@ module _ {B : Type 0} (setting : Setting B) (history : HistoryAlong setting) whe
   pub issuer_named : (n : Name) (k c : ℕ) (v : ℤ) → IsIssuedIn h n k c v → IsNameOfThread code log n
   issuer_named n k c v i = step_named i.before i.after n k (Write c v) i.took i.other i.issued
 
-  -- of two steps of a thread the first has the lesser number
+  -- of two steps of a thread, the first has the lesser number
   pub steps_rise : (older between newer : List Deed) (n : Name) (j k : ℕ) (p q : Request) (a b : ℤ) (o u : Option Name)
       → h ≡ (older ++ Did n j p a o ∷ between) ++ Did n k q b u ∷ newer → j < k
   steps_rise older between newer n j k p q a b o u at =
@@ -124,7 +124,7 @@ module _ {B : Type 0} (setting : Setting B) (history : HistoryAlong setting) whe
         in_any (drains n k) deed h (subst (In deed) (sym d.there) (in_at d.older deed d.newer)) (and_from (same n n) (k == k) (same_self n n refl) (eq-eqb k k refl)),
       )
 
-  -- and what has drained of an issued store is its cell's value
+  -- the drain of an issued store has its cell and its value
   pub issue_drained : (n : Name) (k c : ℕ) (v : ℤ) → IsIssuedIn h n k c v → has_drained h n k ≡ true → IsDrainedIn h n k c v
   issue_drained n k c v i has =
       let p = any_in (drains n k) h has in
@@ -149,7 +149,7 @@ module _ {B : Type 0} (setting : Setting B) (history : HistoryAlong setting) whe
         → (x : Event) × In x q.events × (x.step ≡ k) × (x.kind ≡ kind.Store) × (k < steps_in h q.name)
     issue_event k c v i = done_event setting history thread k kind.Store (issued_done h q.name k c v i)
 
-    -- and a store that is done was issued
+    -- a store that is done was issued
     pub event_issued : (x : Event) → In x q.events → x.kind ≡ kind.Store → x.step < steps_in h q.name
         → (c : ℕ) × (v : ℤ) × IsIssuedIn h q.name x.step c v
     event_issued x i store before =

@@ -1,4 +1,5 @@
--- What a load sees when its event comes: the last store to its cell in its thread's buffer, or else the last in memory.
+-- What a load sees when its event comes: the last store to its cell in its thread's buffer, or else
+-- the last one in memory.
 use Rattle.std.proofs.Common.{◌≡◌, ◌∙◌, ◌⊎◌, inl, inr, ℕ, ◌<◌, ◌≤◌, ◌==◌, ℤ, not, List, [], ◌∷◌, ◌++◌}
 use Rattle.std.proofs.Common.{Option, Some, None, refl, ap, ap₂, sym, subst, arith}
 use Rattle.std.specs.Prelude.{is_some, unwrap_or, IsSome}
@@ -82,7 +83,7 @@ module _ {B : Type 0} (setting : Setting B) (nodes : List Node) (w : World) (l :
   step_of : (u : ℕ) (v : Walk) → IsThread code log u v → (k : ℕ) (y : Asked) → IsAskedIn h v.name k y → OfStep u k y
   step_of u v there k y d = access_of setting nodes w l (valued_of l g) (path_thread u v there) k y d
 
-  -- a store of the thread that waits has no place before
+  -- a store of the thread that waits has no earlier place
   waits_late : (k c : ℕ) (v : ℤ) → InBuffer q.name k c v → p ≤ At t k
   waits_late k c v b =
       let y = issue_event setting (history_of l g) thread k c v b.issued in
@@ -94,11 +95,11 @@ module _ {B : Type 0} (setting : Setting B) (nodes : List Node) (w : World) (l :
         | inr late ↦ late
       ]
 
-  -- A store that the load sees is done: it is in memory, or is the thread's own and waits.
+  -- A store that the load sees is done: it is in memory, or waits in the thread's own buffer.
   record IsSeenAt (u k : ℕ) (v : ℤ) : Type 0 where
     at : InMemory u k cell v ⊎ ((t ≡ u) × InBuffer q.name k cell v)
 
-  -- a store of a thread, done
+  -- a store of a thread that is done is in memory or in the thread's buffer
   where_done : (u : ℕ) (b : Access) (z : Walk) → IsThread code log u z → SeesOf u b → b.step < steps_in h z.name
       → (v : ℤ) × ((asks b).writes ≡ Some v) × (InMemory u b.step cell v ⊎ InBuffer z.name b.step cell v)
   where_done u b z there sees done =
@@ -157,11 +158,11 @@ module _ {B : Type 0} (setting : Setting B) (nodes : List Node) (w : World) (l :
               (subst (λ j. At u j < p) (sym s.2) lt) in
               true≢false (sym drained ∙ ap (has_drained h z.name) s.2 ∙ o.waits)
 
-  -- what is in memory has come
+  -- a store in memory has come before
   memory_before : (u k : ℕ) (v : ℤ) → InMemory u k cell v → At u k < p
   memory_before u k v m = shown_before setting nodes w l p h g m.older m.newer m.deed u k m.there m.shows
 
-  -- a store that is to the load's cell, and whose place or step is before the load's, is seen
+  -- the load sees each store to its cell whose place or step is before its own
   sees_it : (u k : ℕ) (y : Asked) (v : ℤ) (b : OfStep u k y) → y.cell ≡ cell → y.writes ≡ Some v → (At u k < p) ⊎ ((u ≡ t) × (k < a.step)) → SeesOf u b.access
   sees_it u k y v b to writes before = record {
     there = b.has;
@@ -179,7 +180,7 @@ module _ {B : Type 0} (setting : Setting B) (nodes : List Node) (w : World) (l :
   module _ (v : ℤ) (takes : (asks a).takes ≡ Some v)
       (rule : ((u : ℕ) × (b : Access) × TakesFrom code (paths_of code log) (found code log nodes).symbolic (found code log nodes).nodes w t a u b)
       ⊎ TakesFirst code (paths_of code log) (found code log nodes).symbolic (found code log nodes).nodes w t a) where
-    -- it is that of a store which it sees, and which no store that it sees comes after
+    -- the value is that of a store that the load sees and that no other store it sees comes after
     value_is : (u k : ℕ) (y : Asked) (b : OfStep u k y) (z : ℤ) → y.writes ≡ Some z → SeesOf u b.access
         → ((s : ℕ) (d : Access) → SeesOf s d → At u k < At s d.step → ⊥) → z ≡ v
     value_is u k y b z writes sees latest = by rule
@@ -195,7 +196,7 @@ module _ {B : Type 0} (setting : Setting B) (nodes : List Node) (w : World) (l :
               | inr before ↦ let place = ap (At u) b.step in absurd (latest o.0 o.1 o.2.sees (omega (arith, before, place)))
             ]
 
-    -- or that of the start, where it sees none
+    -- the value is the initial one if the load sees no store
     value_first : ((s : ℕ) (d : Access) → SeesOf s d → ⊥) → value_at_start code a.cell ≡ v
     value_first none = by rule
       where
@@ -210,7 +211,7 @@ module _ {B : Type 0} (setting : Setting B) (nodes : List Node) (w : World) (l :
     abbrev reaches_it : Deed → Option ℤ
     reaches_it = brings ops.buffered cell
 
-    -- a store of the thread that waits is among its own
+    -- a waiting store of the thread to the cell is among its own
     own_there : (k : ℕ) (z : ℤ) (b : InBuffer q.name k cell z) → own (Did q.name k (Write cell z) b.issued.took b.issued.other) ≡ Some z
     own_there k z b = own_gives ops.buffered h q.name k cell z b.issued.took b.issued.other b.buffered b.waits
 
@@ -237,7 +238,7 @@ module _ {B : Type 0} (setting : Setting B) (nodes : List Node) (w : World) (l :
       mine : OfStep t k (written cell z)
       mine = step_of t q t_there k (written cell z) (issue_asks h q.name k cell z issue)
 
-      -- an older one has an earlier place
+      -- an older store of the thread has an earlier place
       older_before : (j : ℕ) (c : ℤ) → IsIssuedIn h q.name j cell c → j < k → At t j < At t k
       older_before j c i less =
           let f = issue_event setting (history_of l g) thread j cell c i in
@@ -250,7 +251,7 @@ module _ {B : Type 0} (setting : Setting B) (nodes : List Node) (w : World) (l :
           let second = ap (At t) y.2 in
           omega (arith, before, first, second)
 
-      -- so none that waits comes after it
+      -- no waiting store comes after the newest one
       none_waits_after : (j : ℕ) (c : ℤ) → InBuffer q.name j cell c → At t k < At t j → ⊥
       none_waits_after j c b after =
           let its = Did q.name j (Write cell c) b.issued.took b.issued.other in
@@ -278,14 +279,14 @@ module _ {B : Type 0} (setting : Setting B) (nodes : List Node) (w : World) (l :
           value_is t k (written cell z) mine z refl
           (sees_it t k (written cell z) z mine refl refl (inr (refl, omega (arith, y.4, step, e.steps)))) none_after
 
-    -- Where the thread has none.
+    -- The thread has no store to the cell.
     module _ (none : filter_map own h ≡ []) where
       not_own : (k : ℕ) (c : ℤ) → InBuffer q.name k cell c → ⊥
       not_own k c b =
           let deed = Did q.name k (Write cell c) b.issued.took b.issued.other in
           none_gives own h deed c none (subst (In deed) (sym b.issued.issued) (in_at b.issued.before deed b.issued.after)) (own_there k c b)
 
-      -- the last that reached memory
+      -- the last store that reached the cell in memory
       module _ (z : ℤ) (last : IsLast reaches_it h z) where
         abbrev d : IsStoreOf setting (history_of l g) cell z last.deed
         d = store_of setting (history_of l g) last.older last.newer last.deed cell z last.there last.gives
@@ -320,7 +321,7 @@ module _ {B : Type 0} (setting : Setting B) (nodes : List Node) (w : World) (l :
             (inl (shown_before setting nodes w l p h g last.older last.newer last.deed d.place d.number last.there d.shows)))
             none_later
 
-      -- and where none did
+      -- no store reached the cell in memory
       from_start : filter_map reaches_it h ≡ [] → value_at_start code a.cell ≡ v
       from_start empty = value_first (λ u b sees.
           let o = seen_at u b sees in

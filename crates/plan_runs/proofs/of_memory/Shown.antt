@@ -1,4 +1,4 @@
--- What has taken place lies before the position up to which a history has gone.
+-- What has taken place lies before the position that the history has reached.
 use Rattle.std.proofs.Common.{◌≡◌, ◌∙◌, inl, inr, ℕ, ◌<◌, ◌≤◌, ◌&&◌, ℤ, Bool, true, false, cond, List, [], ◌∷◌, ◌++◌}
 use Rattle.std.proofs.Common.{Option, Some, None, refl, ap, ap₂, sym, subst, arith}
 use Rattle.std.specs.Prelude.{option_and_then}
@@ -29,7 +29,7 @@ use Rattle.plan_runs.proofs.Histories.{history_of}
 abbrev pub the_sight : Sight → Sight
 the_sight s = s
 
--- what a step shows is an event that is no store of a buffer
+-- a step that is seen is an event, and not a store that goes into a buffer
 pub record IsStepSeen (buffered : Bool) (n : Name) (j : ℕ) (r : Request) (other : Option Name) (s : Sight) : Type 0 where
   pub kind : EventKind
   pub asks : kind_of r other ≡ Some kind
@@ -58,7 +58,7 @@ module _ {B : Type 0} (setting : Setting B) (nodes : List Node) (w : World) (l :
   abbrev At : (t k : ℕ) → ℕ
   At t k = place_of (paths_of code log) w t k
 
-  -- a step that has taken place
+  -- a step that has taken place lies before the position
   step_before : (u : ℕ) (q : Walk) → IsThread code log u q → (k : ℕ) (kind : EventKind) → IsDoneIn h q.name k kind → (ops.buffered && is_store kind) ≡ false
       → At u k < p
   step_before u q there k kind d unbuffered =
@@ -68,7 +68,7 @@ module _ {B : Type 0} (setting : Setting B) (nodes : List Node) (w : World) (l :
         | inr pending ↦ absurd (true≢false (sym pending ∙ ap (λ k. ops.buffered && is_store k) y.3 ∙ unbuffered))
       ]
 
-  -- a store that has reached memory
+  -- a store that has reached memory lies before the position
   drain_before : (u : ℕ) (q : Walk) → IsThread code log u q → (k c : ℕ) (v : ℤ) → IsDrainedIn h q.name k c v → At u k < p
   drain_before u q there k c v d =
       let i = drain_issued setting (history_of l g) q.name k c v d in
@@ -99,7 +99,7 @@ module _ {B : Type 0} (setting : Setting B) (nodes : List Node) (w : World) (l :
       drain_before u s.walk s.there k c v
       (record { older = older; newer = newer; there = at ∙ ap₂ (λ m i. older ++ Drained m i c v ∷ newer) name number })
 
-  -- what comes next is in order where it takes place at no earlier position
+  -- the order goes on with a deed that takes place at no earlier position
   pub order_goes_on : (d : Deed) → ((u k : ℕ) → Shows ops.buffered (paths_of code log) d u k → p ≤ At u k)
       → AreInOrder ops.buffered (paths_of code log) w (h ++ d ∷ [])
   order_goes_on d later older between newer a b t k u j is first second =
@@ -111,7 +111,7 @@ module _ {B : Type 0} (setting : Setting B) (nodes : List Node) (w : World) (l :
         | inr both ↦ g.order older between both.rest a b t k u j both.there first second
       ]
 
-  -- a deed that is seen only as a thread's event
+  -- a deed is seen only as its thread's event
   at_its_place : (d : Deed) (t k : ℕ) (q : Walk) → IsThread code log t q → At t k ≡ p
       → ((s : Sight) → sight_of ops.buffered d ≡ Some s → the_sight (record { thread = q.name; step = k }) ≡ s)
       → (u j : ℕ) → Shows ops.buffered (paths_of code log) d u j → p ≤ At u j

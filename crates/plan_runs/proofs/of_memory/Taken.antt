@@ -1,4 +1,4 @@
--- A load takes the value that the world says.
+-- A load takes the value that the world gives it.
 use Rattle.std.proofs.Common.{◌≡◌, ◌∙◌, inr, ℕ, ◌==◌, ℤ, pos, Bool, true, false, List, [], ◌∷◌, Option, Some, None, refl, ap, sym, subst, arith, slice_index_or}
 use Rattle.std.specs.Prelude.{slice_get, is_some, option_map, unwrap_or}
 use Rattle.std.specs.List.{Contains}
@@ -52,7 +52,7 @@ use Rattle.plan_runs.proofs.of_memory.Seen.{seen_is}
 use Rattle.plan_runs.proofs.Histories.{history_of, valued_of}
 use Rattle.sym_steps.specs.Valued.{ExecutedThread}
 
--- where no store of its own waits a thread sees what memory has
+-- a thread without a waiting store of its own sees the value in memory
 none_newest : (es : List Entry) (c : ℕ) (v : ℤ) → is_nil es ≡ true → v ≡ unwrap_or (newest es c) v
 none_newest [] c v e = refl
 none_newest (x ∷ es) c v e = absurd (false≢true e)
@@ -69,7 +69,7 @@ module _ (b : Bool) (code : Code) (h : List Deed) (n : Name) (c : ℕ) (k : Even
       ap (value_in b code h) to
       ∙ none_newest (stores (pending b h n)) c (value_in b code h c) (empty (ap may_overtake (sym (same_Some kind.Exchange k event))))
 
-  -- what a request of a cell takes, that is no store
+  -- the value taken by a request for a cell that isn't a store
   takes_seen : (r : Request) (y : Asked) → asked_by (pos 0) r ≡ y ∷ [] → y.cell ≡ c → (OtherIs h n r None → kind_of r None ≡ Some k)
       → (k ≡ kind.Store → ⊥) → IsEmptyFor → taken_in b code h n r ≡ seen_in b code h n c
   takes_seen (Read d) y one cell event other empty =
@@ -81,7 +81,7 @@ module _ (b : Bool) (code : Code) (h : List Deed) (n : Name) (c : ℕ) (k : Even
   takes_seen Silent y one cell event other empty = absurd cc
   takes_seen r y one cell event other empty = absurd cc
 
--- what takes a value is no store
+-- a request that takes a value isn't a store
 no_store : (m : ℕ) (writes : Option ℕ) → whole.kind_of (Some m) writes ≡ kind.Store → ⊥
 no_store m None e = cc
 no_store m (Some k) e = cc
@@ -105,7 +105,7 @@ module _ {B : Type 0} (setting : Setting B) (nodes : List Node) (w : World) (l :
       let within = event_within code log q (walk_is code log setting.log_is l.fits thread) x (in_contains x q.events among) in
       next_on_path setting (history_of l g) thread g.going is_there (omega (arith, within, e.steps))
 
-  -- the event of the step is the one at hand
+  -- the step has only this event
   same_step : (y : Event) → Contains q.events y → y.step ≡ x.step → y ≡ x
   same_step y i same = one_event (paths_of code log) (paths_whole setting nodes w l) t q y x there i among same
 

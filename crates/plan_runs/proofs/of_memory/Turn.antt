@@ -1,4 +1,4 @@
--- The turn of a store whose position has come.
+-- The next drain, of a store whose position has come.
 use Rattle.std.proofs.Common.{◌≡◌, ◌∙◌, inl, inr, ℕ, ◌<◌, ◌≤◌, ◌==◌, ℤ, true, false, cond, List, [], ◌∷◌}
 use Rattle.std.proofs.Common.{Some, refl, ap, ap₂, sym, subst, arith}
 use Rattle.std.specs.List.{Contains, find}
@@ -31,7 +31,7 @@ use Rattle.plan_runs.proofs.of_memory.Issued.{issue_event, event_issued}
 use Rattle.path_laws.proofs.of_history.Told.{its_run}
 use Rattle.plan_runs.proofs.Histories.{history_of, valued_of}
 
--- where numbers rise, each is found
+-- with rising numbers, each issue is found by its number
 found_by_number : (is : List Issue) (i : Issue) → Rises is → In i is → find (λ (y : Issue). y.number == i.number) is ≡ Some i
 found_by_number [] i rises a = absurd a
 found_by_number (x ∷ is) i rises (inl e) =
@@ -72,7 +72,7 @@ module _ {B : Type 0} (setting : Setting B) (nodes : List Node) (w : World) (l :
     waits : has_drained h q.name x.step ≡ false
     waits = is_waiting x among pending (omega (arith, at))
 
-    -- what is bound before it has drained
+    -- the stores bound before this one have drained
     free : (c : ℕ) (v : ℤ) → IsIssuedIn h q.name x.step c v → (j d : ℕ) (u : ℤ) → IsIssuedIn h q.name j d u → has_drained h q.name j ≡ false → j < x.step
         → bound (d == c) (has_bar_between h q.name j x.step) ≡ true → ⊥
     free c v mine j d u its none less binds =

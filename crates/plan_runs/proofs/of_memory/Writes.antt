@@ -1,4 +1,4 @@
--- Where the stores of a history are: in memory, or in a buffer.
+-- Where the stores of a history are: in memory or in a buffer.
 use Rattle.std.proofs.Common.{◌≡◌, ◌∙◌, ◌⊎◌, inl, inr, ℕ, ◌==◌, ◌&&◌, ℤ, Bool, true, false, not, cond, List, [], ◌∷◌, ◌++◌}
 use Rattle.std.proofs.Common.{Option, Some, None, refl, ap, ap₂, sym, subst}
 use Rattle.std.specs.Prelude.{option_and_then}
@@ -30,12 +30,12 @@ the_asked y = y
 abbrev an_entry : Entry → Entry
 an_entry e = e
 
--- what isn't a store is seen at once
+-- an event other than a store is seen at once
 at_once : (b : Bool) (s : Sight) → cond (b && false) None (Some s) ≡ Some s
 at_once true s = refl
 at_once false s = refl
 
--- a store goes into the thread's buffer, or reaches memory at once, and is seen
+-- a store goes into its thread's buffer, or reaches memory at once and is seen
 abbrev GoesTo : Bool → Name → ℕ → Request → ℤ → Option Name → Asked → ℤ → Type 0
 GoesTo b n k r took other y v =
     ((b ≡ true) × (r ≡ Write y.cell v))
@@ -64,7 +64,7 @@ goes_to b n k (Read c) took other y v asks writes =
 goes_to b n k Silent took other y v asks writes = absurd cc
 goes_to b n k r took other y v asks writes = absurd cc
 
--- what reaches a cell of memory brings a value to it
+-- a store that reaches a cell in memory brings its value there
 brings_it : (b : Bool) (c : ℕ) (d : Deed) (v : ℤ) → reaches b d ≡ Some (an_entry (record { cell = c; value = v })) → brings b c d ≡ Some v
 brings_it b c d v is = by (reaches b d) is
   where
@@ -73,7 +73,7 @@ brings_it b c d v is = by (reaches b d) is
     by o is =
         ap (option_and_then (λ (e : Entry). cond (e.cell == c) (Some e.value) None)) is ∙ ap (λ t. cond t (Some v) None) (eq-eqb c c refl)
 
--- a step that brings a value to a cell asks that, and is seen
+-- a step that brings a value to a cell has a request for that, and is seen
 record IsStepOf (b : Bool) (c : ℕ) (v : ℤ) (d : Deed) : Type 0 where
   name : Name
   number : ℕ
@@ -106,7 +106,7 @@ step_brings b n k r took other x c u v y asks cell writes sight gives =
       sight = sight;
     }
 
--- and a drain does so with its own
+-- a drain that brings a value to a cell
 record IsDrainTo (c : ℕ) (v : ℤ) (d : Deed) : Type 0 where
   name : Name
   number : ℕ
@@ -125,7 +125,7 @@ who_brings b c (Did n k (CompareExchange x e u) took other) v gives =
 who_brings b c (Did n k Silent took other) v gives = absurd (none-some v gives)
 who_brings b c (Did n k r took other) v gives = absurd (none-some v gives)
 
--- an own store that hasn't drained
+-- a store of the thread itself that hasn't drained
 pub record IsOwnStore (b : Bool) (h : List Deed) (n : Name) (c : ℕ) (v : ℤ) (d : Deed) : Type 0 where
   pub number : ℕ
   pub took : ℤ
@@ -167,7 +167,7 @@ module _ {B : Type 0} (setting : Setting B) (history : HistoryAlong setting) whe
   open setting use {ops, code, log}
   open history use {deeds as h, along}
 
-  -- a store that a thread's step asks is in memory, or in the thread's buffer
+  -- the store of a thread's step is in memory or in the thread's buffer
   pub record IsInMemory (u k c : ℕ) (v : ℤ) : Type 0 where
     pub older : List Deed
     pub deed : Deed
@@ -218,7 +218,7 @@ module _ {B : Type 0} (setting : Setting B) (history : HistoryAlong setting) whe
             | inr waits ↦ inr (record { buffered = has; issued = i; waits = waits })
           ]
 
-  -- and what brings a value to memory is a store that a thread's step asks
+  -- a deed that brings a value to memory has the store of a thread's step
   pub record IsStoreOf (c : ℕ) (v : ℤ) (d : Deed) : Type 0 where
     pub place : ℕ
     pub walk : Walk

@@ -21,11 +21,11 @@ behind (Some y) x xs i = inr i
 
 -- Regions.
 
--- the region of an event that takes a mutex
+-- the region of an event that acquires a mutex
 abbrev region_at : Event → List Event → ℕ → Region
 region_at x later m = record { mutex = m; «from» = x.step; to = left_at m later }
 
--- the first step that leaves a mutex is one of the events'
+-- the first step that releases a mutex is that of an event
 left_after : (m : ℕ) (es : List Event) (j k : ℕ) → left_at m es ≡ Some k → Each (λ y. j < y.step) es → j < k
 left_after m [] j k left each = absurd (none-some k left)
 left_after m (e ∷ es) j k left each = by (option_map_or (λ l. l == m) (leaves e.kind) false) left (λ l. left_after m es j k l each.1)
@@ -34,7 +34,7 @@ left_after m (e ∷ es) j k left each = by (option_map_or (λ l. l == m) (leaves
     by true left rest = subst (λ i. j < i) (same_Some e.step k left) each.0
     by false left rest = rest left
 
--- a region of a mutex that begins with an event, and ends later
+-- a region of a mutex that begins with an event and ends later
 pub record BeginsRegion (es : List Event) (x : Event) (m : ℕ) : Type 0 where
   pub region : Region
   pub there : In region (regions_of es)

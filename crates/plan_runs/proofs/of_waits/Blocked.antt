@@ -49,7 +49,7 @@ module _ {B : Type 0} (setting : Setting B) (nodes : List Node) (w : World) (law
   abbrev r : RunOf machine log h
   r = its_run setting (history_of lawful gone)
 
-  -- a mutex that is held at the end is owned
+  -- a mutex that is held at the end has an owner
   held_is_owned : (m : ℕ) → IsHeld paths w m → (n : Name) × (owner_in h m ≡ Some n)
   held_is_owned m held =
       let v = held.there.0 in

@@ -1,4 +1,4 @@
--- A mutex that is about to be taken is free.
+-- A mutex is free when it is about to be acquired.
 use Rattle.std.proofs.Common.{◌≡◌, ◌≢◌, ◌⊎◌, ◌∙◌, inl, inr, ℕ, ◌<◌, ◌==◌, Bool, true, false, List, Option, Some, None, refl, sym, ap, subst, arith}
 use Rattle.std.specs.List.{Contains}
 use Rattle.std.proofs.lemmas.Bool.{true≢false, eqb-true, eq-eqb}
@@ -27,7 +27,7 @@ use Rattle.plan_runs.proofs.of_waits.Begun.{BeginsRegion, taken_region, region_e
 use Rattle.plan_runs.proofs.of_waits.Worlds.{are_whole, walk, rising, in_turn, went_before}
 use Rattle.plan_runs.proofs.Histories.{history_of}
 
--- a store takes no mutex
+-- a store acquires no mutex
 no_store : (k : EventKind) (m : ℕ) → takes k ≡ Some m → is_store k ≡ false
 no_store kind.Store m takes_it = absurd (none-some m takes_it)
 no_store k m takes_it = refl
@@ -52,7 +52,7 @@ module _ {B : Type 0} (setting : Setting B) (nodes : List Node) (w : World) (law
 
   module _ (u : ℕ) (v : Walk) (s : Region) (there : IsThread code log u v) (i : Contains v.regions s) (mutex : s.mutex ≡ m)
       (lasts : IsOpenAfter (steps_in h v.name) s) where
-    -- another that has begun is another
+    -- an open region of the mutex is a different one
     differ : (t ≢ u) ⊎ (mine.region.«from» ≢ s.«from»)
     differ = by (t == u) refl
       where
@@ -63,7 +63,7 @@ module _ {B : Type 0} (setting : Setting B) (nodes : List Node) (w : World) (law
             let begun : s.«from» < steps_in h q.name = subst (λ (y : Walk). s.«from» < steps_in h y.name) one lasts.begun in
             inr (λ e. omega (arith, begun, at.steps, mine.begins, e))
 
-    -- it isn't left later, for it has begun
+    -- the new region isn't released before the other begins, since the other has begun
     not_after : IsLeftBefore (paths_of code log) w t mine.region u s → ⊥
     not_after left =
         let y = (are_whole setting nodes w lawful).left t left.0 mine.region has_mine left.1 in
@@ -82,7 +82,7 @@ module _ {B : Type 0} (setting : Setting B) (nodes : List Node) (w : World) (law
         (subst (λ k. place_of (paths_of code log) w t left.0 < place_of (paths_of code log) w u k) (sym e.step) left.2) in
         omega (arith, mine_first, began, first, at.at)
 
-    -- nor before, for it is open
+    -- the other region isn't released before, since it is open
     not_before : IsLeftBefore (paths_of code log) w u s t mine.region → ⊥
     not_before left =
         let y = (are_whole setting nodes w lawful).left u left.0 s (v, there, i) left.1 in

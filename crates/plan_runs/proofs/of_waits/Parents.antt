@@ -1,4 +1,4 @@
--- A thread of paths but main is created by an event of another.
+-- Each thread of the paths except main is created by an event of another thread.
 use Rattle.std.proofs.Common.{◌≡◌, ◌⊎◌, ◌∙◌, inl, inr, ℕ, zero, suc, ◌+◌, ◌<◌, ◌==◌, ◌&&◌, Bool, true, false, List, [], ◌∷◌, length, take, drop}
 use Rattle.std.proofs.Common.{Option, Some, None, refl, sym, ap, subst, arith}
 use Rattle.std.specs.Prelude.{slice_get, unwrap_or}
@@ -30,7 +30,7 @@ use Rattle.path_laws.proofs.of_events.Marked.{event_at, event_there}
 use Rattle.path_laws.proofs.of_events.Sites.{last_is_site}
 use Rattle.path_laws.proofs.of_stuck.Rests.{mapped_from}
 
--- a create is no site, and asks for the next child
+-- a create isn't a site, and its request is for the next child
 no_site : (i : Instr) (f : ℕ) → starts i ≡ Some f → is_site i ≡ true → ⊥
 no_site (Create h g es) f e site = false≢true site
 no_site i f e site = none-some f e
@@ -116,7 +116,7 @@ module _ (code : Code) (log : Log) where
       refl,
     )
 
-  -- the event of a thread that creates one of a name
+  -- an event of a thread that creates the thread with this name
   pub record IsCreatedBy (n : Name) : Type 0 where
     pub place : ℕ
     pub walk : Walk

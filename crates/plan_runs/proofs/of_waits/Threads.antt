@@ -1,4 +1,4 @@
--- Threads are there when their events come, and joins find exits.
+-- Threads exist when their events come, and joins find exits.
 use Rattle.std.proofs.Common.{◌≡◌, ◌∙◌, inl, inr, ℕ, ◌+◌, ◌<◌, Bool, true, false, ◌&&◌, ◌||◌, List, ◌∷◌, ◌++◌, take}
 use Rattle.std.proofs.Common.{Option, Some, None, IsTrue, refl, sym, ap, subst, arith, slice_index_or}
 use Rattle.std.specs.Prelude.{slice_get, option_map, option_and_then}
@@ -78,7 +78,7 @@ joined_child t (Child j) k can is number = subst (IsChildOf t) number is
 joined_child t Unset k can is number = absurd (false≢true can)
 joined_child t (Joined j) k can is number = absurd (false≢true can)
 
--- main is always there
+-- main always exists
 main_there : (h : List Deed) (n : Name) → n ≡ main → is_thread_in h n ≡ true
 main_there h n is = ap (λ b. b || list_any (same n) (filter_map creates h)) (same_self n main is)
 
@@ -89,7 +89,7 @@ module _ {B : Type 0} (setting : Setting B) (nodes : List Node) (w : World) (law
   abbrev paths : Paths
   paths = paths_of code log
 
-  -- a child is there whose create is done
+  -- a child exists once its create is done
   child_there : (u : ℕ) (v : Walk) (y : Event) (k : ℕ) → IsThread code log u v → In y v.events → y.kind ≡ kind.Create k → y.step < steps_in h v.name
       → is_thread_in h (child v.name k) ≡ true
   child_there u v y k there i is done =
@@ -108,7 +108,7 @@ module _ {B : Type 0} (setting : Setting B) (nodes : List Node) (w : World) (law
       let made = in_mapped creates deed n h (subst (In deed) (sym at) (in_at d.older deed d.newer)) created in
       ap (λ b. same n main || b) (in_any (same n) n (filter_map creates h) made (same_self n n refl)) ∙ or-true (same n main)
 
-  -- so a thread is there whose create has come
+  -- a thread exists once its create has come
   thread_there : (c : ℕ) (q : Walk) → IsThread code log c q
       → ((o : IsCreatedBy code log q.name) → place code log w o.place o.event < p) → is_thread_in h q.name ≡ true
   thread_there c q there before =
@@ -157,14 +157,14 @@ module _ {B : Type 0} (setting : Setting B) (nodes : List Node) (w : World) (law
   abbrev steps : List Step
   steps = steps_at code q.function q.places
 
-  -- the thread is about to do the join
+  -- the next step of the thread is the join
   next : IsNextOnPath code h q
   next =
       let within = event_within code log q (walk setting nodes w lawful t q own_there) x (in_contains x q.events x_among) in
       next_on_path setting history thread at.gone.going
       (there_at setting nodes w lawful p h at.gone t q x own_there x_among at.at) (omega (arith, within, at.steps))
 
-  -- the child's thread is there
+  -- the thread of the child exists
   child_is : is_thread_in h (child q.name k) ≡ true
   child_is =
       let a = thread_next setting history thread at.gone.going next in

@@ -1,4 +1,4 @@
--- Sleeps and what ends them, when an event comes.
+-- Sleeps and their enders, when an event comes.
 use Rattle.std.proofs.Common.{◌≡◌, ◌↔◌, ◌∙◌, ℕ, ◌+◌, ◌<◌, ◌≤◌, ◌==◌, Bool, true, false, List, length, Option, Some, None, refl, sym, ap, subst, arith}
 use Rattle.std.specs.Prelude.{slice_get}
 use Rattle.std.specs.FinSet as set
@@ -51,7 +51,7 @@ module _ {B : Type 0} (setting : Setting B) (nodes : List Node) (w : World) (law
     pub named : (c : ℕ) (n : Name) → set.contains (waiting_in h c) n ≡ true → IsNameOfThread code log n
     named c n is = waiter_named setting (history_of lawful gone) c n is
 
-    -- what ends a sleep that lasts comes at the position or later
+    -- the ender of a sleep that lasts has the position or a later one
     pub ends_later : (t : ℕ) (q : Walk) (s : Sleep) (k g : ℕ) → IsThread code log t q → slice_get (all_sleeps paths) k ≡ Some (record { thread = t; it = s })
         → IsAsleepIn h q.name s → ender_of w k ≡ Some g → p ≤ position w g
     ends_later t q s k g there is asleep ends =

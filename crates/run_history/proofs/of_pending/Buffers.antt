@@ -1,4 +1,4 @@
--- What is in a thread's buffer is told by the history: what it issued and hasn't drained.
+-- The history determines a thread's buffer: the stores that it issued and hasn't drained.
 use Rattle.std.proofs.Common.{◌≡◌, ◌≢◌, ◌∙◌, inl, inr, ℕ, ◌+◌, ◌<◌, ◌≤◌, ◌==◌, ℤ, pos, Bool, true, false, not, ◌||◌, ◌&&◌, cond, IsTrue}
 use Rattle.std.proofs.Common.{List, [], ◌∷◌, ◌++◌, Option, Some, None, refl, sym, ap, ap₂, subst, arith, append-nil, if◌then◌else◌}
 use Rattle.std.specs.List.{filter, filter_map, cons_option}
@@ -49,7 +49,7 @@ module _ (buffered : Bool) where
   abbrev undrained : List Deed → Name → Issue → Bool
   undrained h q i = not (has_drained h q i.number)
 
-  -- what is pending after a step: also what it issues
+  -- a step adds what it issues to what is pending
   pending-did : (h : List Deed) (n q : Name) (k : ℕ) (r : Request) (v : ℤ) (o : Option Name)
       → pending_issues buffered (h ++ Did n k r v o ∷ []) q
       ≡ pending_issues buffered h q ++ filter (undrained h q) (cons_option (issue_of buffered q (Did n k r v o)) [])
@@ -74,7 +74,7 @@ module _ (buffered : Bool) where
   never true x = refl
   never false x = refl
 
-  -- a step of another thread issues nothing of this one
+  -- a step of another thread adds nothing to what this thread issued
   issue-other : (n q : Name) (k : ℕ) (r : Request) (v : ℤ) (o : Option Name) → q ≢ n → issue_of buffered q (Did n k r v o) ≡ None
   issue-other n q k (Write c w) v o other =
       let i : Issue = record { number = k; what = Store (record { cell = c; value = w }) } in
@@ -84,7 +84,7 @@ module _ (buffered : Bool) where
   issue-other n q k Silent v o other = refl
   issue-other n q k r v o other = refl
 
-  -- what is pending after a drain: no longer what it drained
+  -- a drain removes its store from what is pending
   pending-drained : (h : List Deed) (n q : Name) (k c : ℕ) (v : ℤ) → q ≡ n
       → pending_issues buffered (h ++ Drained n k c v ∷ []) q ≡ filter (isnt k) (pending_issues buffered h q)
   pending-drained h n q k c v e =
@@ -104,7 +104,7 @@ module _ (buffered : Bool) where
       ∙ filter_agree (undrained (h ++ Drained n k c v ∷ []) q) (undrained h q)
       (λ i. ap not (drained-drained h n q k i.number c v ∙ ap (λ b. has_drained h q i.number || (b && i.number == k)) (same_other q n other) ∙ or-false _)) _
 
--- the numbers of what a history tells of a buffer
+-- the numbers of pending issues rise, and they and the drained ones are below the thread's count
 pub record NumbersAre (buffered : Bool) (h : List Deed) (q : Name) : Type 0 where
   pub rises : Rises (pending_issues buffered h q)
   pub below : AllBelow (steps_in h q) (pending_issues buffered h q)
@@ -119,13 +119,13 @@ numbers_stay buffered h g q is more drained a = record {
 }
 
 module _ {B : Type 0} (ops : BufferOps B) (model : Model) (bound : Binding) (laws : Laws ops model bound) (code : Code) where
-  -- what is told of buffers
+  -- the history determines the buffer of each thread
   pub record BuffersAre (s : State B) (h : List Deed) : Type 0 where
     pub threads : ThreadsAre ops code s h
     pub stands : (q : Name) (t : Thread B) → fin.get s.threads q ≡ Some t → Stands ops t.buffer (pending ops.buffered h q)
     pub numbers : (q : Name) → NumbersAre ops.buffered h q
 
-  -- what a step of a thread issues, and what that makes of its buffer
+  -- what a step of a thread issues, and the buffer after it
   data Issues (b : B) (ps : List Pending) (r : Request) (k : ℕ) (o : Option Issue) : Type 0 where
     Nothing : o ≡ None → buffer_by ops code b r ≡ b → Issues b ps r k o
     Something : (p : Pending) → o ≡ Some (record { number = k; what = p }) → Stands ops (buffer_by ops code b r) (ps ++ p ∷ []) → Issues b ps r k o
@@ -243,7 +243,7 @@ module _ {B : Type 0} (ops : BufferOps B) (model : Model) (bound : Binding) (law
         numbers = numbers_after;
       }
 
-  -- a drain takes out what the model's drain takes
+  -- a drain removes the store that the model's drain takes
   module _ (s u : State B) (h : List Deed) (n : Name) (t : Thread B) (form : Option ℕ) (here : fin.get s.threads n ≡ Some t)
       (is : u.threads ≡ fin.insert s.threads n (record t { buffer = (ops.drain t.buffer form).rest })) (older : List Pending) (e : Entry) (newer : List Pending)
       (free : waits bound older e.cell ≡ false) (out : TakesOut ops t.buffer form older e newer) (a : BuffersAre s h)

@@ -67,7 +67,7 @@ abbrev asked_of : Deed → Option EventKind
 asked_of (Did n k r v o) = kind_of r o
 asked_of _ = None
 
--- the step of an event that is done
+-- the deed that does an event
 abbrev deed_of : (g : List Deed) (n : Name) (x : Event) → IsDoneIn g n x.step x.kind → Deed
 deed_of g n x d = Did n x.step d.request d.took d.other
 
@@ -151,7 +151,7 @@ module _ {B : Type 0} (setting : Setting B) (nodes : List Node) (terms : AreTerm
           at = d.there ∙ ap (λ r. d.older ++ Did q.name x.step r d.took d.other ∷ d.newer) s.2;
         }
 
-    -- a store that waits takes place by its drain, or never
+    -- a store that waits takes place by its drain or never
     drained_or_never : (x : Event) → In x q.events → (b && is_store x.kind) ≡ true → IsDrainedAt h q.name x.step ⊎ (TakesPlace b ps h t x.step → ⊥)
     drained_or_never x i waits = by (has_drained h q.name x.step) refl
       where
@@ -177,7 +177,7 @@ module _ {B : Type 0} (setting : Setting B) (nodes : List Node) (terms : AreTerm
         by true e = inl (drained_at h q.name x.step e)
         by false e = inr (never e)
 
-    -- The cell of a store, as its access has it.
+    -- The cell of a store, by its access.
 
     -- the access of a store
     record HasCell (x : Event) (c : ℕ) : Type 0 where
@@ -235,7 +235,7 @@ module _ {B : Type 0} (setting : Setting B) (nodes : List Node) (terms : AreTerm
       abbrev follow : AllFollow b bound code h
       follow = all.along.follow
 
-      -- neither waits
+      -- neither event waits
       by_steps : (b && is_store x.kind) ≡ false → (b && is_store y.kind) ≡ false → IsFirst
       by_steps x_kept y_kept =
           let dx = doing x xi in
@@ -245,7 +245,7 @@ module _ {B : Type 0} (setting : Setting B) (nodes : List Node) (terms : AreTerm
           ordered.order dx.older m.0 dy.newer (deed x dx) (deed y dy) t x.step t y.step (dy.there ∙ ap (λ g. g ++ deed y dy ∷ dy.newer) m.1)
           (shows x dx x_kept) (shows y dy y_kept)
 
-      -- the second waits
+      -- the second event waits
       by_drain : (b && is_store x.kind) ≡ false → (b && is_store y.kind) ≡ true → IsFirst
       by_drain x_kept y_waits =
           let dx = doing x xi in
@@ -263,7 +263,7 @@ module _ {B : Type 0} (setting : Setting B) (nodes : List Node) (terms : AreTerm
           stores : DrainsAreOfStores h
           stores = (told setting moves again).stores
 
-      -- the first waits and has drained where the second is done
+      -- the first event waits, and has drained when the second is done
       by_empty : (b && is_store x.kind) ≡ true → may_overtake y.kind ≡ false → IsFirst
       by_empty x_waits y_needs =
           let both = and_parts b (is_store x.kind) x_waits in
@@ -282,7 +282,7 @@ module _ {B : Type 0} (setting : Setting B) (nodes : List Node) (terms : AreTerm
           ordered.order d.older d.newer dy.newer drain (deed y dy) t x.step t y.step (dy.there ∙ ap (λ g. g ++ deed y dy ∷ dy.newer) d.there)
           (shows_drain b ps t x.step q d.cell d.value there) (shows y dy y_kept)
 
-      -- both wait, and the second is bound behind the first
+      -- both events wait, and the second is bound after the first
       same_is : (sx : IsStoreAt x) → (sy : IsStoreAt y)
           → same_cell b bound ps x'.symbolic x'.nodes w t x y ≡ (sx.cell == sy.cell)
       same_is sx sy =
@@ -335,7 +335,7 @@ module _ {B : Type 0} (setting : Setting B) (nodes : List Node) (terms : AreTerm
                   let m = step_before_drain b bound code h follow stores q.name x.step y.step sx.older sx.newer (Write sx.cell sx.value) sx.took sx.other sx.at d less in
                   record { before = sx.older; after = m.0; took = sx.took; other = sx.other; issued = m.1 }
 
-              -- the cell of the drain is that of the store
+              -- the drain is to the cell of the store
               drained_cell : sy.cell ≡ d.cell
               drained_cell =
                   let i = stores d.older d.newer q.name y.step d.cell d.value d.there in
@@ -389,7 +389,7 @@ module _ {B : Type 0} (setting : Setting B) (nodes : List Node) (terms : AreTerm
       keeps kept =
           kept_by (b && is_store x.kind) refl (b && is_store y.kind) refl (may_overtake y.kind) refl (is_store y.kind) refl kept
 
-    -- after the failing event nothing comes
+    -- nothing comes after the event that fails
     pub lasts : (u : ℕ) (r : Walk) → IsThread code log u r → (x f : Event) → In x q.events → In f r.events → f.kind ≡ kind.Fail → x.kind ≢ kind.Fail
         → (b && is_store x.kind) ≡ false → IsBefore ps w t x.step u f.step
     lasts u r there_too x f xi fi fails_so no_fail kept =

@@ -64,7 +64,7 @@ module _ {B : Type 0} (setting : Setting B) (nodes : List Node) (terms : AreTerm
   executed_so : IsExecutedBy paths symbolic
   executed_so = is_executed code paths nodes (record { log = log; fits = fit; are = refl })
 
-  -- each access is a step of its thread, and is done
+  -- each access is of a step of its thread
   pub access_step : (t : ℕ) (a : Access) → HasAccess symbolic t a → HasStep paths t a.step
   access_step t a has = let x = executed_so.accesses t a has in (x.0, x.1, x.2)
 
@@ -80,7 +80,7 @@ module _ {B : Type 0} (setting : Setting B) (nodes : List Node) (terms : AreTerm
   access_reached t a has =
       let q = access_walk t a has in record { walk = q.0; course = has.0; thread = q.1; there = has.1; among = has.2; reached = inl q.2 }
 
-  -- two of them are to one cell where they ask for one, and this has at the start what memory has there
+  -- two accesses are to one cell if their requests are, and its initial value is that of memory
   pub same_cell : (t : ℕ) (a : Access) (u : ℕ) (b : Access) → HasAccess symbolic t a → HasAccess symbolic u b
       → is_same_cell later w a.cell b.cell ≡ (cell_by later w.loads a.cell == cell_by later w.loads b.cell)
   same_cell t a u b has and =
@@ -106,7 +106,7 @@ module _ {B : Type 0} (setting : Setting B) (nodes : List Node) (terms : AreTerm
             (in_contains a has.0.accesses has.2) q.2;
       }
 
-  -- and the access of a deed
+  -- the access of a deed's request
   pub access_of : (t : ℕ) (q : Walk) (k : ℕ) (r : Request) (took : ℤ) (other : Option Name) (x : Asked) → IsThread code log t q
       → In (Did q.name k r took other) h → asked_by took r ≡ x ∷ []
       → (a : Access) × HasAccess symbolic t a × (a.step ≡ k) × (asked_in later w.loads a ≡ x)

@@ -1,4 +1,4 @@
--- What the loads of a run take: the value of the last store that they see.
+-- Each load of a run takes the value of the last store that it sees.
 use Rattle.std.proofs.Common.{◌≡◌, ◌∙◌, ◌⊎◌, inl, inr, ℕ, ◌<◌, ℤ, pos, Bool, true, false, List, [], ◌∷◌, ◌++◌, Option, Some, None}
 use Rattle.std.proofs.Common.{refl, sym, ap, subst, arith, append_assoc}
 use Rattle.std.specs.Prelude.{is_some, unwrap_or, option_map, slice_index_or, IsSome}
@@ -162,7 +162,7 @@ module _ {B : Type 0} (setting : Setting B) (nodes : List Node) (terms : AreTerm
     in_history : (e : Deed) → In e older → In e h
     in_history e i = subst (In e) (sym at) (in_left e older (deed ∷ newer) i)
 
-    -- an own store that waits when the load is done
+    -- a store of the same thread that waits when the load is done
     record IsWaiting (y : Access) : Type 0 where
       buffers : buffered ≡ true
       value : ℤ
@@ -211,7 +211,7 @@ module _ {B : Type 0} (setting : Setting B) (nodes : List Node) (terms : AreTerm
         eqb-true (cell y) c
         (sym (same_cell setting nodes terms moves again w agrees u y t a s.there has) ∙ s.cell)
 
-    -- what it sees has taken place before it, or is an own store that waits
+    -- each store that the load sees has taken place before it, or waits in the thread's own buffer
     how_seen : (u : ℕ) (y : Access) → SeesOf t a u y → IsShownIn buffered paths older u y.step ⊎ ((u ≡ t) × IsWaiting y)
     how_seen u y s = elim s.before [
       | inl before ↦
@@ -227,7 +227,7 @@ module _ {B : Type 0} (setting : Setting B) (nodes : List Node) (terms : AreTerm
     first_so : (u j : ℕ) → IsShownIn buffered paths older u j → IsBefore paths w u j t k
     first_so u j shown = first_before buffered paths h w order older newer deed t k at shows u j shown
 
-    -- The thread has stores to the cell that wait: the load takes the last of them.
+    -- If the thread has waiting stores to the cell, the load takes the last of them.
     module _ (v : ℤ) (l : IsLast (own_value buffered older n c) older v) where
       own : IsPendingStore buffered older n c v l.deed
       own = own_is buffered older n c v l.deed l.gives
@@ -261,7 +261,7 @@ module _ {B : Type 0} (setting : Setting B) (nodes : List Node) (terms : AreTerm
       has_step : HasStep paths t j
       has_step = subst (HasStep paths t) written.2 (access_step setting nodes terms moves again w agrees t newest written.1)
 
-      -- it takes place after the load, if it does
+      -- the waiting store doesn't take place before the load
       not_shown : IsShownIn buffered paths older t j → ⊥
       not_shown s =
           let seen = shown_by buffered paths t j q s.deed d.thread s.shows in
@@ -278,7 +278,7 @@ module _ {B : Type 0} (setting : Setting B) (nodes : List Node) (terms : AreTerm
       after : IsBefore paths w t k t j
       after = comes_after buffered paths h w order older newer deed t k at shows t j has_step not_shown other_deed
 
-      -- no own store to the cell that waits is newer
+      -- no later store of the thread to the cell waits
       none_newer : (z : Access) → IsWaiting z → j < z.step → ⊥
       none_newer z x more =
           let step = Did n z.step (Write c x.value) x.took x.other in
@@ -331,7 +331,7 @@ module _ {B : Type 0} (setting : Setting B) (nodes : List Node) (terms : AreTerm
             ∙ sym (ap (λ (x : Asked). x.writes) written.3);
       }
 
-    -- It has none: the load takes what memory has.
+    -- If the thread has no waiting store to the cell, the load takes the value in memory.
     module _ (none : filter_map (own_value buffered older n c) older ≡ []) where
       in_memory : (asks a).takes ≡ Some (value_in buffered code older c)
       in_memory = takes_so ∙ ap (λ o. Some (unwrap_or o (value_in buffered code older c))) (own_has_none buffered older n c none)
@@ -345,7 +345,7 @@ module _ {B : Type 0} (setting : Setting B) (nodes : List Node) (terms : AreTerm
             (own_so buffered older n c x.value z.step x.took x.other x.buffers x.waits))
       ]
 
-      -- what it sees has brought a value to the cell
+      -- each store that the load sees has brought a value to the cell
       brought : (u : ℕ) (z : Access) → SeesOf t a u z → (x : IsShownIn buffered paths older u z.step) → (v : ℤ) × (brings buffered c x.deed ≡ Some v)
       brought u z s x =
           let p = x.shows.walk in
@@ -354,7 +354,7 @@ module _ {B : Type 0} (setting : Setting B) (nodes : List Node) (terms : AreTerm
           (in_history x.deed x.there) (seen_by buffered p.name z.step x.deed x.shows.sight) in
           (y.value, brings_so buffered c y.value x.deed (reach ∙ ap (λ i. Some (entry i y.value)) (same_so u z s)))
 
-      -- the last store that reached the cell
+      -- the load takes the value of the last store that reached the cell
       module _ (v : ℤ) (l : IsLast (brings buffered c) older v) where
         deed_in : In l.deed older
         deed_in = subst (In l.deed) (sym l.there) (in_at l.older l.deed l.newer)
@@ -439,7 +439,7 @@ module _ {B : Type 0} (setting : Setting B) (nodes : List Node) (terms : AreTerm
               ∙ sym (ap (λ (g : Asked). g.writes) source.3 ∙ writes_it.3);
         }
 
-      -- none has
+      -- if no store reached the cell, the load takes its initial value
       from_start : filter_map (brings buffered c) older ≡ [] → TakesFirst code paths symbolic later w t a
       from_start nothing = record {
         sees = λ u z s. let e = shown u z s in let v = brought u z s e in none_gives (brings buffered c) older e.deed v.0 nothing e.there v.1;
@@ -458,6 +458,6 @@ module _ {B : Type 0} (setting : Setting B) (nodes : List Node) (terms : AreTerm
       | inr l ↦ inl (t, (written l.0 l.1).0, from_store l.0 l.1)
     ]
 
-  -- so each load meets its rule
+  -- each load meets its rule
   pub read_rule : (t line : ℕ) → ReadRule code paths symbolic later w t line
   read_rule t line = record { loads = λ a x has loads event step at_line. takes_last t a has loads }

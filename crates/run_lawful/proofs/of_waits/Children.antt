@@ -1,4 +1,4 @@
--- Threads begin after their create, and a join comes after the thread's end.
+-- A thread begins after its create, and a join comes after the thread's exit.
 use Rattle.std.proofs.Common.{◌≡◌, ◌∙◌, ℕ, ◌+◌, ℤ, Bool, true, false, not, ◌||◌, List, ◌∷◌, ◌++◌, Option, Some, None, refl, sym, ap, subst}
 use Rattle.std.specs.Prelude.{is_some, option_and_then}
 use Rattle.std.specs.FinMap as fin
@@ -41,7 +41,7 @@ use Rattle.run_lawful.proofs.of_waits.Deeds.{none_pending, creates_are, joins_ar
 use Rattle.run_lawful.proofs.of_waits.First.{comes_first}
 use Rattle.run_lawful.proofs.of_waits.Parts.{created_by, joined_by, start_is, await_is}
 
--- a thread stays one
+-- a thread of a history is one of a longer history
 thread_stays : (xs ys : List Deed) (n : Name) → is_thread_in xs n ≡ true → is_thread_in (xs ++ ys) n ≡ true
 thread_stays xs ys n there =
     ap (λ os. same n main || list_any (same n) os) (filter_map-append creates xs ys)
@@ -67,7 +67,7 @@ module _ {B : Type 0} (setting : Setting B) (nodes : List Node) (moves : List Mo
 
   module _ (t : ℕ) (p : Walk) (l : Link) (there : IsThread code log t p) (c : ℕ) (q : Walk) (child_there : IsThread code log c q)
       (name : q.name ≡ child p.name l.child) where
-    -- the deed that creates a child, which is no thread before
+    -- the deed that creates a child, which isn't a thread before
     record CreateDeed : Type 0 where
       older : List Deed
       deed : Deed
@@ -103,7 +103,7 @@ module _ {B : Type 0} (setting : Setting B) (nodes : List Node) (moves : List Mo
         }
 
     module _ (d : CreateDeed) where
-      -- so the child's steps come after it
+      -- the child's steps come after its create
       step_after : (older newer : List Deed) (k : ℕ) (r : Request) (took : ℤ) (other : Option Name) → done ≡ older ++ Did q.name k r took other ∷ newer
           → (between : List Deed) × (older ≡ d.older ++ d.deed ∷ between)
       step_after older newer k r took other at =
@@ -125,7 +125,7 @@ module _ {B : Type 0} (setting : Setting B) (nodes : List Node) (moves : List Mo
           let b = step_after e.older e.newer x.step e.request e.took e.other e.at in
           comes_first setting nodes moves again c q x child_there i e t l.step d.older b.0 d.deed d.shows b.1
 
-    -- a join finds the child's exit done
+    -- a join finds that the child has exited
     joined_last : Contains p.joins l → HasExited threads (w setting nodes moves again) c t l.step
     joined_last i =
         let f = fit setting nodes moves again in

@@ -1,4 +1,4 @@
--- What ends waits in a run.
+-- What ends the waits of a run.
 use Rattle.std.proofs.Common.{◌≡◌, ◌∙◌, inl, inr, ℕ, ◌+◌, ◌<◌, ◌==◌, ℤ, true, false, not, cond, ◌&&◌, ◌||◌, List, ◌∷◌, ◌++◌}
 use Rattle.std.proofs.Common.{Option, Some, None, refl, sym, ap, ap₂, subst, arith, append_assoc}
 use Rattle.std.specs.Prelude.{slice_get, map, option_map, unwrap_or}
@@ -58,7 +58,7 @@ use Rattle.run_lawful.proofs.of_waits.Sleeping.{gives_none, none_ends, SleepDeed
 use Rattle.run_lawful.proofs.of_waits.Sleeps.{one_sleep}
 use Rattle.path_laws.proofs.of_history.Logged.{history_again}
 
--- a signal that wakes a thread ends its wait, and a broadcast that of all
+-- a signal that wakes a thread ends its wait, and a broadcast ends all waits on its condition
 wakes_it : (c : ℕ) (n q : Name) (k : ℕ) (took : ℤ) → ends_wait c n (Did q k (WakeOne c) took (Some n)) ≡ true
 wakes_it c n q k took = ap₂ (λ a b. option_map_or not (cond (a && b) (Some false) None) false) (eq-eqb c c refl) (same_self n n refl)
 
@@ -97,7 +97,7 @@ module _ {B : Type 0} (setting : Setting B) (nodes : List Node) (moves : List Mo
   abbrev Ends : (x : Of Sleep) → Its_deed x → ℕ → Type 0
   Ends x d g = EndsAt setting nodes moves again x d g
 
-  -- what ends a sleep comes when it has begun
+  -- what ends a sleep comes after the sleep begins
   ends_later : (s g : ℕ) (x : Of Sleep) → slice_get (all_sleeps threads) s ≡ Some x → ender_of world s ≡ Some g
       → place_of threads world x.thread x.it.step < position world g
   ends_later s g x at ended =
@@ -107,7 +107,7 @@ module _ {B : Type 0} (setting : Setting B) (nodes : List Node) (moves : List Mo
       ((ordered setting nodes moves again).order d.older e.between e.newer d.deed e.ender x.thread x.it.step e.thread e.step
       e.at d.shows e.shows)
 
-  -- something that ended a sleep before a deed
+  -- a deed that ended a sleep before another deed
   record EndedBefore (x : Of Sleep) (d : Its_deed x) (between : List Deed) : Type 0 where
     number : ℕ
     thread : ℕ
@@ -154,7 +154,7 @@ module _ {B : Type 0} (setting : Setting B) (nodes : List Node) (moves : List Mo
         shows = e.shows;
       }
 
-  -- before a thread wakes something has ended its sleep
+  -- something has ended a sleep before its thread wakes
   wakes_after : (s k : ℕ) (x : Of Sleep) → slice_get (all_sleeps threads) s ≡ Some x → x.it.wake ≡ Some k
       → (g : ℕ) × (ender_of world s ≡ Some g) × (position world g < place_of threads world x.thread k)
   wakes_after s k x at wake = first later.0 (later.1 ∙ ap (λ y. d.older ++ y ∷ later.0) (sym d.begins))
@@ -202,14 +202,14 @@ module _ {B : Type 0} (setting : Setting B) (nodes : List Node) (moves : List Mo
                 d.within (ap (λ g. set.contains (waiting_in g x.it.condition) n) front ∙ waits) e.may)
           ]
 
-      -- it wakes after its sleep
+      -- the wake comes after the sleep
       later : (between : List Deed) × (e.older ≡ d.older ++ Did n x.it.step (BeginWait x.it.condition x.it.mutex) d.took d.other ∷ between)
       later =
           steps_ordered ops.buffered bound code done (history_again setting moves again).along.follow n x.it.step y.0.step d.older
           d.newer e.older e.newer (BeginWait x.it.condition x.it.mutex) e.request d.took e.took d.other e.other
           (d.at ∙ ap (λ z. d.older ++ z ∷ d.newer) d.begins) e.at (omega (arith, y.2, next))
 
-  -- the deed of the event of a number
+  -- the deed of the event with this number
   record Signalled (g : ℕ) (e : Of Event) : Type 0 where
     walk : Walk
     there : IsThread code log e.thread walk
@@ -232,7 +232,7 @@ module _ {B : Type 0} (setting : Setting B) (nodes : List Node) (moves : List Mo
         shows = d.shows (none_pending ops.buffered e.it.kind quiet);
       }
 
-  -- a sleep that waits when an event comes: it has begun, and nothing has ended it
+  -- a sleep that has begun before an event, and that no deed before it ended
   record WaitsAt (x : Of Sleep) (d : Its_deed x) (older : List Deed) : Type 0 where
     between : List Deed
     front : older ≡ d.older ++ d.deed ∷ between
@@ -247,7 +247,7 @@ module _ {B : Type 0} (setting : Setting B) (nodes : List Node) (moves : List Mo
     abbrev signal : Deed
     signal = Did v.walk.name e.it.step v.deed.request v.deed.took v.deed.other
 
-    -- the place of the event
+    -- the place of an event among all deeds
     its_place : position world g ≡ place_of threads world e.thread e.it.step
     its_place = ap (position world) (sym v.number)
 
@@ -287,7 +287,7 @@ module _ {B : Type 0} (setting : Setting B) (nodes : List Node) (moves : List Mo
             e.it.step x.thread x.it.step (d.at ∙ ap (λ xs. xs ++ d.deed ∷ d.newer) back) v.shows d.shows in
             absurd (omega (arith, less, its_place, waits.begun))
 
-    -- a broadcast ends it
+    -- a broadcast ends the sleep
     broadcast_ends : v.deed.request ≡ WakeAll x.it.condition → ender_of world s ≡ Some g
     broadcast_ends asked =
         let a = waits_at in
@@ -317,7 +317,7 @@ module _ {B : Type 0} (setting : Setting B) (nodes : List Node) (moves : List Mo
         may : (o : Option Name) → v.deed.other ≡ o → may_do_in ops.buffered v.deed.older v.walk.name (WakeOne c) o ≡ true
         may o other = ap₂ (may_do_in ops.buffered v.deed.older v.walk.name) (sym asked) (sym other) ∙ v.deed.may.may
 
-        -- it wakes the thread of a sleep
+        -- the signal wakes the thread of a sleep
         woken : (u : Name) → v.deed.other ≡ Some u → set.contains (waiting_in v.deed.older c) u ≡ true → (r : ℕ) × (ender_of world r ≡ Some g)
         woken u other waits =
             let before = before_deed setting nodes moves again v.deed in
@@ -360,9 +360,9 @@ module _ {B : Type 0} (setting : Setting B) (nodes : List Node) (moves : List Mo
             woken u other
             (and_parts (is_nil (stores (pending ops.buffered v.deed.older v.walk.name))) (set.contains (waiting_in v.deed.older c) u) (may (Some u) other)).1
 
-  -- A signal ends one sleep at most.
+  -- A signal ends at most one sleep.
 
-  -- where a sleep begins after another of its thread, something has ended the first between
+  -- if a sleep begins after another of its thread, a deed between has ended the first
   not_between : (x y : Of Sleep) (d : Its_deed x) (b : Its_deed y) (between mid later newer : List Deed) → done ≡ (d.older ++ d.deed ∷ between) ++ newer
       → list_any (ends_wait x.it.condition d.walk.name) between ≡ false → between ≡ mid ++ b.deed ∷ later → x.it.condition ≡ y.it.condition
       → d.walk.name ≡ b.walk.name → ⊥
@@ -378,7 +378,7 @@ module _ {B : Type 0} (setting : Setting B) (nodes : List Node) (moves : List Mo
     abbrev the_signal : Deed
     the_signal = Did v.walk.name e.it.step v.deed.request v.deed.took v.deed.other
 
-    -- what ends a sleep is that signal
+    -- the deed that ends the sleep is this signal
     record EndsBySignal (x : Of Sleep) (d : Its_deed x) (a : Ends x d g) : Type 0 where
       front : d.older ++ d.deed ∷ a.between ≡ v.deed.older
       condition : x.it.condition ≡ c
@@ -423,7 +423,7 @@ module _ {B : Type 0} (setting : Setting B) (nodes : List Node) (moves : List Mo
             absurd ((ordered setting nodes moves again).once v.deed.older between a.newer the_signal a.ender e.thread
             e.it.step (a.at ∙ ap (λ xs. xs ++ a.ender ∷ a.newer) back) v.shows its_shows)
 
-    -- two sleeps that it ends are one
+    -- two sleeps that the signal ends are the same
     one_step_of : (x y : Of Sleep) (d : Its_deed x) (b : Its_deed y) → Ends x d g → Ends y b g → (x.thread ≡ y.thread) × (x.it.step ≡ y.it.step)
     one_step_of x y d b ends also = (thread, by (two_places d.older d.deed d.newer b.older b.deed b.newer (sym d.at ∙ b.at)))
       where
@@ -442,7 +442,7 @@ module _ {B : Type 0} (setting : Setting B) (nodes : List Node) (moves : List Mo
         condition : x.it.condition ≡ y.it.condition
         condition = first.condition ∙ sym second.condition
 
-        -- what is between the first and the signal
+        -- the deeds between the first sleep and the signal
         rest_is : (o : List Deed) (z : Deed) (between mid : List Deed) (p : List Deed) (y : Deed) (later : List Deed) → o ++ z ∷ between ≡ p ++ y ∷ later
             → p ≡ o ++ z ∷ mid → between ≡ mid ++ y ∷ later
         rest_is o z between mid p y later whole front =
@@ -461,7 +461,7 @@ module _ {B : Type 0} (setting : Setting B) (nodes : List Node) (moves : List Mo
             absurd (not_between y x b d also.between mid ends.between (also.ender ∷ also.newer) also.at also.lasts
             (rest_is b.older b.deed also.between mid d.older d.deed ends.between (second.front ∙ sym first.front) back) (sym condition) (sym name))
 
-  -- the sleep of an ender
+  -- a number with an ender is that of a sleep
   sleep_there : (s g : ℕ) → ender_of world s ≡ Some g → (x : Of Sleep) × (slice_get (all_sleeps threads) s ≡ Some x)
   sleep_there s g ended =
       elim (slice_get_cases (all_sleeps threads) s).1 [

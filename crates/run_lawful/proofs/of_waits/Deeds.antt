@@ -36,11 +36,11 @@ use Rattle.run_lawful.proofs.of_world.Splits.{TwoPlaces, Before, Same, After, tw
 use Rattle.path_laws.proofs.of_history.Told.{its_run, up_to}
 use Rattle.path_laws.proofs.of_history.Logged.{history_again}
 
--- what isn't a store isn't kept in a buffer
+-- an event that isn't a store isn't kept in a buffer
 pub none_pending : (buffered : Bool) (k : EventKind) → is_store k ≡ false → (buffered && is_store k) ≡ false
 none_pending buffered k quiet = ap (λ b. buffered && b) quiet ∙ and-false buffered
 
--- a thread of the paths, by what its walk has
+-- a thread of the paths, with its walk
 module _ (code : Code) (log : Log) (is : is_log log ≡ true) (fits : Fits code log) (t : ℕ) (q : Walk) (there : IsThread code log t q) where
   pub creates_are : q.creates ≡ creates_of q.events
   creates_are = let k = walk_is code log is fits (path_thread t q there) in ap (λ (v : Walk). v.creates) k.is ∙ sym (ap (λ (v : Walk). creates_of v.events) k.is)
@@ -75,12 +75,12 @@ module _ {B : Type 0} (setting : Setting B) (nodes : List Node) (moves : List Mo
   abbrev pub whole : HistoryAlong setting
   whole = history_again setting moves again
 
-  -- a step is one of a thread that is there
+  -- each step is one of an existing thread
   pub left_at : (older newer : List Deed) (n : Name) (k : ℕ) (r : Request) (took : ℤ) (other : Option Name) → h ≡ older ++ Did n k r took other ∷ newer
       → IsLeftIn older n
   left_at older newer n k r took other at = (its_run setting whole).told.threads older newer n k r took other at
 
-  -- a thread does each step once
+  -- a thread does each step only once
   pub step_once : (n : Name) (k : ℕ) (o : List Deed) (x : Deed) (u p : List Deed) (y : Deed) (m : List Deed) → h ≡ o ++ x ∷ u → h ≡ p ++ y ∷ m
       → is_step n k x ≡ true → is_step n k y ≡ true → (o ≡ p) × (x ≡ y) × (u ≡ m)
   step_once n k o x u p y m at bt one two = by (two_places o x u p y m (sym at ∙ bt))

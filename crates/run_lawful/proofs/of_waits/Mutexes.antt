@@ -1,4 +1,4 @@
--- A mutex is left before it is taken again.
+-- A mutex is released before it is acquired again.
 use Rattle.std.proofs.Common.{◌≡◌, ◌≢◌, ◌∙◌, ◌⊎◌, inl, inr, ℕ, ◌<◌, ◌≤◌, Bool, true, false, not, ◌&&◌, ◌||◌, List, ◌∷◌, ◌++◌}
 use Rattle.std.proofs.Common.{Option, Some, None, refl, sym, ap, subst, arith}
 use Rattle.std.specs.Prelude.{is_none}
@@ -40,7 +40,7 @@ use Rattle.run_lawful.proofs.of_world.Splits.{TwoPlaces, Before, Same, After, tw
 use Rattle.run_lawful.proofs.of_waits.Deeds.{none_pending, regions_are, h, paths, w, fit, ordered, EventDeed, event_deed, before_deed}
 use Rattle.run_lawful.proofs.of_waits.Parts.{IsRegionOf, region_of_events, Takes, Locks, Wakes, taker_is}
 
--- what takes or leaves a mutex is no store
+-- an event that acquires or releases a mutex isn't a store
 taker_no_store : (k : EventKind) (m : ℕ) → takes k ≡ Some m → is_store k ≡ false
 taker_no_store kind.Store m t = absurd (none-some m t)
 taker_no_store k m t = refl
@@ -81,7 +81,7 @@ module _ {B : Type 0} (setting : Setting B) (nodes : List Node) (moves : List Mo
   abbrev Before_in : (t k u j : ℕ) → Type 0
   Before_in t k u j = IsBefore threads (w setting nodes moves again) t k u j
 
-  -- the region of a mutex, with the deed that takes it
+  -- the region of a mutex, with the deed that acquires it
   record RegionDeed (t : ℕ) (q : Walk) (r : Region) : Type 0 where
     parts : IsRegionOf q.events r
     deed : Deed_of t q parts.taken.event
@@ -103,7 +103,7 @@ module _ {B : Type 0} (setting : Setting B) (nodes : List Node) (moves : List Mo
     abbrev second : Deed
     second = Did q.name b.parts.taken.event.step b.deed.request b.deed.took b.deed.other
 
-    -- where another takes the mutex later, the region has ended
+    -- if another region of the mutex begins later, this one has ended
     left_before : (between : List Deed) → b.deed.older ≡ a.deed.older ++ first ∷ between
         → IsLeftBefore threads (w setting nodes moves again) t r u s
     left_before between before = by r.to refl
@@ -172,7 +172,7 @@ module _ {B : Type 0} (setting : Setting B) (nodes : List Node) (moves : List Mo
       second_deed : Deed
       second_deed = Did also.0.name b.parts.taken.event.step b.deed.request b.deed.took b.deed.other
 
-      -- they aren't one
+      -- the two deeds are different
       differ : first_deed ≡ second_deed → ⊥
       differ one =
           let name = ap (λ (n : DeedName). n.thread) (ap name_of one) in

@@ -1,4 +1,4 @@
--- The parts of a path are made of its events: links, regions and sleeps begin and end with events of their kinds.
+-- The links, regions and sleeps of a path begin and end with events of their kinds.
 use Rattle.std.proofs.Common.{◌≡◌, ◌∙◌, inl, inr, ℕ, ◌==◌, Bool, true, false, cond, List, [], ◌∷◌, Option, Some, None, refl, ap, ap₂, subst}
 use Rattle.std.specs.Prelude.{slice_get, option_map, option_and_then}
 use Rattle.std.specs.Option.{option_map_or}
@@ -19,7 +19,7 @@ use Rattle.path_laws.specs.Deeds.{kind_of}
 use Rattle.path_laws.proofs.of_stuck.Rests.{mapped_from}
 use Rattle.order_events.proofs.Lists.{of_nil, of_cons, in_front, in_back, of_filter_map}
 
--- an event of a kind that passes a test, in a step
+-- the event of a step, whose kind has this property
 pub record IsEventOf (es : List Event) (k : ℕ) (P : EventKind → Type 0) : Type 0 where
   pub event : Event
   pub among : Contains es event
@@ -127,7 +127,7 @@ slept_by (e ∷ es) s i = by e.kind refl i (slept_by es s)
     by kind.Load is j later = one_more e es s.step (λ k. k ≡ kind.Sleep s.condition s.mutex) (later j)
     by k is j later = one_more e es s.step (λ k. k ≡ kind.Sleep s.condition s.mutex) (later j)
 
--- What a request asks as an event of a kind.
+-- The kinds of events of requests.
 
 abbrev child_number : Option Name → Option ℕ
 child_number other = option_and_then (last_or None) other
@@ -169,7 +169,7 @@ broadcast_is (Start f) other c e =
 broadcast_is Silent other c e = absurd (none-some (kind.Broadcast c) e)
 broadcast_is r other c e = absurd cc
 
--- a request that takes a mutex
+-- a request that acquires a mutex
 pub data Takes (m : ℕ) (r : Request) : Type 0 where
   Locks : r ≡ Acquire m → Takes m r
   Wakes : (c : ℕ) → r ≡ EndWait c m → Takes m r

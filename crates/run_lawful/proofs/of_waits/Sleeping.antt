@@ -49,13 +49,13 @@ use Rattle.run_lawful.proofs.of_waits.Deeds.{none_pending, sleeps_are, h, paths,
 use Rattle.run_lawful.proofs.of_waits.Parts.{slept_by, begin_is}
 use Rattle.path_laws.proofs.of_history.Logged.{history_again}
 
--- Deeds that say nothing of a thread's wait.
+-- Deeds that don't concern a thread's wait.
 
 nil_rest : {X : Type 0} (o : Option X) (xs : List X) → cons_option o xs ≡ [] → o ≡ None
 nil_rest None xs e = refl
 nil_rest (Some x) xs e = absurd cc
 
--- where nothing is given, no element gives anything
+-- if a list of given values is empty, no element gives anything
 pub gives_none : {X : Type 0} (f : Deed → Option X) (older newer : List Deed) (d : Deed) → filter_map f (older ++ d ∷ newer) ≡ [] → f d ≡ None
 gives_none f older newer d none =
     nil_rest (f d) (filter_map f newer) (last_nil (filter_map f older) (filter_map f (d ∷ newer)) (sym (filter_map-append f older (d ∷ newer)) ∙ none))
@@ -72,7 +72,7 @@ ends_by (Some false) e = refl
 pub ends_gives : (c : ℕ) (n : Name) (d : Deed) → ends_wait c n d ≡ true → waits_by c n d ≡ Some false
 ends_gives c n d e = ends_by (waits_by c n d) e
 
--- what begins a wait of a thread is a step of it
+-- a deed that begins a thread's wait is a step of that thread
 begins_by : (c : ℕ) (n : Name) (d : Deed) → waits_by c n d ≡ Some true → is_step_of n d ≡ true
 begins_by c n (Did q k (BeginWait d m) took other) e = by (d == c) (same n q) e
   where
@@ -94,7 +94,7 @@ begins_by c n (Did q k (WakeAll d) took other) e = absurd (not_begun (d == c) e)
 begins_by c n (Did q k Silent took other) e = absurd (none-some true e)
 begins_by c n d e = absurd (none-some true e)
 
--- where a thread does nothing and nothing ends its wait, nothing is said of that
+-- if a thread does nothing and no deed ends its wait, no deed concerns the wait
 pub quiet : (c : ℕ) (n : Name) (g : List Deed) → steps_in g n ≡ 0 → list_any (ends_wait c n) g ≡ false → filter_map (waits_by c n) g ≡ []
 quiet c n [] still none = refl
 quiet c n (d ∷ g) still none =
@@ -107,7 +107,7 @@ quiet c n (d ∷ g) still none =
     by (Some true) is rest =
         absurd (omega (arith, still, steps_first d g n ∙ ap (λ b. cond b 1 0 + steps_in g n) (begins_by c n d is)))
 
--- and where nothing is said nothing ends it
+-- if no deed concerns a wait, no deed ends it
 pub none_ends : (c : ℕ) (n : Name) (g : List Deed) → filter_map (waits_by c n) g ≡ [] → list_any (ends_wait c n) g ≡ false
 none_ends c n [] none = refl
 none_ends c n (d ∷ g) none = by (waits_by c n d) refl none (none_ends c n g)
@@ -129,7 +129,7 @@ module _ {B : Type 0} (setting : Setting B) (nodes : List Node) (moves : List Mo
   abbrev f : Fits code log
   f = fit setting nodes moves again
 
-  -- one sleep begins in a step
+  -- only one sleep begins in a step
   same_condition : (t : ℕ) (q : Walk) (y z : Sleep) → IsThread code log t q → Contains q.sleeps y → Contains q.sleeps z → y.step ≡ z.step
       → y.condition ≡ z.condition
   same_condition t q y z there i j same =
@@ -140,7 +140,7 @@ module _ {B : Type 0} (setting : Setting B) (nodes : List Node) (moves : List Mo
       let kinds : kind.Sleep y.condition y.mutex ≡ kind.Sleep z.condition z.mutex = sym a.kind ∙ ap (λ e. e.kind) one ∙ b.kind in
       cc
 
-  -- a sleep that something ends doesn't last
+  -- a thread whose sleep was ended is awake
   pub ended_is_awake : (s g : ℕ) (x : Of Sleep) (t : ℕ) (q : Walk) (z : Sleep) → IsThread code log t q → x.thread ≡ t → Contains q.sleeps z
       → z.step ≡ x.it.step → IsAsleepIn done q.name z → slice_get (all_sleeps threads) s ≡ Some x → IsEndedBy ops.buffered threads done x g → ⊥
   ended_is_awake s g x t q z there own i same asleep at e =
@@ -232,11 +232,11 @@ module _ {B : Type 0} (setting : Setting B) (nodes : List Node) (moves : List Mo
     abbrev c : ℕ
     c = x.it.condition
 
-    -- it begins a step of its thread
+    -- the deed is the step with which the sleep begins
     pub its_step : is_step n x.it.step d.deed ≡ true
     its_step = ap (is_step n x.it.step) d.begins ∙ is_its_step n x.it.step (BeginWait c x.it.mutex) d.took d.other
 
-    -- while nothing is said of its wait the thread waits
+    -- the thread waits as long as no deed concerns its wait
     pub waits_while : (between newer : List Deed) → done ≡ (d.older ++ d.deed ∷ between) ++ newer → filter_map (waits_by c n) between ≡ []
         → set.contains (waiting_in (d.older ++ d.deed ∷ between) c) n ≡ true
     waits_while between newer split silent =
@@ -255,7 +255,7 @@ module _ {B : Type 0} (setting : Setting B) (nodes : List Node) (moves : List Mo
           },
         )
 
-    -- so where nothing ended its wait nothing is said of it
+    -- as long as no deed ended the wait, no deed concerns it
     pub none_between : (between newer : List Deed) → done ≡ (d.older ++ d.deed ∷ between) ++ newer → list_any (ends_wait c n) between ≡ false
         → filter_map (waits_by c n) between ≡ []
     none_between between newer split none =
@@ -278,7 +278,7 @@ module _ {B : Type 0} (setting : Setting B) (nodes : List Node) (moves : List Mo
               (all.along.follow g (s.newer ++ newer) step at).1)
         ]
 
-    -- what ends it, after its deed
+    -- the deed that ends the sleep, after the one that begins it
     pub record EndsAt (g : ℕ) : Type 0 where
       pub between : List Deed
       pub ender : Deed

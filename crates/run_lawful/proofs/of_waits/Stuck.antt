@@ -1,4 +1,4 @@
--- At the end of a deadlock each thread that hasn't exited is blocked by what the world says.
+-- At the end of a deadlock, the world blocks each thread that hasn't exited.
 use Rattle.std.proofs.Common.{◌≡◌, ◌∙◌, inl, inr, ℕ, ◌<◌, ◌≤◌, Bool, true, false, cond, IsSome, List, length}
 use Rattle.std.proofs.Common.{Option, Some, None, refl, sym, ap, subst, arith, bytes_eq}
 use Rattle.std.specs.Prelude.{slice_get, option_map, option_and_then}
@@ -51,7 +51,7 @@ use Rattle.run_lawful.proofs.of_waits.Parts.{region_of_events}
 use Rattle.run_lawful.proofs.of_waits.Sleeping.{ended_is_awake}
 use Rattle.path_laws.proofs.of_history.Logged.{history_again}
 
--- only a path that rests says what its thread is blocked at
+-- only a path that rests has something that blocks its thread
 unblocked : (m n : Name) (t : Marks) (ss : List Sleep) (at : Option Instr) (b : Blocked) → blocked_after (ending_by (Some m) n) t ss at ≡ Some b → ⊥
 unblocked m n t ss at b e = by (bytes_eq n m) e
   where
@@ -62,7 +62,7 @@ unblocked m n t ss at b e = by (bytes_eq n m) e
     by true e = none-some b e
     by false e = none-some b e
 
--- so there is a deadlock where one does
+-- a log in which a path is blocked is that of a deadlock
 pub deadlock : (code : Code) (log : Log) (is : is_log log ≡ true) (q : Walk) (b : Blocked) → IsWalk code log q → q.blocked ≡ Some b → log.failing ≡ Deadlock
 deadlock code log is q b k blocked = by log.failing refl
   where
@@ -114,7 +114,7 @@ module _ {B : Type 0} (setting : Setting B) (nodes : List Node) (moves : List Mo
         lasts = no_end n.index n.walk n.there g.0 g.1 g.3.lasts;
       }
     where
-      -- a region that is open after all steps has no end
+      -- a region that is still open after all steps has no end
       no_end : (t : ℕ) (q : Walk) (there : IsThread code log t q) (r : Region) → Contains q.regions r
           → ((k : ℕ) → r.to ≡ Some k → steps_in done q.name ≤ k) → r.to ≡ None
       no_end t q there r i lasts = by r.to refl
@@ -130,7 +130,7 @@ module _ {B : Type 0} (setting : Setting B) (nodes : List Node) (moves : List Mo
               absurd (omega (arith, inside, many, later, x.step))
 
   module _ (t : ℕ) (q : Walk) (there : IsThread code log t q) where
-    -- a thread that waits at the end sleeps on
+    -- a thread that waits at the end is never woken
     sleeps_on : (c m k : ℕ) → q.blocked ≡ Some (Wake c m k) → set.contains (waiting_in done c) q.name ≡ true
         → SleepsOn threads (w setting nodes moves again) t k
     sleeps_on c m k blocked waits s x at own step =
@@ -148,7 +148,7 @@ module _ {B : Type 0} (setting : Setting B) (nodes : List Node) (moves : List Mo
             let ended = ended_told setting moves again (found code log nodes).symbolic s g x at e in
             absurd (ended_is_awake setting nodes moves again s g x t q a.0 there own a.1 same a.3 at ended)
 
-    -- a child that a thread waits for at the end runs on
+    -- a child for which a thread waits at the end never exits
     runs_on : (k : ℕ) → has_exited_in done (child q.name k) ≡ false → RunsOn threads (w setting nodes moves again) t k
     runs_on k going c x is_child event exits =
         let parent : is_child.0 ≡ q = same_Some is_child.0 q (sym is_child.2 ∙ there) in

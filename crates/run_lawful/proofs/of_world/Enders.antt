@@ -1,4 +1,4 @@
--- What ends the sleeps of a history, in its world.
+-- What ends the sleeps of a history in its world.
 use Rattle.std.proofs.Common.{◌≡◌, ◌∙◌, ◌⊎◌, inl, inr, ℕ, ◌==◌, ◌&&◌, not, ℤ, Bool, true, false, cond, List, ◌∷◌, ◌++◌, length, map}
 use Rattle.std.proofs.Common.{Option, Some, None, refl, sym, ap, ap₂, subst, arith, append_assoc}
 use Rattle.std.specs.Prelude.{slice_get, option_map, option_and_then}
@@ -44,7 +44,7 @@ use Rattle.run_lawful.proofs.of_world.Seen.{the_sight, shown_is, is_shown_by, sh
 use Rattle.path_laws.proofs.of_history.Told.{its_run, up_to}
 use Rattle.path_laws.proofs.of_history.Logged.{history_again}
 
--- a deed that ends a thread's wait on a condition wakes that thread, or all that wait there
+-- a deed that ends a thread's wait on a condition: it wakes that thread, or all that wait there
 pub data EndsWait (c : ℕ) (n : Name) (d : Deed) : Type 0 where
   Woken : (q : Name) (k : ℕ) (took : ℤ) → d ≡ Did q k (WakeOne c) took (Some n) → EndsWait c n d
   AllWoken : (q : Name) (k : ℕ) (took : ℤ) (other : Option Name) → d ≡ Did q k (WakeAll c) took other → EndsWait c n d
@@ -98,14 +98,14 @@ module _ (buffered : Bool) (paths : Paths) (h : List Deed) (a : AreSeen buffered
       a.told.apart s.older newer s.newer f.one d (is ∙ ap (λ xs. xs ++ d ∷ newer) s.there)
       (step_named n k f.one f.passes ∙ sym (step_named n k d hit)))) hit
 
-  -- a deed shows one step of one thread
+  -- a deed shows only one step of one thread
   pub shows_one : (d : Deed) (t k u j : ℕ) → Shows buffered paths d t k → Shows buffered paths d u j → (t ≡ u) × (k ≡ j)
   shows_one d t k u j s r =
       let one : the_sight s.walk.name k ≡ the_sight r.walk.name j =
       same_Some (the_sight s.walk.name k) (the_sight r.walk.name j) (sym s.sight ∙ r.sight) in
       (a.names t u s.walk r.walk s.there r.there (ap (λ (x : Sight). x.thread) one), ap (λ (x : Sight). x.step) one)
 
-  -- so the event of a deed is found by its number
+  -- the number of an event is found by its deed
   pub number_shown : (d : Deed) (t k : ℕ) → Shows buffered paths d t k → position_or_len (λ e. is_shown buffered paths e d) (all_events paths) ≡ number_of paths t k
   number_shown d t k s = same_position (λ e. is_shown buffered paths e d) (is_event t k) (all_events paths) agree
     where
@@ -125,7 +125,7 @@ module _ (buffered : Bool) (paths : Paths) (h : List Deed) (a : AreSeen buffered
                 (subst (λ j. Shows buffered paths d t j) (sym (eqb-true e.it.step k both.1)) s))) ∙ none)))
           ]
 
-  -- the first deed after a sleep that ends it tells its ender
+  -- the first deed after a sleep that ends it gives the ender
   ender_told : (x : Of Sleep) (q : Walk) (newer : List Deed) → slice_get paths.threads x.thread ≡ Some q → after_step h q.name x.it.step ≡ newer
       → ender_in buffered paths h x
       ≡ option_map (λ d. position_or_len (λ e. is_shown buffered paths e d) (all_events paths)) (find (ends_wait x.it.condition q.name) newer)
@@ -160,7 +160,7 @@ module _ {B : Type 0} (setting : Setting B) (moves : List Move) (again : Reprodu
   abbrev paths : Paths
   paths = paths_of code log
 
-  -- a deed that ends a wait on a condition is a signal or a broadcast of that
+  -- a deed that ends a wait on a condition is a signal or a broadcast of that condition
   pub record IsEnder (c : ℕ) (d : Deed) : Type 0 where
     pub thread : ℕ
     pub walk : Walk
@@ -209,14 +209,14 @@ module _ {B : Type 0} (setting : Setting B) (moves : List Move) (again : Reprodu
       by (Woken q k took is_it) = told q k (WakeOne c) took (Some n) (kind.Signal c) is_it refl refl (inl refl)
       by (AllWoken q k took other is_it) = told q k (WakeAll c) took other (kind.Broadcast c) is_it refl refl (inr refl)
 
-  -- the sleep of a number is one of a thread
+  -- the sleep with this number belongs to a thread
   pub sleeper : (s : ℕ) (x : Of Sleep) → slice_get (all_sleeps paths) s ≡ Some x → (q : Walk) × IsThread code log x.thread q × Contains q.sleeps x.it
   sleeper s x at =
       let o = of_all_from (λ (w : Walk). w.sleeps) 0 paths.threads x (at_in (all_sleeps paths) s x at) in
       let same : o.place ≡ x.thread = omega (arith, o.thread) in
       (o.owner, ap (slice_get paths.threads) (sym same) ∙ o.at, o.among)
 
-  -- and its deed
+  -- each sleep has its deed
   pub sleep_deed : (t : ℕ) (q : Walk) (z : Sleep) (there : IsThread code log t q) → Contains q.sleeps z
       → DeedOf setting (history_again setting moves again) (path_thread t q there) z.step
   sleep_deed t q z there i =

@@ -1,4 +1,4 @@
--- What is told of the history of moves that reproduce a log.
+-- Facts on the history of moves that reproduce a log.
 use Rattle.std.proofs.Common.{◌≡◌, ℕ, ℤ, List, length, Option, Some, refl, sym, subst, arith}
 use Rattle.tc_base.specs.Names.{Name}
 use Rattle.tc_base.specs.declared.moves.Move.{Move}
@@ -56,14 +56,14 @@ module _ {B : Type 0} (setting : Setting B) (moves : List Move) (again : Reprodu
   pub all_steps : (t : ℕ) (q : Walk) → IsThread code log t q → steps_in done q.name ≡ length q.places
   all_steps t q there = has_done setting moves again (path_thread t q there)
 
-  -- each event is done
+  -- each event of a path is done
   pub event_is_done : (t : ℕ) (q : Walk) (x : Event) → IsThread code log t q → In x q.events → IsDoneIn done q.name x.step x.kind
   event_is_done t q x there i =
       let inside = event_within code log q (walk_is code log is fits (path_thread t q there)) x i in
       let many = all_steps t q there in
       event_done setting (history_again setting moves again) (path_thread t q there) x i (omega (arith, inside, many))
 
-  -- and what is done and asks something is one
+  -- each event that is done is one of the path
   pub is_step : (t : ℕ) (q : Walk) (k : ℕ) (asked : EventKind) → IsThread code log t q → IsDoneIn done q.name k asked → HasStep paths t k
   is_step t q k asked there d =
       let x = done_event setting (history_again setting moves again) (path_thread t q there) k asked d in

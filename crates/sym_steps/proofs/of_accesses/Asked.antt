@@ -24,7 +24,7 @@ use Rattle.order_events.proofs.Lists.{in_front, in_flat_map, of_flat_map}
 use Rattle.sym_steps.specs.accesses.Asked.{IsAskedIn}
 use Rattle.sym_steps.specs.Valued.{ValuedHistory, ExecutedThread}
 
--- a request asks one thing of a cell at most
+-- a request is for at most one cell
 only_one : (y z : Asked) → In y (z ∷ []) → z ∷ [] ≡ y ∷ []
 only_one y z (inl e) = ap (λ x. x ∷ []) e
 only_one y z (inr i) = absurd i
@@ -37,7 +37,7 @@ asks_one took (CompareExchange c e v) y i = only_one y _ i
 asks_one took Silent y i = absurd i
 asks_one took r y i = absurd i
 
--- what a deed of a thread asks
+-- the request of a thread's deed
 record IsAskedBy (d : Deed) (n : Name) (y : AskedAt) : Type 0 where
   request : Request
   took : ℤ
@@ -73,7 +73,7 @@ module _ {B : Type 0} (setting : Setting B) (nodes : List Node) (loads : List �
   abbrev at : Access → AskedAt
   at a = asked_at (found code log nodes).nodes loads a
 
-  -- what a thread that has done a step asked
+  -- the requests of a thread that has done a step
   asked_so : 0 < steps_in h w.name
       → flat_map (asked_of w.name) h ≡ map at (filter (λ (a : Access). nat_lt a.step (steps_in h w.name)) c.accesses)
   asked_so some =

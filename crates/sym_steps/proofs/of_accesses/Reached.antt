@@ -58,7 +58,7 @@ use Rattle.sym_steps.specs.accesses.Asked.{IsReachedIn}
 use Rattle.sym_steps.proofs.of_accesses.Sound.{IsSound, same_cell_is, begins_so}
 use Rattle.sym_steps.specs.Valued.{ValuedHistory, ExecutedThread}
 
--- what an instruction adds to an execution names cells as the code does
+-- an instruction adds accesses to cells that the code allows
 record AddsSound (arrays : List Array) (loads : List ℤ) (d e : Doing) : Type 0 where
   added : List Access
   accesses : e.accesses ≡ d.accesses ++ added
@@ -71,7 +71,7 @@ one_sound arrays loads d e a accesses sound = record { added = a ∷ []; accesse
 none_added : (arrays : List Array) (loads : List ℤ) (d e : Doing) → e.accesses ≡ d.accesses → AddsSound arrays loads d e
 none_added arrays loads d e same = record { added = []; accesses = same ∙ sym (append-nil d.accesses); sound = λ later g. tt }
 
--- an index that a thread finds inside an array is so by its term, in all later nodes
+-- an index that a thread finds inside an array is inside by its term, in all later nodes
 inside : (loads : List ℤ) (x : Made) (len : ℕ) (e : Expr) (t : Local) (d : Doing) (later : List Node) → HasValue loads x (expr_value_of e (slots_by loads d))
     → t.slots ≡ slots_by loads d → Grows x.nodes later → IsTrue (is_within len (value_in t e)) → IsTrue (is_within len (value_of later loads x.term))
 inside loads x len e t d later has slots g within =

@@ -11,7 +11,7 @@ use Rattle.tc_lower.specs.Things.{scope}
 use Rattle.tc_lower.specs.Statements.{Written}
 use Rattle.tc_lower.specs.Values.{Evaluated, evaluated, Arguments, arguments}
 
--- what a name stands for
+-- the thing that a name denotes
 abbrev pub plain_scope : Scope → Name → Option Thing
 plain_scope s = scope s.source.now s.own.now s.all.now
 

@@ -15,11 +15,11 @@ use Rattle.bit_blast.specs.Sizes.{atom_size, literal_size, case_size, body_size,
 use Rattle.bit_blast.proofs.Completed.{same_size}
 use Rattle.test_circuits.proofs.orders.clauses.Goals as goal
 
--- what all of a list with one element are
+-- a property of one element holds for all of a list with only this element
 one_element : {X : Type 0} (P : X → Type 0) (x : X) (none all : List X) → none ≡ [] → all ≡ none ++ x ∷ [] → P x → All P all
 one_element P x none all empty is p = subst (All P) (sym (is ∙ ap (λ xs. xs ++ x ∷ []) empty)) (All-cons P x [] p (All-nil P))
 
--- a conjunct of one case
+-- a conjunct with one case
 in_order : (o : Order) (b : Body) (ls : List Literal) → b ≡ body.Any (ls ∷ []) → All (LiteralIsIn o) ls → BodyIsIn o b
 in_order o b ls is all =
     subst (BodyIsIn o) (sym is) (All-cons (All (LiteralIsIn o)) ls [] all (All-nil (All (LiteralIsIn o))))

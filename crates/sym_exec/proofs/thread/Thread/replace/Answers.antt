@@ -8,7 +8,7 @@ use Rattle.sym_exec.specs.Thread.{Doing, term_in, making, loading, replacing}
 use Rattle.sym_exec.proofs.Grown.{grows_both}
 use Rattle.sym_exec.proofs.thread.Thread.replace.Goals as goal
 
--- a load of which the terms were made step by step
+-- a compare-and-exchange whose terms were made step by step
 replace_is : (d : Doing) (k : ℕ) (cell : Cell) (expected new : Expr) (e f v w : Made) → e ≡ term_in d expected → f ≡ term_in (making d e) new
     → v ≡ made f.nodes (Symbol d.loads) → w ≡ replaced_term v.nodes v.term e.term f.term
     → loading (making d w) k cell v.term (Some w.term) ≡ replacing d k cell expected new

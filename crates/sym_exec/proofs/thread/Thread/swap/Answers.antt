@@ -6,7 +6,7 @@ use Rattle.sym_exec.specs.Making.{Made, made}
 use Rattle.sym_exec.specs.Thread.{Doing, making, loading, swapping}
 use Rattle.sym_exec.proofs.thread.Thread.swap.Goals as goal
 
--- a load of which the terms were made step by step
+-- an exchange whose terms were made step by step
 swap_is : (d : Doing) (k : ℕ) (cell : Cell) (x y v : Made) → x ≡ y → v ≡ made x.nodes (Symbol d.loads)
     → loading (making d v) k cell v.term (Some x.term) ≡ swapping d k cell y
 swap_is d k cell x y v ex ev = rw (ev, ex) refl
