@@ -11,10 +11,10 @@ use Rattle.std.proofs.lemmas.List.Elements.{All-map, All-weaker}
 use Rattle.cnf_core.specs.Clauses.{var_of, Formula}
 use Rattle.bit_gates.specs.Folded.{IsLarger}
 use Rattle.bit_gates.proofs.Blocks.{var_of-opposite}
-use Rattle.bit_words.specs.Words.{AreWithin, Walked, inverted}
+use Rattle.bit_words.specs.Words.{AreWithin, Walked, inverted_word}
 use Rattle.bit_arith.specs.Sums.{with_row, with_product}
 
-pub within_inverted : (n : ℕ) (xs : List ℤ) → AreWithin n xs → AreWithin n (inverted xs)
+pub within_inverted : (n : ℕ) (xs : List ℤ) → AreWithin n xs → AreWithin n (inverted_word xs)
 within_inverted n xs h = All-map (λ l. var_of l ≤ n) neg_ℤ xs
     (All-weaker (λ l. var_of l ≤ n) (λ l. var_of (neg_ℤ l) ≤ n) (λ l k. let e : var_of (neg_ℤ l) ≡ var_of l = var_of-opposite l in omega (arith, e, k)) xs h)
 

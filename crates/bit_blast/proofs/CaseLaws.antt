@@ -15,7 +15,7 @@ use Rattle.order_formula.specs.Worlds.{World, is_before, is_ended}
 use Rattle.cnf_core.specs.Clauses.{Formula, Valuation, literal_true}
 use Rattle.cnf_core.proofs.GateLaws.{literal_true-neg}
 use Rattle.bit_gates.specs.Extended.{IsExtended}
-use Rattle.bit_gates.specs.Folded.{Made, constant, kept, opposite, both, either}
+use Rattle.bit_gates.specs.Folded.{Made, constant, kept, opposite, conjunction, disjunction}
 use Rattle.bit_gates.specs.Laws.{IsModel, IsOf, IsBit}
 use Rattle.bit_gates.proofs.Blocks.{grown_none, grown_twice, IsOf-grown, IsOf-opposite, model_before}
 use Rattle.bit_gates.proofs.Extended.{gates-extend}
@@ -57,12 +57,12 @@ bit_opposite f m meaning h = record {
 
 -- a literal, and another that is made after it, keep their meanings
 pub bit_both : (f : Formula) (m x : Made) (first second : Valuation → Bool) → IsBit f m first → IsBit m.formula x second
-    → IsBit f (both x.formula m.literal x.literal) (λ w. first w && second w)
+    → IsBit f (conjunction x.formula m.literal x.literal) (λ w. first w && second w)
 bit_both f m x first second a b =
     let g : Formula = m.formula in
     let k : Formula = x.formula in
     let h = both_bit k m.literal x.literal (IsOf-grown g k m.literal b.grown a.literal) b.literal in
-    let out : Formula = (both k m.literal x.literal).formula in
+    let out : Formula = (conjunction k m.literal x.literal).formula in
     record {
       grown = grown_twice f k out (grown_twice f g k a.grown b.grown) h.grown;
       literal = h.literal;
@@ -72,12 +72,12 @@ bit_both f m x first second a b =
     }
 
 pub bit_either : (f : Formula) (m x : Made) (first second : Valuation → Bool) → IsBit f m first → IsBit m.formula x second
-    → IsBit f (either x.formula m.literal x.literal) (λ w. first w || second w)
+    → IsBit f (disjunction x.formula m.literal x.literal) (λ w. first w || second w)
 bit_either f m x first second a b =
     let g : Formula = m.formula in
     let k : Formula = x.formula in
     let h = either_bit k m.literal x.literal (IsOf-grown g k m.literal b.grown a.literal) b.literal in
-    let out : Formula = (either k m.literal x.literal).formula in
+    let out : Formula = (disjunction k m.literal x.literal).formula in
     record {
       grown = grown_twice f k out (grown_twice f g k a.grown b.grown) h.grown;
       literal = h.literal;

@@ -12,7 +12,7 @@ use Rattle.order_formula.specs.declared.literal.Atom.TheVariants.{Before, Ends, 
 use Rattle.order_formula.specs.declared.literal.Literal.{Literal}
 use Rattle.order_formula.specs.declared.order.Pair.{Pair}
 use Rattle.order_formula.specs.declared.read.Candidate.{Candidate}
-use Rattle.order_formula.specs.Orders.{Order, AtomIsIn, LiteralIsIn, BodyIsIn, ConjunctIsIn, unasked, with_pair}
+use Rattle.order_formula.specs.Orders.{Order, AtomIsIn, LiteralIsIn, BodyIsIn, ConjunctIsIn, order_without_questions, with_pair}
 use Rattle.bit_order.specs.Comparators.{completed, pairs_among}
 use Rattle.bit_blast.specs.Sizes.{whole_size}
 use Rattle.bit_blast.specs.Contended.{contended, is_literal, with_atom, with_body, with_candidate, with_case, with_event}
@@ -33,8 +33,8 @@ completed_sleeps o events = same_part (λ (k : Order). k.sleeps) (λ k p. refl) 
 pub same_size : (o p : Order) (loads : ℕ) (nodes : List Node) (formula : List Conjunct) → p.events ≡ o.events → p.sleeps ≡ o.sleeps
     → whole_size (record { order = p; loads = loads }) nodes formula ≡ whole_size (record { order = o; loads = loads }) nodes formula
 same_size o p loads nodes formula events sleeps =
-    ap (λ e. whole_size (record { order = unasked e p.sleeps; loads = loads }) nodes formula) events
-    ∙ ap (λ s. whole_size (record { order = unasked o.events s; loads = loads }) nodes formula) sleeps
+    ap (λ e. whole_size (record { order = order_without_questions e p.sleeps; loads = loads }) nodes formula) events
+    ∙ ap (λ s. whole_size (record { order = order_without_questions o.events s; loads = loads }) nodes formula) sleeps
 
 -- contended events belong to the order
 module _ (o : Order) where

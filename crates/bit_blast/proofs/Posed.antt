@@ -30,7 +30,7 @@ use Rattle.bit_order.proofs.Asking.{completed-asked, grows-completed}
 use Rattle.bit_blast.specs.Blasted.{BlastMeans, IsApart, IsPosed, RootsTell, blast, layout_of}
 use Rattle.bit_blast.specs.Contended.{contended, is_literal, with_atom, with_body, with_candidate, with_case, with_event}
 use Rattle.bit_blast.specs.Laws.{BodyIsTold}
-use Rattle.bit_blast.specs.Whole.{IsReady, rooted}
+use Rattle.bit_blast.specs.Whole.{IsReady, clauses_with_roots}
 use Rattle.bit_blast.proofs.Completed.{same_part}
 use Rattle.bit_blast.proofs.Lists.{all_of, contains_cases, contains_none}
 use Rattle.bit_blast.proofs.Prefixes.{first_part}
@@ -187,7 +187,7 @@ module _ (nodes : List Node) (formula : List Conjunct) (o : Order) (loads : ℕ)
   same_as w x k = record { before = λ a b p q. k.before a b (omega (arith, p, events)) (omega (arith, q, events)); loads = k.loads; enders = k.enders }
 
   abbrev made : Walked Formula
-  made = rooted y nodes formula
+  made = clauses_with_roots y nodes formula
 
   pub blast_means : BlastMeans nodes formula o loads
   blast_means = record {

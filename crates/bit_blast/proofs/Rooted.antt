@@ -23,7 +23,7 @@ use Rattle.bit_order.specs.Readings.{world_of}
 use Rattle.bit_order.proofs.Meaning.{values-say-worlds}
 use Rattle.bit_blast.specs.Blasted.{Blasted, RootsTell, background, blast_over, clause_at, impossible, root_of}
 use Rattle.bit_blast.specs.Laws.{AreRoots}
-use Rattle.bit_blast.specs.Whole.{IsReady, rooted, termed}
+use Rattle.bit_blast.specs.Whole.{IsReady, clauses_with_roots, clauses_with_terms}
 use Rattle.bit_blast.proofs.CaseLaws.{or_false}
 use Rattle.bit_blast.proofs.Lists.{all_pass, contains_start, some_fails}
 use Rattle.bit_blast.proofs.Same.{body_same}
@@ -34,7 +34,7 @@ module _ (y : Layout) (nodes : List Node) (formula : List Conjunct) (h : IsReady
   b = blast_over nodes formula y
 
   abbrev m : Walked Formula
-  m = rooted y nodes formula
+  m = clauses_with_roots y nodes formula
 
   abbrev first : List (List ℤ)
   first = m.state.clauses
@@ -42,7 +42,7 @@ module _ (y : Layout) (nodes : List Node) (formula : List Conjunct) (h : IsReady
   abbrev units : List (List ℤ)
   units = map (λ l. l ∷ []) m.word
 
-  roots : AreRoots nodes (world_of y) (termed y nodes).formula m formula
+  roots : AreRoots nodes (world_of y) (clauses_with_terms y nodes).formula m formula
   roots = all_roots y nodes formula h
 
   long : length b.clauses.clauses ≡ length first + length formula

@@ -23,7 +23,7 @@ use Rattle.bit_gates.specs.Folded.{Made, constant, kept, opposite}
 use Rattle.bit_gates.specs.Laws.{IsGrown, IsModel, IsOf, IsBit}
 use Rattle.bit_gates.proofs.Blocks.{grown_none, grown_more, grown_twice, IsOf-opposite, model_before}
 use Rattle.bit_gates.proofs.Meaning.{constant_of, constant_value}
-use Rattle.bit_words.specs.Words.{Walked, gated_words, inverted}
+use Rattle.bit_words.specs.Words.{Walked, gated_words, inverted_word}
 use Rattle.bit_words.specs.Laws.{values, digit, number_of, value, IsWord}
 use Rattle.bit_words.proofs.Meaning.{all_grown, gated_words_mean, any_bit, invert_means}
 use Rattle.bit_arith.specs.Sums.{plus_word, minus_word, times_word, zeros}
@@ -301,10 +301,10 @@ binary_means bin.Shr f xs ys one p q =
     has_shifted shifted_right Down (top xs) f xs ys (operands f xs ys one p q) b p.width not_right
     (shifts-mean.right f xs (take 5 ys) (record { comes_in = b; word = p.literals; distance = near }) p.width)
 
-inverted_int : (w : Valuation) (n : ℕ) (xs : List ℤ) → All (IsOf n) xs → length xs ≡ 32 → int_value w (inverted xs) ≡ bits_inverted (int_value w xs)
+inverted_int : (w : Valuation) (n : ℕ) (xs : List ℤ) → All (IsOf n) xs → length xs ≡ 32 → int_value w (inverted_word xs) ≡ bits_inverted (int_value w xs)
 inverted_int w n xs p e =
-    let i : value w (inverted xs) + value w xs + 1 ≡ 2 ^ 32 = invert_means w n xs p ∙ ap (λ k. 2 ^ k) e in
-    let v : value w (inverted xs) ≡ bit_not w32 (cast_unsigned w32 (int_value w xs)) = omega (arith, i, bits_32 w xs e) in
+    let i : value w (inverted_word xs) + value w xs + 1 ≡ 2 ^ 32 = invert_means w n xs p ∙ ap (λ k. 2 ^ k) e in
+    let v : value w (inverted_word xs) ≡ bit_not w32 (cast_unsigned w32 (int_value w xs)) = omega (arith, i, bits_32 w xs e) in
     ap (cast_signed w32) v ∙ int_bit_not-is (int_value w xs) (fits_32 w xs e)
 
 pub unary_means : (op : UnOp) (f : Formula) (xs : List ℤ) → 0 < f.vars → IsOperand f xs → HasInt f (unary_word op f xs) (λ w. unary op (int_value w xs))

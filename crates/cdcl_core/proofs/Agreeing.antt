@@ -3,7 +3,7 @@ use Rattle.std.proofs.Common.{◌≡◌, ℕ, ◌+◌, ◌*◌, ◌<◌, Bool, t
 use Rattle.std.specs.Prelude.{Contains, All, ◌||◌}
 use Rattle.std.proofs.lemmas.List.{length_push}
 use Rattle.cnf_core.specs.Clauses.{Formula}
-use Rattle.refute_check.specs.Refutations.{Checking, passed}
+use Rattle.refute_check.specs.Refutations.{Checking, state_after_pass}
 use Rattle.list_laws.specs.Lists.{is_nil}
 use Rattle.refute_check.specs.declared.line.Line.{Line}
 use Rattle.cdcl_clauses.specs.Clauses.{Clause}
@@ -61,7 +61,7 @@ not-nil ls a c = let (x, xs, e) = some-literal ls a c in ap (λ (ys : List ℕ).
 
 -- the checker's state after a line that passes
 pub checked-added : (f : Formula) (cs : List Clause) (lines : List Line) (n d : ℕ) → BelongTogether f cs lines n d → (ls hs : List ℕ)
-    → All (λ l. l < 2 * f.vars) ls → Rise ls → Shows cs ls hs → checked f (lines ++ added ls hs ∷ []) ≡ passed (checked f lines) (added ls hs)
+    → All (λ l. l < 2 * f.vars) ls → Rise ls → Shows cs ls hs → checked f (lines ++ added ls hs ∷ []) ≡ state_after_pass (checked f lines) (added ls hs)
 checked-added f cs lines n d a ls hs w r s =
     let w' : All (λ l. l < 2 * (checked f lines).vars) ls = subst (λ (v : ℕ). All (λ l. l < 2 * v) ls) (sym a.vars) w in
     let p = shown-passes cs (checked f lines) ls hs a.represents w' r s in
@@ -83,7 +83,7 @@ pub agree-learnt : (f : Formula) (cs : List Clause) (lines : List Line) (n d : �
 agree-learnt f cs lines n d a room bound ls hs x y w r s c new =
     let w' : All (λ l. l < 2 * (checked f lines).vars) ls = subst (λ (v : ℕ). All (λ l. l < 2 * v) ls) (sym a.vars) w in
     let p = shown-passes cs (checked f lines) ls hs a.represents w' r s in
-    let e : checked f (lines ++ added ls hs ∷ []) ≡ passed (checked f lines) (added ls hs) = checked-added f cs lines n d a ls hs w r s in
+    let e : checked f (lines ++ added ls hs ∷ []) ≡ state_after_pass (checked f lines) (added ls hs) = checked-added f cs lines n d a ls hs w r s in
     record {
       few = a.few;
       given = a.given;
@@ -110,7 +110,7 @@ pub ended : (f : Formula) (cs : List Clause) (lines : List Line) (n d : ℕ) →
     → Ended f (lines ++ added ls hs ∷ []) n
 ended f cs lines n d a bound ls hs e r s =
     let w : All (λ l. l < 2 * f.vars) ls = λ k d h. absurd (omega (arith, h, ap length e)) in
-    let g : checked f (lines ++ added ls hs ∷ []) ≡ passed (checked f lines) (added ls hs) = checked-added f cs lines n d a ls hs w r s in
+    let g : checked f (lines ++ added ls hs ∷ []) ≡ state_after_pass (checked f lines) (added ls hs) = checked-added f cs lines n d a ls hs w r s in
     let line : added ls hs ≡ added [] hs = ap (λ (xs : List ℕ). added xs hs) e in
     record {
       passes = ap (λ (t : Checking). t.fault) g ∙ a.represents.fault;

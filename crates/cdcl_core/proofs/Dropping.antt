@@ -10,7 +10,7 @@ use Rattle.std.proofs.lemmas.List.Elements.{All-push}
 use Rattle.std.proofs.lemmas.List.Quantifiers.{all_pairs_push}
 use Rattle.std.proofs.lemmas.List.Sums.{fold-append}
 use Rattle.cnf_core.specs.Clauses.{Formula}
-use Rattle.refute_check.specs.Refutations.{Checking, passed}
+use Rattle.refute_check.specs.Refutations.{Checking, state_after_pass}
 use Rattle.refute_check.specs.declared.line.Line.{Line}
 use Rattle.cdcl_trail.specs.Trail.{Trail}
 use Rattle.cdcl_clauses.specs.Clauses.{Clause, at}
@@ -48,7 +48,7 @@ pub agree-dropped : (f : Formula) (cs : List Clause) (lines : List Line) (n d : 
     → BelongTogether f (fold dropped cs ks) (lines ++ deleted ks ∷ []) n (d + length ks)
 agree-dropped f cs lines n d a ks c b some half =
     let p = drop-passes cs (checked f lines) ks a.represents c in
-    let e : checked f (lines ++ deleted ks ∷ []) ≡ passed (checked f lines) (deleted ks) = checked-push f lines (deleted ks) ∙ p.0.leaves in
+    let e : checked f (lines ++ deleted ks ∷ []) ≡ state_after_pass (checked f lines) (deleted ks) = checked-push f lines (deleted ks) ∙ p.0.leaves in
     let size : length (numbers_of ks) ≡ length ks = length-map ks suc in
     let no-add : adds (deleted ks) ≡ true → IsRoomy f.vars lines = λ g. absurd (let i : false ≡ true = g in cc) in
     record {

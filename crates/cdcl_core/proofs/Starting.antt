@@ -9,7 +9,7 @@ use Rattle.std.proofs.lemmas.List.Sums.{fold-append}
 use Rattle.std.proofs.lemmas.Option.{slice_get_past}
 use Rattle.cnf_core.specs.Clauses.{Formula, is_clause, are_clauses, rises_above, var_of}
 use Rattle.cnf_core.specs.declared.cnf.TheConstants.{LIMIT}
-use Rattle.refute_check.specs.Refutations.{Checking, opening, keep, start, after}
+use Rattle.refute_check.specs.Refutations.{Checking, opening, keep, start, state_after_line}
 use Rattle.cdcl_literals.specs.Literals.{opposite_of}
 use Rattle.cdcl_trail.specs.Trail.{Trail, IsTrail, empty}
 use Rattle.cdcl_clauses.specs.Clauses.{Clause, at, no_clause, listed}
@@ -46,7 +46,7 @@ untouched [] s = record { vars = refl; closed = refl }
 untouched (z ∷ zs) s = (let u = untouched zs (keep s z) in record { vars = u.vars; closed = u.closed })
 
 fresh-none : (f : Formula) → AreFresh f []
-fresh-none f k = subst (λ o. IfSome o (λ l. IsFreshLine (fold after (start f) (take k [])).kept l))
+fresh-none f k = subst (λ o. IfSome o (λ l. IsFreshLine (fold state_after_line (start f) (take k [])).kept l))
     (sym (slice_get_past [] k (omega arith))) tt
 
 pub agree-start : (f : Formula) (cs : List Clause) → f.vars < LIMIT → length f.clauses < LIMIT → length cs ≡ length f.clauses → KeepsAll f.clauses cs

@@ -9,7 +9,7 @@ use Rattle.std.proofs.lemmas.Option.{slice_get_past, none-some, same_Some}
 use Rattle.std.proofs.lemmas.List.Elements.{Contains-append_left, Contains-append_cases, Contains-push}
 use Rattle.refute_check.specs.Literals.{is_among}
 use Rattle.refute_check.specs.Kept.{KeptClauses}
-use Rattle.refute_check.specs.Refutations.{Checking, start, after}
+use Rattle.refute_check.specs.Refutations.{Checking, start, state_after_line}
 use Rattle.refute_check.specs.declared.line.Line.{Line}
 use Rattle.cdcl_literals.specs.Literals.{opposite_of}
 use Rattle.cdcl_trail.specs.Trail.{Trail, IsTrail}
@@ -181,16 +181,16 @@ asserted-fresh t cs ws s literals asserted beside w r p can =
 pub fresh-goes_on : FreshGoesOn
 fresh-goes_on f lines line h new k =
     elim (cases_lt k (length lines)) [
-      | inl d ↦ subst (λ (o : Option Line). IfSome o (λ l. IsFreshLine (fold after (start f) (take k (lines ++ line ∷ []))).kept l))
+      | inl d ↦ subst (λ (o : Option Line). IfSome o (λ l. IsFreshLine (fold state_after_line (start f) (take k (lines ++ line ∷ []))).kept l))
           (sym (slice_get-left lines line k d))
-          (subst (λ (xs : List Line). IfSome (slice_get lines k) (λ l. IsFreshLine (fold after (start f) xs).kept l))
+          (subst (λ (xs : List Line). IfSome (slice_get lines k) (λ l. IsFreshLine (fold state_after_line (start f) xs).kept l))
           (sym (take-append-le k lines (line ∷ []) (omega arith))) (h k))
       | inr d ↦ elim (cases_eq k (length lines)) [
-        | inl e ↦ subst (λ (o : Option Line). IfSome o (λ l. IsFreshLine (fold after (start f) (take k (lines ++ line ∷ []))).kept l))
+        | inl e ↦ subst (λ (o : Option Line). IfSome o (λ l. IsFreshLine (fold state_after_line (start f) (take k (lines ++ line ∷ []))).kept l))
             (sym (slice_get-last lines line k e))
-            (subst (λ (xs : List Line). IsFreshLine (fold after (start f) xs).kept line)
+            (subst (λ (xs : List Line). IsFreshLine (fold state_after_line (start f) xs).kept line)
             (sym (take-append-le k lines (line ∷ []) (omega arith) ∙ take_all k lines d)) new)
-        | inr e ↦ subst (λ (o : Option Line). IfSome o (λ l. IsFreshLine (fold after (start f) (take k (lines ++ line ∷ []))).kept l))
+        | inr e ↦ subst (λ (o : Option Line). IfSome o (λ l. IsFreshLine (fold state_after_line (start f) (take k (lines ++ line ∷ []))).kept l))
             (sym (slice_get_past (lines ++ line ∷ []) k (omega (arith, length_push lines line)))) tt
       ]
     ]

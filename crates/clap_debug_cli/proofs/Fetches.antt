@@ -2,7 +2,7 @@
 -- shelf's files.
 use Rattle.std.proofs.Common.{arith, ◌≡◌, ◌∙◌, refl, ap, ap₂, sym, subst, inl, inr, ◌⊎◌, ℕ, ◌+◌, ◌<◌, ◌≤◌, List, [], ◌∷◌, length, map, Some}
 use Rattle.std.specs.Prelude.{IfSome}
-use Rattle.tc_io.specs.Outside.{Files, Reading, ShelfTells, bytes_at, counted_on}
+use Rattle.tc_io.specs.Outside.{Files, Reading, ShelfTells, bytes_at, capped_sum}
 use Rattle.clap_debug_words.specs.Calls.{Called}
 use Rattle.clap_debug_cli.specs.Causes.{HeldStill, IsCauseOf}
 use Rattle.clap_debug_cli.specs.Inputs.{Wanted, Whole, InPieces, Entire, Texts, HasEntire, name_of, inputs_of, limit_of, no_limit}
@@ -34,12 +34,12 @@ entire_later (Entire name) ws h = tt
 -- the shelf counted one more fault, of this read; or, with a fetch of any length, it counts
 -- at least `no_limit` bytes taken
 abbrev pub CountsRead : List Wanted → ShelfTells → ShelfTells → List ℕ → Type 0
-CountsRead ws old new name = ((new.faults ≡ counted_on old.faults 1) × (new.last_fault ≡ Some (Reading name)))
+CountsRead ws old new name = ((new.faults ≡ capped_sum old.faults 1) × (new.last_fault ≡ Some (Reading name)))
     ⊎ ((new.faults ≡ old.faults) × HasEntire ws × (no_limit ≤ new.taken))
 
 counts_later : (w : Wanted) (ws : List Wanted) (old s new : ShelfTells) (name : List ℕ) → s.faults ≡ old.faults → CountsRead ws s new name
     → CountsRead (w ∷ ws) old new name
-counts_later w ws old s new name still (inl c) = inl (c.0 ∙ ap (λ n. counted_on n 1) still, c.1)
+counts_later w ws old s new name still (inl c) = inl (c.0 ∙ ap (λ n. capped_sum n 1) still, c.1)
 counts_later w ws old s new name still (inr c) = inr (c.0 ∙ still, entire_later w ws c.1, c.2)
 
 -- a shelf that failed to give an input keeps its files
@@ -49,7 +49,7 @@ input_failed (Whole i name) ws old new f = (ap (λ x. x.held) f.2, inl (ap (λ x
 input_failed (InPieces name) ws old new f = (ap (λ x. x.held) f.2, inl (ap (λ x. x.faults) f.2, ap (λ x. x.last_fault) f.2))
 input_failed (Entire name) ws old new (inl f) = (ap (λ x. x.held) f.2, inl (ap (λ x. x.faults) f.2, ap (λ x. x.last_fault) f.2))
 input_failed (Entire name) ws old new (inr f) =
-    let count : new.taken ≡ counted_on old.taken (no_limit + 1) = ap (λ x. x.taken) f.0 in
+    let count : new.taken ≡ capped_sum old.taken (no_limit + 1) = ap (λ x. x.taken) f.0 in
     (ap (λ x. x.held) f.0, inr (ap (λ x. x.faults) f.0, tt, omega (arith, count)))
 
 -- a shelf with too long an input keeps its files and counts no fault

@@ -12,7 +12,7 @@ use Rattle.refute_check.specs.Broken.{BreaksAt}
 use Rattle.refute_check.specs.Laws.{IsWhole, whole_lines}
 use Rattle.refute_check.specs.Texts.{refutation_text}
 use Rattle.refute_check.specs.Reading.{Reading, Reads, beginning, bodies, fault_of, first_breach, lines_of}
-use Rattle.refute_check.specs.Refutations.{Checking, after, judged, line_fault, opening, start, verdict}
+use Rattle.refute_check.specs.Refutations.{Checking, state_after_line, state_after_verdict, line_fault, opening, start, verdict}
 use Rattle.refute_check.specs.declared.head.Head.{Head}
 use Rattle.refute_check.specs.declared.line.Line.{Line}
 use Rattle.refute_check.specs.declared.line.Line.TheVariants.{Add, Delete}
@@ -59,16 +59,16 @@ unbroken_free t e = by t.fault refl
     by (Some k) is = absurd (let bad : Some k ≡ None = sym (at_fault t k is) ∙ e in cc)
 
 -- a checker counts the lines that it takes until the first that doesn't pass
-fold_line : (ls : List Line) (s : Checking) → (fold after s ls).line ≤ s.line + length ls
+fold_line : (ls : List Line) (s : Checking) → (fold state_after_line s ls).line ≤ s.line + length ls
 fold_line [] s = omega arith
-fold_line (l ∷ ls) s = let more = fold_line ls (after s l) in let one : (after s l).line ≤ s.line + 1 = by (is_some s.fault) in omega (arith, more, one)
+fold_line (l ∷ ls) s = let more = fold_line ls (state_after_line s l) in let one : (state_after_line s l).line ≤ s.line + 1 = by (is_some s.fault) in omega (arith, more, one)
   where
-    judge : (o : Option CheckFault) (m : Line) → (judged o s m).line ≤ s.line + 1
+    judge : (o : Option CheckFault) (m : Line) → (state_after_verdict o s m).line ≤ s.line + 1
     judge None (Add lits hints) = omega arith
     judge None (Delete ns) = omega arith
     judge (Some f) m = omega arith
 
-    by : (b : Bool) → (if b then s else judged (line_fault (s.line + 1) s.vars s.kept l) s l).line ≤ s.line + 1
+    by : (b : Bool) → (if b then s else state_after_verdict (line_fault (s.line + 1) s.vars s.kept l) s l).line ≤ s.line + 1
     by true = omega arith
     by false = judge (line_fault (s.line + 1) s.vars s.kept l) l
 
@@ -80,9 +80,9 @@ bodies_more : (ls : List Line) (l : Line) → bodies ls ++ Body l ∷ [] ≡ bod
 bodies_more [] l = refl
 bodies_more (m ∷ ls) l = ap (λ ts. Body m ∷ ts) (bodies_more ls l)
 
-fold_more : (ls : List Line) (s : Checking) (l : Line) → after (fold after s ls) l ≡ fold after s (ls ++ l ∷ [])
+fold_more : (ls : List Line) (s : Checking) (l : Line) → state_after_line (fold state_after_line s ls) l ≡ fold state_after_line s (ls ++ l ∷ [])
 fold_more [] s l = refl
-fold_more (m ∷ ls) s l = fold_more ls (after s m) l
+fold_more (m ∷ ls) s l = fold_more ls (state_after_line s m) l
 
 module _ (program : List ℕ) (code : Code) (run : StoredLog) where
   module _ (front : List ℕ) (s : Reading) (ts : List Taken) (reads : Reads beginning front ts s) (free : s.fault ≡ None) (bytes : List ℕ) (t : Reading) where
@@ -154,7 +154,7 @@ module _ (program : List ℕ) (code : Code) (run : StoredLog) where
           record {
             recorded = w.4.recorded;
             within = w.4.within;
-            is = ap (λ x. after x l) w.4.is ∙ fold_more w.1 (start (head_clauses w.0 code run.log)) l;
+            is = ap (λ x. state_after_line x l) w.4.is ∙ fold_more w.1 (start (head_clauses w.0 code run.log)) l;
           },
         )
 

@@ -1,7 +1,7 @@
 -- The effect of a keep on the counts of the shelf.
 use Rattle.std.proofs.Common.{◌≡◌, ◌⊎◌, ◌∙◌, ap, sym, inl, inr, List, ℕ, Option, Some, None}
 use Rattle.std.specs.Option.{IsSomeAnd}
-use Rattle.tc_io.specs.Outside.{ShelfTells, Writing, KeptPart, counted_on}
+use Rattle.tc_io.specs.Outside.{ShelfTells, Writing, KeptPart, capped_sum}
 use Rattle.clap_debug_words.specs.Calls.{Called, Minimizes}
 use Rattle.clap_debug_cli.specs.Causes.{FailsToKeep, KeepsFirst, KeepsMinimum, LosesMinimum}
 use Rattle.clap_debug_cli.specs.Fewest.{KeptBoth, KeptIfAny, LostSecond, first_text, put_both, put_if_any, second_text}
@@ -11,7 +11,7 @@ use Rattle.clap_debug_cli.proofs.Fetches.{given_still}
 
 -- the keep failed: the shelf counted one more fault, of this keep
 abbrev pub CountsKeep : ShelfTells → ShelfTells → List ℕ → Type 0
-CountsKeep old new name = (new.faults ≡ counted_on old.faults 1) × (new.last_fault ≡ Some (Writing name))
+CountsKeep old new name = (new.faults ≡ capped_sum old.faults 1) × (new.last_fault ≡ Some (Writing name))
 
 part_counts : (old new : ShelfTells) (name text : List ℕ) → KeptPart old new name text → CountsKeep old new name
 part_counts old new name text k = (ap (λ x. x.faults) k.2, ap (λ x. x.last_fault) k.2)
@@ -28,7 +28,7 @@ minimum_counts out refutation name x old new (inl k) =
     (c.0, c.1 ∙ ap (λ n. Some (Writing n)) (sym k.0))
 minimum_counts out refutation name x old new (inr k) =
     let c = second_counts (second_text x) k.1.0 new refutation k.1.2 in
-    (c.0 ∙ ap (λ (s : ShelfTells). counted_on s.faults 1) k.1.1, c.1 ∙ ap (λ n. Some (Writing n)) (sym k.0))
+    (c.0 ∙ ap (λ (s : ShelfTells). capped_sum s.faults 1) k.1.1, c.1 ∙ ap (λ n. Some (Writing n)) (sym k.0))
 
 lost_minimum : (call : Called) (t : Texts) (old new : ShelfTells) (name : List ℕ) → LosesMinimum call t old new name → CountsKeep old new name
 lost_minimum (Minimizes p l out m b refutation) t old new name k = minimum_counts out refutation name k.0 old new k.2

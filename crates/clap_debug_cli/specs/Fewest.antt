@@ -4,7 +4,7 @@ use Rattle.store_buffers.specs.Buffers.{buffer_of}
 use Rattle.run_log.specs.Logs.{Log}
 use Rattle.memory_models.specs.declared.model.Model.{Model}
 use Rattle.tc_code.specs.Code.{Code}
-use Rattle.tc_io.specs.Outside.{Files, ShelfTells, Kept, KeptPart, closed, put_under}
+use Rattle.tc_io.specs.Outside.{Files, ShelfTells, Kept, KeptPart, without_reading, put_under}
 use Rattle.run_log.specs.Logs.{StoredLog}
 use Rattle.path_log.specs.Texts.{IsLog, IsOfOther}
 use Rattle.refute_check.specs.Laws.{IsWhole}
@@ -94,7 +94,7 @@ module _ (out refutation : List ℕ) (x : Minimum) where
 
   -- the first text was kept, and then there was no memory
   abbrev pub KeptFirst : ShelfTells → ShelfTells → Type 0
-  KeptFirst old new = (s : ShelfTells) × Kept old s out (first_text x) × (new ≡ closed s)
+  KeptFirst old new = (s : ShelfTells) × Kept old s out (first_text x) × (new ≡ without_reading s)
 
   -- the first text was kept, and then keeping the second failed
   abbrev pub LostSecond : ShelfTells → ShelfTells → Type 0

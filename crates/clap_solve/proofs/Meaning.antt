@@ -26,7 +26,7 @@ use Rattle.sym_exec.specs.Ints.{HasInt}
 use Rattle.order_formula.specs.declared.formula.Body.{Body}
 use Rattle.order_formula.specs.declared.formula.Body.TheVariants as body
 use Rattle.order_formula.specs.declared.formula.Conjunct.{Conjunct}
-use Rattle.order_formula.specs.Orders.{IsOrder, unasked}
+use Rattle.order_formula.specs.Orders.{IsOrder, order_without_questions}
 use Rattle.order_formula.specs.Worlds.{World}
 use Rattle.order_formula.proofs.Asked.{grows_formula}
 use Rattle.lawful_order.specs.Events.{all_events, all_sleeps}
@@ -78,10 +78,10 @@ module _ (buffered : Bool) (bound : Binding) (code : Code) (log : Log) (lawful :
 
   -- the order has the events and sleeps of the paths
   pub events : s.order.events ≡ length (all_events paths)
-  events = (grows_formula (unasked (length (all_events paths)) (length (all_sleeps paths))) s.formula).events
+  events = (grows_formula (order_without_questions (length (all_events paths)) (length (all_sleeps paths))) s.formula).events
 
   pub sleeps : s.order.sleeps ≡ length (all_sleeps paths)
-  sleeps = (grows_formula (unasked (length (all_events paths)) (length (all_sleeps paths))) s.formula).sleeps
+  sleeps = (grows_formula (order_without_questions (length (all_events paths)) (length (all_sleeps paths))) s.formula).sleeps
 
   pub few : length (all_events paths) ≤ 256
   few = omega (arith, (whole code paths are).counted, within.events)
@@ -102,7 +102,7 @@ module _ (buffered : Bool) (bound : Binding) (code : Code) (log : Log) (lawful :
 
   pub ordered : IsOrder s.order
   ordered =
-      (formula_for s.order (unasked (length (all_events paths)) (length (all_sleeps paths))) s.formula
+      (formula_for s.order (order_without_questions (length (all_events paths)) (length (all_sleeps paths))) s.formula
       (unasked_for s.order (length (all_events paths)) (length (all_sleeps paths)) (sym events) (sym sleeps)) ready.within).lawful
 
   abbrev y : Layout

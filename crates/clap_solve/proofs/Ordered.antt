@@ -15,7 +15,7 @@ use Rattle.order_formula.specs.declared.literal.Literal.{Literal}
 use Rattle.order_formula.specs.declared.order.Choice.{Choice}
 use Rattle.order_formula.specs.declared.order.Pair.{Pair}
 use Rattle.order_formula.specs.Orders.{AtomIsIn, BodyIsIn, ChoiceIsOf, ConjunctIsIn, IsOrder, LiteralIsIn, Order, PairIsOf, pair_of, same_choice, same_pair}
-use Rattle.order_formula.specs.Orders.{unasked, with_atom, with_body, with_case, with_choice, with_conjunct, with_formula, with_pair}
+use Rattle.order_formula.specs.Orders.{order_without_questions, with_atom, with_body, with_case, with_choice, with_conjunct, with_formula, with_pair}
 use Rattle.bit_order.specs.Comparators.{completed, pairs_among}
 use Rattle.clap_system.proofs.Choices.{each_key}
 
@@ -74,7 +74,7 @@ pub record IsFor (r o : Order) : Type 0 where
   pub events : o.events ≡ r.events
   pub sleeps : o.sleeps ≡ r.sleeps
 
-pub unasked_for : (r : Order) (events sleeps : ℕ) → events ≡ r.events → sleeps ≡ r.sleeps → IsFor r (unasked events sleeps)
+pub unasked_for : (r : Order) (events sleeps : ℕ) → events ≡ r.events → sleeps ≡ r.sleeps → IsFor r (order_without_questions events sleeps)
 unasked_for r events sleeps as_events as_sleeps = record {
   lawful = record {
     pairs = none_twice same_pair;

@@ -22,7 +22,7 @@ use Rattle.order_formula.specs.declared.literal.Atom.{Atom}
 use Rattle.order_formula.specs.declared.literal.Atom.TheVariants.{Before, Ends, Test}
 use Rattle.order_formula.specs.declared.literal.Literal.{Literal}
 use Rattle.order_formula.specs.declared.order.Choice.{Choice}
-use Rattle.order_formula.specs.Orders.{Order, AtomIsAsked, IsAsked, LiteralIsAsked, ConjunctIsAsked, same_choice, unasked}
+use Rattle.order_formula.specs.Orders.{Order, AtomIsAsked, IsAsked, LiteralIsAsked, ConjunctIsAsked, same_choice, order_without_questions}
 use Rattle.order_formula.specs.Orders.{with_atom, with_case, with_body, with_conjunct, with_formula}
 use Rattle.order_formula.specs.Worlds.{World}
 use Rattle.order_formula.proofs.Asked.{formula_asked}
@@ -289,7 +289,7 @@ pub choices_are_enders : (buffered : Bool) (bound : Binding) (code : Code) (path
 choices_are_enders buffered bound code paths w events loads sleeps =
     let x = executed code paths [] in
     let nodes = with_needs buffered bound code paths x.symbolic x.nodes in
-    let first = unasked (length (all_events paths)) (length (all_sleeps paths)) in
+    let first = order_without_questions (length (all_events paths)) (length (all_sleeps paths)) in
     let order = (system_by buffered bound code paths).order in
     let asked = formula_asked first (rules_of buffered bound code paths x.symbolic nodes) in (
       λ of s g ends. may_choice paths buffered bound code x.symbolic nodes order asked s g (chosen_where_theirs paths x.symbolic w of s g ends),

@@ -28,7 +28,7 @@ use Rattle.sym_exec.specs.declared.symbolic.Test.{Test}
 use Rattle.sym_exec.proofs.Constants.{executed_ints}
 use Rattle.sym_exec.proofs.Grown.{stays_within}
 use Rattle.order_formula.specs.Formulas.{BodyIsOf, ConjunctIsOf, IsOf, LiteralIsOf, ReadIsOf}
-use Rattle.order_formula.specs.Orders.{ConjunctIsIn, LiteralIsIn, Order, unasked, with_formula}
+use Rattle.order_formula.specs.Orders.{ConjunctIsIn, LiteralIsIn, Order, order_without_questions, with_formula}
 use Rattle.order_formula.specs.Reads.{Read}
 use Rattle.order_formula.specs.declared.formula.Body.TheVariants as body
 use Rattle.order_formula.specs.declared.formula.Conjunct.{Conjunct}
@@ -224,7 +224,7 @@ module _ (buffered : Bool) (bound : Binding) (code : Code) (paths : Paths) (lawf
   all = with_needs buffered bound code paths symbolic first
 
   abbrev order : Order
-  order = with_formula (unasked (length (all_events paths)) (length (all_sleeps paths))) (rules_of buffered bound code paths symbolic all)
+  order = with_formula (order_without_questions (length (all_events paths)) (length (all_sleeps paths))) (rules_of buffered bound code paths symbolic all)
 
   have : HaveTerms first symbolic
   have = have_terms code lawful paths []
@@ -244,12 +244,12 @@ module _ (buffered : Bool) (bound : Binding) (code : Code) (paths : Paths) (lawf
       let is_whole : AreWhole paths = whole code paths are in
       let is_done : IsExecutedBy paths symbolic = is_executed code paths [] are in
       let rules = rules_of buffered bound code paths symbolic all in
-      let grown = grows_formula (unasked (length (all_events paths)) (length (all_sleeps paths))) rules in
+      let grown = grows_formula (order_without_questions (length (all_events paths)) (length (all_sleeps paths))) rules in
       let own = own_needs buffered bound paths symbolic first in
       record {
         events = grown.events ∙ sym is_whole.counted;
         within = rules_in buffered bound code paths symbolic all order is_whole is_done grown.events grown.sleeps;
-        asked = formula_asked (unasked (length (all_events paths)) (length (all_sleeps paths))) rules;
+        asked = formula_asked (order_without_questions (length (all_events paths)) (length (all_sleeps paths))) rules;
         differ = rules_differ buffered bound code paths symbolic all is_done;
         terms = terms_there;
         ints = with_ints (fold with_node first own) (read_needs code symbolic (fold with_node first own))

@@ -2,7 +2,7 @@
 use Rattle.std.proofs.Common.{arith, ◌≡◌, ◌∙◌, inl, inr, ap, refl, sym, subst, ℕ, suc, ◌+◌, ◌<◌, List, [], ◌∷◌, ◌++◌, length, map, take, drop, get_or, Option, Some}
 use Rattle.std.proofs.Math.Seq.{split_at, take-suc}
 use Rattle.std.proofs.lemmas.List.{map-append, take-append-drop}
-use Rattle.tc_io.specs.Outside.{Files, ShelfTells, Kept, KeptPart, Writing, closed, put_under}
+use Rattle.tc_io.specs.Outside.{Files, ShelfTells, Kept, KeptPart, Writing, without_reading, put_under}
 use Rattle.command_frame.specs.Keeps.{Keep, FailsToKeep, HoldsFirst, KeptAll, put_all}
 
 -- some keeps were made, and then one more
@@ -25,7 +25,7 @@ first_none [] held = refl
 first_none (k ∷ ks) held = inl refl
 
 -- some keeps were made, and then there was no memory
-first_after : (ks more : List Keep) (old s new : ShelfTells) → KeptAll ks old s → new ≡ closed s
+first_after : (ks more : List Keep) (old s new : ShelfTells) → KeptAll ks old s → new ≡ without_reading s
     → (new.faults ≡ old.faults) × HoldsFirst (ks ++ more) old.held new.held
 first_after [] more old s new all none = (
   ap (λ (x : ShelfTells). x.faults) none ∙ ap (λ (x : ShelfTells). x.faults) all,
@@ -75,7 +75,7 @@ module _ {X : Type 0} (plain : X → Keep) (keeps : List X) (i : ℕ) (d : X) (s
     next_failed one = subst (λ ks. FailsToKeep ks old new (plain (get_or keeps i d)).name) (sym split_keeps) (fails_after _ _ _ old s new all one)
 
 pub next_none : {X : Type 0} (plain : X → Keep) (keeps : List X) (i : ℕ) (old s new : ShelfTells) → KeptAll (map plain (take i keeps)) old s
-    → new ≡ closed s → (new.faults ≡ old.faults) × HoldsFirst (map plain keeps) old.held new.held
+    → new ≡ without_reading s → (new.faults ≡ old.faults) × HoldsFirst (map plain keeps) old.held new.held
 next_none plain keeps i old s new all none =
     let split = sym (map-append plain (take i keeps) (drop i keeps)) ∙ ap (map plain) (take-append-drop i keeps) in
     subst (λ ks. (new.faults ≡ old.faults) × HoldsFirst ks old.held new.held) split (first_after _ _ old s new all none)

@@ -1,7 +1,7 @@
 -- From reading one input to reading all, and from the bytes given to those in the shelf's files.
 use Rattle.std.proofs.Common.{arith, ◌≡◌, ◌∙◌, ◌⊎◌, inl, inr, ap, ap₂, refl, sym, subst, ℕ, ◌<◌, List, [], ◌∷◌, ◌++◌, length, Some}
 use Rattle.std.specs.Prelude.{IfSome}
-use Rattle.tc_io.specs.Outside.{Files, Reading, ShelfTells, bytes_at, counted_on}
+use Rattle.tc_io.specs.Outside.{Files, Reading, ShelfTells, bytes_at, capped_sum}
 use Rattle.command_frame.specs.Inputs.{Limit, Wanted, Whole, Entire, InPieces, Texts, name_of, texts_under}
 use Rattle.command_frame.specs.Inputs.{GaveInput, FailedInput, PassedLimit, IsWithinLimit, IsPastLimit}
 use Rattle.command_frame.specs.Inputs.{GaveAll, FailsToRead, PassesLimit, IsTooLong, AreWithin}
@@ -72,10 +72,10 @@ missing_later ws vs old s new t Memory g h = let still = given_still ws old s t 
 
 -- one more fault was counted, of this read, or none was
 abbrev pub CountsRead : ShelfTells → ShelfTells → List ℕ → Type 0
-CountsRead old new name = ((new.faults ≡ counted_on old.faults 1) × (new.last_fault ≡ Some (Reading name))) ⊎ (new.faults ≡ old.faults)
+CountsRead old new name = ((new.faults ≡ capped_sum old.faults 1) × (new.last_fault ≡ Some (Reading name))) ⊎ (new.faults ≡ old.faults)
 
 counts_later : (old s new : ShelfTells) (name : List ℕ) → s.faults ≡ old.faults → CountsRead s new name → CountsRead old new name
-counts_later old s new name still (inl c) = inl (c.0 ∙ ap (λ n. counted_on n 1) still, c.1)
+counts_later old s new name still (inl c) = inl (c.0 ∙ ap (λ n. capped_sum n 1) still, c.1)
 counts_later old s new name still (inr c) = inr (c ∙ still)
 
 -- a shelf that failed to give an input keeps its files

@@ -20,8 +20,8 @@ use Rattle.path_walk.specs.Steps.{steps_at, step_at}
 use Rattle.sym_terms.specs.Terms.{same_node, with_node}
 use Rattle.sym_terms.specs.declared.node.Node.{Node}
 use Rattle.sym_terms.specs.declared.node.Node.TheVariants.{Constant, Symbol, Unary, Binary}
-use Rattle.sym_exec.specs.Making.{Made, AllMade, made, expr_term, with_expr, range_test, last_index, replaced_term}
-use Rattle.sym_exec.specs.Thread.{Doing, term_in, making, symbol_in, after_instr, wanted_of, after_step, after_all}
+use Rattle.sym_exec.specs.Making.{Made, AllMade, term_of_node, expr_term, with_expr, range_test, last_index, replaced_term}
+use Rattle.sym_exec.specs.Thread.{Doing, term_in, with_term, symbol_in, after_instr, wanted_of, after_step, after_all}
 use Rattle.sym_exec.specs.Executed.{Course, Executed, fails_at, thread_started, thread_done, with_thread, nothing, executed}
 use Rattle.sym_exec.specs.declared.symbolic.Test.{Test}
 use Rattle.sym_exec.specs.declared.symbolic.Access.{Access}
@@ -91,10 +91,10 @@ exprs_size slots (e ∷ es) xs =
 
 range_size : (x : Made) (last : ℤ) → terms_size (range_test x last).nodes ≤ terms_size x.nodes + 896
 range_size x last =
-    let zero = made x.nodes (Constant (pos 0)) in
-    let low = made zero.nodes (Binary bin.Le zero.term x.term) in
-    let top = made low.nodes (Constant last) in
-    let high = made top.nodes (Binary bin.Le x.term top.term) in
+    let zero = term_of_node x.nodes (Constant (pos 0)) in
+    let low = term_of_node zero.nodes (Binary bin.Le zero.term x.term) in
+    let top = term_of_node low.nodes (Constant last) in
+    let high = term_of_node top.nodes (Binary bin.Le x.term top.term) in
     let a = with_size x.nodes (Constant (pos 0)) in
     let b = with_size zero.nodes (Binary bin.Le zero.term x.term) in
     let c = with_size low.nodes (Constant last) in
@@ -104,10 +104,10 @@ range_size x last =
 
 replaced_size : (nodes : List Node) (v e f : ℕ) → terms_size (replaced_term nodes v e f).nodes ≤ terms_size nodes + 1_152
 replaced_size nodes v e f =
-    let change = made nodes (Binary bin.Xor v f) in
-    let same = made change.nodes (Binary bin.Eq v e) in
-    let mask = made same.nodes (Unary un.Neg same.term) in
-    let masked = made mask.nodes (Binary bin.And change.term mask.term) in
+    let change = term_of_node nodes (Binary bin.Xor v f) in
+    let same = term_of_node change.nodes (Binary bin.Eq v e) in
+    let mask = term_of_node same.nodes (Unary un.Neg same.term) in
+    let masked = term_of_node mask.nodes (Binary bin.And change.term mask.term) in
     let a = with_size nodes (Binary bin.Xor v f) in
     let b = with_size change.nodes (Binary bin.Eq v e) in
     let c = with_size same.nodes (Unary un.Neg same.term) in
@@ -207,8 +207,8 @@ instr_adds line wanted d (Swap k c e) =
     loading_adds (operators e) d _ _ (omega (arith, h, expr_size d.nodes d.slots e)) refl refl refl
 instr_adds line wanted d (Cas k c e new) =
     let x = term_in d e in
-    let y = term_in (making d x) new in
-    let v = symbol_in (making d y) in
+    let y = term_in (with_term d x) new in
+    let v = symbol_in (with_term d y) in
     let h = with_size y.nodes (Symbol d.loads) in
     loading_adds (operators e + operators new) d _ _
     (omega (arith, h, expr_size d.nodes d.slots e, expr_size x.nodes d.slots new, replaced_size v.nodes v.term x.term y.term)) refl refl refl

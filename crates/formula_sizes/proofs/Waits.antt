@@ -17,7 +17,7 @@ use Rattle.condition_order.specs.declared.wait.Ender.{Ender}
 use Rattle.condition_order.specs.Conditions.{ender_by, enders, sleeps_on, cases_one, begun, ended, ended_before, holds, fails, woken, not_both, ends_no_later, cases_before}
 use Rattle.condition_order.specs.Conditions.{not_lost, wait_formula, formula_of, wait_of, condition_formula, all_waits}
 use Rattle.sync_order.specs.Stuck as stuck
-use Rattle.sync_order.specs.Stuck.{cases_if, unended, unended_by, sleeping, is_held, has_exited, stuck_at, stuck_formula}
+use Rattle.sync_order.specs.Stuck.{cases_if, unended, not_ended_literal, sleeping, is_held, has_exited, stuck_at, stuck_formula}
 use Rattle.bit_blast.specs.Sizes.{literal_size, case_size, size_of}
 use Rattle.formula_sizes.proofs.Own.{conjunct_size}
 use Rattle.formula_sizes.proofs.Loads.{filter_map_few}
@@ -120,7 +120,7 @@ module _ (paths : Paths) (few : length (all_sleeps paths) ≤ length (all_events
 
   unended_size : (s c : ℕ) → sum_by literal_size (unended (all_events paths) s c) ≤ length (all_events paths) * 3
   unended_size s c =
-      let h = of_map literal_size (unended_by s) 3 (enders (all_events paths) c) (λ g. omega arith) in
+      let h = of_map literal_size (not_ended_literal s) 3 (enders (all_events paths) c) (λ g. omega arith) in
       omega (arith, h, enders_few (all_events paths) c)
 
   on_size : (t k : ℕ) → sum_by literal_size (stuck.sleeps_on (all_events paths) (all_sleeps paths) t k)

@@ -15,7 +15,7 @@ use Rattle.tc_code.specs.declared.instr.Instr.{Instr}
 use Rattle.tc_code.specs.declared.instr.Instr.TheVariants.{Load, LoadAt, Store, StoreAt, Swap, Cas}
 use Rattle.path_walk.specs.Events.{kind_with, events_of, region_of, regions_of, sleep_by, sleeps_of, create_by, join_by}
 use Rattle.path_walk.specs.Fits.{ending_of, fails_in}
-use Rattle.path_walk.specs.Marks.{Marks, marked, marked_from, unmarked}
+use Rattle.path_walk.specs.Marks.{Marks, marks_after_instr, marked_from, marks_at_start}
 use Rattle.path_walk.specs.Paths.{Walk, walk_of, function_in, steps_in, operators_in}
 use Rattle.path_walk.specs.Steps.{Step, places_from, places_of}
 use Rattle.path_walk.specs.declared.ending.Ending.{Ending}
@@ -72,11 +72,11 @@ module _ (code : Code) (f : ℕ) where
   cells_few fails k t [] = omega arith
   cells_few fails k t (s ∷ steps) =
       let last : Bool = fails && length steps == 0 in
-      let rest = events_of code f (marked_from fails (k + 1) (marked t s.instr) steps) in
+      let rest = events_of code f (marked_from fails (k + 1) (marks_after_instr t s.instr) steps) in
       omega (
         arith,
         sum_by-cons (λ (r : Step). cells_of r.instr) s steps,
-        cells_few fails (k + 1) (marked t s.instr) steps,
+        cells_few fails (k + 1) (marks_after_instr t s.instr) steps,
         is_event (λ e. record { step = k; line = unwrap_or (line_at code f s.place) 0; kind = e; bars = t.bars }) t rest last s.instr,
       )
 
@@ -116,7 +116,7 @@ module _ (code : Code) (log : Log) where
         cells_are_events ts,
         sum_by-cons (λ (w : Walk). cells_at code w.function w.places) q qs,
         sum_by-cons (λ (w : Walk). length w.events) q qs,
-        cells_few code (function_in code log t) (fails_in log t.name) 0 (unmarked code (function_in code log t)) (steps_in code log t),
+        cells_few code (function_in code log t) (fails_in log t.name) 0 (marks_at_start code (function_in code log t)) (steps_in code log t),
       )
 
   pub operators_counted : (ts : List ThreadPath) → operators_along code (map (walk_of code log) ts) ≡ sum (map (operators_in code log) ts)

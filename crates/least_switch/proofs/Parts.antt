@@ -32,7 +32,7 @@ use Rattle.clap_solve.specs.Solved.{IsWithin}
 use Rattle.clap_solve.proofs.Meaning as solve
 use Rattle.clap_solve.proofs.Room.{clauses_have_room}
 use Rattle.switch_order.specs.Sizes.{size_of}
-use Rattle.switch_clauses.specs.Clauses.{asked_by, asked_of_all, switch_clauses, switched_by}
+use Rattle.switch_clauses.specs.Clauses.{clauses_over_all_pairs, asked_of_all, switch_clauses, clauses_with_levels}
 use Rattle.switch_clauses.proofs.Meaning.{levels_ready}
 use Rattle.least_switch.specs.helpers.Bounded.{IsBounded}
 use Rattle.least_switch.specs.helpers.Levels.{AreBounded, AreLevelled, IsAskable, StandsOnOrder}
@@ -103,7 +103,7 @@ module _ (buffered : Bool) (bound : Binding) (code : Code) (log : Log) (lawful :
     within = sound.within;
     events = subst (λ (t : System). length (all_events t.paths) ≡ t.order.events) (sym of) (sym (solve.events buffered bound code log lawful within));
     few = sound.events;
-    stands = subst (λ (t : System). StandsOnOrder (asked_by t)) (sym of) (record { more = (levels_ready buffered bound code log lawful within).more });
+    stands = subst (λ (t : System). StandsOnOrder (clauses_over_all_pairs t)) (sym of) (record { more = (levels_ready buffered bound code log lawful within).more });
     room = subst (λ (t : System). whole_size (record { order = t.order; loads = t.symbolic.loads }) t.nodes t.formula + size_of EVENTS 255 < LIMIT) (sym of)
         (clauses_have_room buffered bound code log within steps);
   }
@@ -130,7 +130,7 @@ module _ (buffered : Bool) (bound : Binding) (code : Code) (log : Log) (lawful :
     clauses_are = by (paths_of code log).dead refl
       where
         by : (dead : Bool) → (paths_of code log).dead ≡ dead
-            → made.1 ≡ (if dead then impossible.clauses else switched_by (paths_of code log) (system_of buffered bound code log) most)
+            → made.1 ≡ (if dead then impossible.clauses else clauses_with_levels (paths_of code log) (system_of buffered bound code log) most)
         by true is = there.dead is
         by false is = (there.lives is).clauses
 

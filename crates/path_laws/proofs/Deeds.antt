@@ -26,11 +26,11 @@ use Rattle.tc_code.specs.declared.instr.Instr.{Instr}
 use Rattle.tc_code.specs.declared.instr.Instr.TheVariants.{Inside, Holds, Signal, Create, Ready, Join, Assert, Nonzero, InRange}
 use Rattle.tc_code.specs.Lawful.{IsLawful}
 use Rattle.tc_code.specs.Run.{run, IsReached}
-use Rattle.tc_code.specs.Step.{request, site, child_number, instr_of, perform, woken, opening}
+use Rattle.tc_code.specs.Step.{request, site, child_number, instr_of, perform, state_after_wake, opening}
 use Rattle.tc_code.specs.Step as machine
 use Rattle.path_walk.specs.Steps.{Step, step_at, steps_at}
 use Rattle.path_walk.specs.Fits.{fails_in, places_in, Fits}
-use Rattle.path_walk.specs.Marks.{Marks, Marked, unmarked, marked, marked_from, marked_steps}
+use Rattle.path_walk.specs.Marks.{Marks, Marked, marks_at_start, marks_after_instr, marked_from, marked_steps}
 use Rattle.path_walk.specs.Events.{kind_with, event_of, events_of}
 use Rattle.path_walk.specs.Paths.{walk_of}
 use Rattle.path_walk.specs.declared.event.Event.{Event}
@@ -39,7 +39,7 @@ use Rattle.path_walk.specs.declared.event.EventKind.TheVariants as kind
 use Rattle.path_walk.proofs.Places.{count}
 use Rattle.run_laws.proofs.Changes.{is_fail}
 use Rattle.run_laws.proofs.Names.{same_self, same_other, same_or_apart, get_put, get_put_apart}
-use Rattle.run_history.specs.History.{Deed, Did, Drained, taken, created_by, history}
+use Rattle.run_history.specs.History.{Deed, Did, Drained, value_taken, created_by, history}
 use Rattle.run_history.specs.Locals.{after_step}
 use Rattle.run_history.proofs.Frame.{Keeps, holds_after}
 use Rattle.run_history.proofs.Lists.{filter_map-push, last_or-push}
@@ -98,7 +98,7 @@ module _ {B : Type 0} (ops : BufferOps B) (code : Code) where
               ∙ ap (λ m. filter_map (tells m) h ++ cons_option (tells m d) []) e
               ∙ ap (λ xs. xs ++ cons_option (tells n d) [])
               (are n ∙ ap (told_at (fails_by s.failed n)) does.there ∙ ap (λ f. is (fails_by f n) t.local) going)
-              ∙ sym (laws.steps s n t i r (taken ops code s t r) v o reached going does.there does.at does.asks asks)
+              ∙ sym (laws.steps s n t i r (value_taken ops code s t r) v o reached going does.there does.at does.asks asks)
               ∙ ap (λ b. is b w.local) (sym (own_fails r n) ∙ ap (λ f. fails_by f n) (sym does.failed))
               ∙ ap (λ m. is (fails_by u.failed m) w.local) (sym e)
               ∙ ap (told_at (fails_by u.failed q)) (sym there)
@@ -119,15 +119,15 @@ module _ {B : Type 0} (ops : BufferOps B) (code : Code) where
     keeps_told : Keeps ops code AreTold
     keeps_told = record {
       ran = λ s h n t i r reached going there at asks _ are.
-          told_by_step s (perform ops code s n t i r) h n t i r (taken ops code s t r) (created_by ops code n t.local r) reached going
+          told_by_step s (perform ops code s n t i r) h n t i r (value_taken ops code s t r) (created_by ops code n t.local r) reached going
           (ran_does ops code s n t i r going there at asks) refl are;
       waked = λ s h n u t c reached going there at _ _ are.
-          told_by_step s (woken ops s n u t c) h n t (Signal c) (WakeOne c) (pos 0) (Some u) reached going
+          told_by_step s (state_after_wake ops s n u t c) h n t (Signal c) (WakeOne c) (pos 0) (Some u) reached going
           (woke_does ops code s n u t c going there at) refl are;
       flushed = λ s h n t form _ going there _ are q.
           untold h q _ (laws.flushed q n _ _ _)
           ∙ are q
-          ∙ sym (unchanged ops code s (machine.drained ops s n t form) n t (ops.drain t.buffer form).rest
+          ∙ sym (unchanged ops code s (machine.state_after_drain ops s n t form) n t (ops.drain t.buffer form).rest
           (flush_drains ops code s n t form going there) (told_at (fails_by s.failed q)) refl q);
     }
 
@@ -242,12 +242,12 @@ module _ (code : Code) where
       let f = t.function in
       let ss = steps_at code f ps in
       let m = marks_here code t t i ps along at in
-      let older = marked_from false 0 (unmarked code f) ss in
+      let older = marked_from false 0 (marks_at_start code f) ss in
       let own : Marked = record { number = 0 + length ss; step = now code t t i ps along at; fails = b; marks = m } in
       let number : 0 + length ss ≡ t.steps = omega (arith, length-map ps (step_at code f), count code f t.steps 0 t.outcomes ps along.told) in
       ap₂ (λ g xs. map done_as (events_of code g (marked_steps code g b (steps_at code g xs)))) function all
       ∙ ap (λ xs. map done_as (events_of code f (marked_steps code f b xs))) (steps_push code t t i ps along at)
-      ∙ ap (λ xs. map done_as (events_of code f xs)) (marked_push b 0 (unmarked code f) ss (now code t t i ps along at))
+      ∙ ap (λ xs. map done_as (events_of code f xs)) (marked_push b 0 (marks_at_start code f) ss (now code t t i ps along at))
       ∙ ap (map done_as) (filter_map-push (event_of code f) older own)
       ∙ map-append done_as (events_of code f older) (cons_option (event_of code f own) [])
       ∙ ap₂ (λ xs ys. xs ++ ys)
@@ -309,8 +309,8 @@ module _ (code : Code) (f : ℕ) where
   none_before b k j m [] few = refl
   none_before b k j m (x ∷ ss) few =
       left_out (before k) (kind_with m x.instr (b && length ss == 0)) _
-      (events_of code f (marked_from b (j + 1) (marked m x.instr) ss)) (λ asked. le-ltb j k few)
-      ∙ none_before b k (j + 1) (marked m x.instr) ss (omega (arith, few))
+      (events_of code f (marked_from b (j + 1) (marks_after_instr m x.instr) ss)) (λ asked. le-ltb j k few)
+      ∙ none_before b k (j + 1) (marks_after_instr m x.instr) ss (omega (arith, few))
 
   -- the events before a step's number are those of the steps before it
   first_events : (b : Bool) (j : ℕ) (m : Marks) (xs ys : List Step)
@@ -318,11 +318,11 @@ module _ (code : Code) (f : ℕ) where
   first_events b j m [] ys = none_before b (j + 0) j m ys (omega arith)
   first_events b j m (x ∷ xs) ys =
       let count : j + suc (length xs) ≡ (j + 1) + length xs = omega arith in
-      let later = events_of code f (marked_from b (j + 1) (marked m x.instr) (xs ++ ys)) in
+      let later = events_of code f (marked_from b (j + 1) (marks_after_instr m x.instr) (xs ++ ys)) in
       kept (before (j + suc (length xs))) (kind_with m x.instr (b && length (xs ++ ys) == 0)) _ later (λ asked. lt-ltb j (j + suc (length xs)) (omega arith))
       ∙ ap₂ (λ c es. cons_option (event_of code f (record { number = j; step = x; fails = c; marks = m })) es)
       (fails_last b xs ys)
-      (ap (λ k. filter (before k) later) count ∙ first_events b (j + 1) (marked m x.instr) xs ys)
+      (ap (λ k. filter (before k) later) count ∙ first_events b (j + 1) (marks_after_instr m x.instr) xs ys)
 
 -- two tests with the same meaning are the same
 pub same_test : (a b c d : ℕ) → (a ≡ b → c ≡ d) → (c ≡ d → a ≡ b) → (a == b) ≡ (c == d)
@@ -358,7 +358,7 @@ deeds_are_events ops code log ms s p t lawful fits leads on there =
     (told_is code (fails_by s.failed n) t.local _ so.stands)
     ∙ ap (λ b. map done_as (events_of code f (marked_steps code f b front))) (so.on.fails ∙ ap (λ b. fails && b) (sym ends))
     ∙ ap (map done_as)
-    (sym (first_events code f fails 0 (unmarked code f) front rest)
+    (sym (first_events code f fails 0 (marks_at_start code f) front rest)
     ∙ ap₂ (λ j xs. filter (before code f j) (events_of code f (marked_steps code f fails xs))) count
     (sym (map-append (step_at code f) (take k all) (drop k all)) ∙ ap (steps_at code f) (take-append-drop k all)))
     ∙ ap (λ g. events_before k (events_of code g (marked_steps code g fails (steps_at code g (places_in code log n g)))))

@@ -14,13 +14,13 @@ use Rattle.tc_code.specs.Code.{Code}
 use Rattle.tc_code.specs.declared.instr.Instr.{Instr}
 use Rattle.tc_code.specs.declared.instr.Instr.TheVariants.{Signal}
 use Rattle.tc_code.specs.Run.{IsReached}
-use Rattle.tc_code.specs.Step.{request, local_after, instr_of, perform, woken, step}
+use Rattle.tc_code.specs.Step.{request, local_after, instr_of, perform, state_after_wake, step}
 use Rattle.tc_code.specs.Step as machine
 use Rattle.tc_base.proofs.Names.{same_true, same_refl}
 use Rattle.run_laws.proofs.Changes.{is_fail}
 use Rattle.run_laws.proofs.Names.{same_or_apart, one_under, get_put, get_put_apart}
 use Rattle.run_laws.proofs.Steps.{Went, step_went, none_failed}
-use Rattle.run_history.specs.History.{taken}
+use Rattle.run_history.specs.History.{value_taken}
 use Rattle.run_history.specs.Locals.{after_step}
 use Rattle.run_laws.proofs.Basics.{by_bool}
 use Rattle.run_history.proofs.Shared.{store_as}
@@ -104,12 +104,12 @@ module _ {B : Type 0} (ops : BufferOps B) (code : Code) where
 
   -- a wake move does a step
   pub woke_does : (s : State B) (n v : Name) (t : Thread B) (c : ℕ) → s.failed ≡ None → fin.get s.threads n ≡ Some t
-      → instr_of code t.local ≡ Some (Signal c) → Does s (woken ops s n v t c) n t (Signal c) (WakeOne c)
+      → instr_of code t.local ≡ Some (Signal c) → Does s (state_after_wake ops s n v t c) n t (Signal c) (WakeOne c)
   woke_does s n v t c going there at = record { there = there; at = at; asks = refl; threads = refl; failed = going }
 
   -- a drain move drains a buffer
   pub flush_drains : (s : State B) (n : Name) (t : Thread B) (form : Option ℕ) → s.failed ≡ None → fin.get s.threads n ≡ Some t
-      → Drains s (machine.drained ops s n t form) n t (ops.drain t.buffer form).rest
+      → Drains s (machine.state_after_drain ops s n t form) n t (ops.drain t.buffer form).rest
   flush_drains s n t form going there = record { there = there; threads = refl; failed = going }
 
   -- the effect of a move, by its kind
@@ -151,12 +151,12 @@ module _ {B : Type 0} (ops : BufferOps B) (code : Code) where
   still_stepped s u n t i r reached d q x here =
       elim (find ops code s u n t i r reached d.there d.threads q) [
         | Its_own e there ↦
-            let steps = steps_by t.local i r (taken ops code s t r) in
+            let steps = steps_by t.local i r (value_taken ops code s t r) in
             subst (IsStillThere s u q) (sym (one_under s.threads q n x t e here d.there))
             (record {
               thread = own ops code s t i r;
               there = there;
-              goes = step_goes_on t.local i r (taken ops code s t r);
+              goes = step_goes_on t.local i r (value_taken ops code s t r);
               fails = λ f. omega (arith, steps);
             })
         | Its_child f vs other there new made ↦ absurd (none-some x (sym new ∙ here))

@@ -24,9 +24,9 @@ use Rattle.tc_code.proofs.Facts.{at_its_place}
 use Rattle.tc_code.specs.declared.instr.Instr.{Instr}
 use Rattle.tc_code.specs.declared.instr.Instr.TheVariants.{Create, Exit}
 use Rattle.tc_code.specs.Run.{Reproduces, EndsAs, IsStuck, IsReached, path_of}
-use Rattle.path_walk.specs.Steps.{step_at, steps_at, is_failing, is_site, can_block, ends_at_site, standing, ended, places_of}
+use Rattle.path_walk.specs.Steps.{step_at, steps_at, is_failing, is_site, can_block, ends_at_site, standing, places_if_well_ended, places_of}
 use Rattle.path_walk.specs.Fits.{starts, started, ending_by, ending_of, fails_in, places_in, child_function, function_of, Fits}
-use Rattle.path_walk.specs.Marks.{unmarked, marks_after, marked_steps}
+use Rattle.path_walk.specs.Marks.{marks_at_start, marks_after, marked_steps}
 use Rattle.path_walk.specs.Events.{is_impossible}
 use Rattle.path_walk.specs.Paths.{Walk, have_exited, walk_of, function_in, steps_in, is_dead, paths_of}
 use Rattle.path_walk.specs.declared.ending.Ending.{Ending}
@@ -108,7 +108,7 @@ module _ (code : Code) where
       → (e ≡ Rests → option_map_or can_block (standing code t.function (went t)) true ≡ true) → places_of code t.function e (went t) ≡ Ok ps
   ended_so Open t ps h rests = stands_places code false t ps h
   ended_so Rests t ps h rests =
-      ap (ended code t.function Rests (went t)) (stands_places code false t ps h)
+      ap (places_if_well_ended code t.function Rests (went t)) (stands_places code false t ps h)
       ∙ ap (λ b. cond b (the_ok ps) (Err misfit.NotBlocked)) (rests refl)
   ended_so Fails t ps h rests =
       let k = h.before.instruction in
@@ -120,7 +120,7 @@ module _ (code : Code) where
       ∙ ap (λ o. option_map_or (λ j. is_site (step_at code f j).instr) o false) (get_end h.front k)
       ∙ ap (λ o. is_site (unwrap_or o Exit)) at
       ∙ fail_is_site h.before h.instr h.asks in
-      ap (ended code t.function Fails (went t)) (stands_places code true t ps h)
+      ap (places_if_well_ended code t.function Fails (went t)) (stands_places code true t ps h)
       ∙ ap (λ b. cond b (the_ok ps) (Err misfit.NotASite)) ends
 
   -- a thread has created as many children as it counts
@@ -300,7 +300,7 @@ module _ {B : Type 0} (machine : Machine B) (log : Log) (moves : List Move) (r :
       ap (λ m. unwrap_or (function_of code log m) 0) p.name ∙ ap (λ o. unwrap_or o 0) (function_is n t left.there) in
       not_all (λ (w : Walk). is_none w.blocked) (map (walk_of code log) log.threads) p.place (walk_of code log q)
       (slice_get-map (walk_of code log) log.threads p.place ∙ ap (option_map (walk_of code log)) p.there)
-      (blocked_there (ending_of log q.name) (marks_after (unmarked code (function_in code log q)) (steps_in code log q)) (walk_of code log q).sleeps
+      (blocked_there (ending_of log q.name) (marks_after (marks_at_start code (function_in code log q)) (steps_in code log q)) (walk_of code log q).sleeps
       (standing code (function_in code log q) q.path) b.instr
       (ends_as ops code log moves r q.name ∙ ap (λ o. ending_by o q.name) stuck.unfailed)
       (ap₂ (standing code) function p.path ∙ b.at) b.blocks)

@@ -31,7 +31,7 @@ use Rattle.path_walk.proofs.Faults.{walked_there, by_path}
 use Rattle.path_walk.proofs.Places.{unrolled, count, fits_from}
 use Rattle.run_laws.proofs.Changes.{is_fail}
 use Rattle.run_laws.proofs.Steps.{none_failed}
-use Rattle.run_history.specs.History.{taken}
+use Rattle.run_history.specs.History.{value_taken}
 use Rattle.run_history.proofs.Threads.{own, steps_by}
 use Rattle.path_laws.specs.Prefixes.{fails_by, IsOnPath, AreOnPaths}
 use Rattle.path_laws.proofs.Does.{GoesOn, own_fails, Does, Change, By_step, change_of, own_there, still_there}
@@ -228,7 +228,7 @@ module _ {B : Type 0} (ops : BufferOps B) (code : Code) (lawful : IsLawful code)
   pub step_is_onward : (s u : State B) (n : Name) (t : Thread B) (i : Instr) (r : Request) → IsReached ops code s → s.failed ≡ None → Does ops code s u n t i r
       → AreOnPaths log u → IsOnward code log n t.local i r
   step_is_onward s u n t i r reached going does on =
-      let v = taken ops code s t r in
+      let v = value_taken ops code s t r in
       let f = t.local.function in
       let all = places_in code log n f in
       let w = (own ops code s t i r).local in

@@ -21,8 +21,8 @@ use Rattle.tc_code.specs.declared.instr.Instr.TheVariants.{Inside, Branch, Goto,
 use Rattle.tc_code.specs.declared.instr.Instr.TheVariants.{Signal, Create, Ready, Assert, Nonzero, InRange}
 use Rattle.tc_code.specs.Lawful.{IsLawful}
 use Rattle.tc_code.specs.Run.{IsReached}
-use Rattle.tc_code.specs.Step.{request, site, holds, handle_of, can_be_joined, stepped, local_after, arguments_of, instr_of, allows}
-use Rattle.tc_code.specs.Step.{drains_first, perform, born, woken, opening}
+use Rattle.tc_code.specs.Step.{request, site, holds, handle_of, can_be_joined, step_in_place, local_after, arguments_of, instr_of, allows}
+use Rattle.tc_code.specs.Step.{drains_first, perform, born, state_after_wake, opening}
 use Rattle.tc_code.specs.Step as machine
 use Rattle.list_laws.proofs.Lists.{get_front, get_seam}
 use Rattle.path_walk.specs.Steps.{onward, places_from, steps_at, is_site}
@@ -128,7 +128,7 @@ module _ (code : Code) where
     pub instr : Instr
     pub at : instr_of code before ≡ Some instr
     pub asks : request before instr ≡ Fail
-    pub is : t ≡ stepped before
+    pub is : t ≡ step_in_place before
     pub all : ps ≡ front ++ before.instruction ∷ []
 
   -- a thread has gone along these places, and has failed if the flag is true
@@ -363,13 +363,13 @@ module _ {B : Type 0} (ops : BufferOps B) (code : Code) (lawful : IsLawful code)
 
     -- the thread fails
     failed_known : (b : B) → request t.local i ≡ Fail
-        → AllKnown code (fin.insert s.threads n (record { local = stepped t.local; buffer = b })) (Some n)
+        → AllKnown code (fin.insert s.threads n (record { local = step_in_place t.local; buffer = b })) (Some n)
     failed_known b asks =
-        let failed : HasFailed code (stepped t.local) (ps ++ t.local.instruction ∷ []) =
+        let failed : HasFailed code (step_in_place t.local) (ps ++ t.local.instruction ∷ []) =
         record { before = t.local; front = ps; along = along; instr = i; at = at; asks = asks; is = refl; all = refl } in
-        put_known code s.threads n t (record { local = stepped t.local; buffer = b }) (Some n) there known refl (ps ++ t.local.instruction ∷ [])
-        (subst (λ x. Stands code x (stepped t.local) (ps ++ t.local.instruction ∷ [])) (sym (same_refl n)) failed) (cons_option (starts i) [])
-        (more_created (stepped t.local) refl (told_is code true (stepped t.local) (ps ++ t.local.instruction ∷ []) failed))
+        put_known code s.threads n t (record { local = step_in_place t.local; buffer = b }) (Some n) there known refl (ps ++ t.local.instruction ∷ [])
+        (subst (λ x. Stands code x (step_in_place t.local) (ps ++ t.local.instruction ∷ [])) (sym (same_refl n)) failed) (cons_option (starts i) [])
+        (more_created (step_in_place t.local) refl (told_is code true (step_in_place t.local) (ps ++ t.local.instruction ∷ []) failed))
         (λ q apart. bytes_other q n apart)
 
     -- the thread creates a child
@@ -414,11 +414,11 @@ module _ {B : Type 0} (ops : BufferOps B) (code : Code) (lawful : IsLawful code)
         (asked_known s n t i reached there at known r asks (subst (λ q. IsTrue (allows ops s n t q)) (sym asks) may));
     waked = λ s h n u t c reached going there at empty waits known.
         let known : AllKnown code s.threads None = subst (AllKnown code s.threads) going known in
-        known_kept (woken ops s n u t c) _ None refl going (went_known s n t (Signal c) reached there at known (pos 0) t.buffer refl);
+        known_kept (state_after_wake ops s n u t c) _ None refl going (went_known s n t (Signal c) reached there at known (pos 0) t.buffer refl);
     flushed = λ s h n t form reached going there may known.
         let known : AllKnown code s.threads None = subst (AllKnown code s.threads) going known in
         let k = known n t there in
-        known_kept (machine.drained ops s n t form) _ None refl going
+        known_kept (machine.state_after_drain ops s n t form) _ None refl going
         (put_known code s.threads n t (record t { buffer = (ops.drain t.buffer form).rest }) None there known refl k.places k.stands []
         (sym (append-nil (created code t.local))) (λ q apart. refl));
   }

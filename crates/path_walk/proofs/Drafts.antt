@@ -22,7 +22,7 @@ use Rattle.tc_code.specs.Code.{Code}
 use Rattle.run_log.specs.Logs.{rises_from, is_there}
 use Rattle.path_walk.specs.Steps.{steps_at, places_of}
 use Rattle.path_walk.specs.Fits.{started, ending_of, places_in, child_function, function_of, misfit_of, IsFault, Fits}
-use Rattle.path_walk.specs.Paths.{Walk, have_exited, walk_of, function_in, steps_in, operators_in, is_dead, counted, Paths, paths_of}
+use Rattle.path_walk.specs.Paths.{Walk, have_exited, walk_of, function_in, steps_in, operators_in, is_dead, saturated_count, Paths, paths_of}
 use Rattle.path_walk.specs.helpers.Accounts.{Account, account_by, mapped}
 use Rattle.path_walk.specs.helpers.Drafts.{Draft, IsMissing, IsAtLeast, IsAbsentChild, IsFirstAbsent, IsNext, IsDraft, first_fault, least}
 use Rattle.path_walk.specs.helpers.Drafts.{added, no_draft, started_at, paths_by, finished, finished_by}
@@ -188,7 +188,7 @@ any_push p (o ∷ ts) t = by (p o) (any_push p ts t)
     by true rest = refl
     by false rest = rest
 
-counted_sum : (a b : ℕ) → counted (counted a + counted b) ≡ counted (a + b)
+counted_sum : (a b : ℕ) → saturated_count (saturated_count a + saturated_count b) ≡ saturated_count (a + b)
 counted_sum a b = omega arith
 
 -- the first child that isn't in the log
@@ -472,7 +472,7 @@ module _ (code : Code) (log : Log) where
         pub is_added : length account.walk.events ≤ 65536 → IsDraft code log (added d account found)
         is_added few =
             let events : length (walk_of code log t).events ≡ length account.walk.events = ap (λ (c : Account). length c.walk.events) account_is in
-            let operators : counted (operators_in code log t) ≡ account.operators = ap (λ (c : Account). c.operators) account_is in
+            let operators : saturated_count (operators_in code log t) ≡ account.operators = ap (λ (c : Account). c.operators) account_is in
             record {
               rises = draft.rises;
               main = draft.main;
@@ -490,11 +490,11 @@ module _ (code : Code) (log : Log) where
                   ∙ ap (λ ts. sum (map (λ (x : ThreadPath). length (walk_of code log x).events) ts)) (sym with_next);
               few = let before = draft.few in omega (arith, before, few, longer);
               operators =
-                  ap (λ n. counted (n + account.operators)) draft.operators
-                  ∙ ap (λ n. counted (counted (sum (map (operators_in code log) done)) + n)) (sym operators)
+                  ap (λ n. saturated_count (n + account.operators)) draft.operators
+                  ∙ ap (λ n. saturated_count (saturated_count (sum (map (operators_in code log) done)) + n)) (sym operators)
                   ∙ counted_sum (sum (map (operators_in code log) done)) (operators_in code log t)
-                  ∙ ap counted (sym (sum_push (operators_in code log) done t))
-                  ∙ ap (λ ts. counted (sum (map (operators_in code log) ts))) (sym with_next);
+                  ∙ ap saturated_count (sym (sum_push (operators_in code log) done t))
+                  ∙ ap (λ ts. saturated_count (sum (map (operators_in code log) ts))) (sym with_next);
               dead =
                   ap (λ b. b || account.dead) draft.dead
                   ∙ ap (λ b. list_any (is_dead code log) done || b) (sym (ap (λ (c : Account). c.dead) account_is))
@@ -561,7 +561,7 @@ module _ (code : Code) (log : Log) where
       failing = e i;
       threads = (draft.threads ∙ ap (map (walk_of code log)) whole) i;
       events = (draft.events ∙ ap (λ ts. sum (map (λ (x : ThreadPath). length (walk_of code log x).events) ts)) whole) i;
-      operators = (draft.operators ∙ ap (λ ts. counted (sum (map (operators_in code log) ts))) whole) i;
+      operators = (draft.operators ∙ ap (λ ts. saturated_count (sum (map (operators_in code log) ts))) whole) i;
       dead = (draft.dead ∙ ap (list_any (is_dead code log)) whole) i || have_exited (e i) ((draft.threads ∙ ap (map (walk_of code log)) whole) i);
     }
 

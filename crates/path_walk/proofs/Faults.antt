@@ -14,7 +14,7 @@ use Rattle.tc_base.specs.Paths.{Path, path_under}
 use Rattle.tc_base.proofs.Names.{same_name, turned}
 use Rattle.tc_code.specs.Code.{Code}
 use Rattle.path_walk.specs.Steps.{steps_at, places_of}
-use Rattle.path_walk.specs.Fits.{IsFirst, started, ending_of, walked, child_function, function_below, function_of, unless_absent, misfit_of}
+use Rattle.path_walk.specs.Fits.{IsFirst, started, ending_of, places_or_misfit, child_function, function_below, function_of, unless_absent, misfit_of}
 use Rattle.path_walk.specs.declared.fault.Misfit.{Misfit}
 use Rattle.path_walk.specs.declared.fault.Misfit.TheVariants as misfit
 
@@ -53,10 +53,10 @@ module _ (code : Code) (log : Log) where
   pub function_of_child : (p : Name) (k : ℕ) → function_of code log (child p k) ≡ option_and_then (λ g. child_function code log p g k) (function_of code log p)
   function_of_child p k = below_child [] (length code.functions - 1) p k
 
-  pub walked_absent : (n : Name) (f : ℕ) → path_under n log.threads ≡ None → walked code log n f ≡ Err misfit.Missing
+  pub walked_absent : (n : Name) (f : ℕ) → path_under n log.threads ≡ None → places_or_misfit code log n f ≡ Err misfit.Missing
   walked_absent n f e = ap (λ o. option_map_or (places_of code f (ending_of log n)) o (Err misfit.Missing)) e
 
-  pub walked_there : (n : Name) (f : ℕ) (p : Path) → path_under n log.threads ≡ Some p → walked code log n f ≡ places_of code f (ending_of log n) p
+  pub walked_there : (n : Name) (f : ℕ) (p : Path) → path_under n log.threads ≡ Some p → places_or_misfit code log n f ≡ places_of code f (ending_of log n) p
   walked_there n f p e = ap (λ o. option_map_or (places_of code f (ending_of log n)) o (Err misfit.Missing)) e
 
   none_started : (n : Name) (f k : ℕ) → path_under n log.threads ≡ None → child_function code log n f k ≡ None
@@ -73,8 +73,8 @@ module _ (code : Code) (log : Log) where
 
   -- the fault of a name, by whether it has a function
   fault_by : (n : Name) (o : Option ℕ) → function_of code log n ≡ o
-      → misfit_of code log n ≡ option_map_or (λ f. result_err (walked code log n f)) o (unless_absent code log n)
-  fault_by n o e = ap (λ o. option_map_or (λ f. result_err (walked code log n f)) o (unless_absent code log n)) e
+      → misfit_of code log n ≡ option_map_or (λ f. result_err (places_or_misfit code log n f)) o (unless_absent code log n)
+  fault_by n o e = ap (λ o. option_map_or (λ f. result_err (places_or_misfit code log n f)) o (unless_absent code log n)) e
 
   pub missing : (n : Name) (f : ℕ) → function_of code log n ≡ Some f → path_under n log.threads ≡ None → misfit_of code log n ≡ Some misfit.Missing
   missing n f e absent = fault_by n (Some f) e ∙ ap result_err (walked_absent n f absent)

@@ -13,7 +13,7 @@ use Rattle.run_history.specs.Locals.{asks_next}
 use Rattle.run_history.specs.Told.{steps_in, owner_in, waiting_in, is_thread_in, has_exited_in}
 use Rattle.run_follows.specs.Follow.{taken_in, IsNextDrain}
 use Rattle.run_follows.specs.blocked.Stuck.{AllDrained, AllAreBlocked}
-use Rattle.path_walk.specs.Events.{takes}
+use Rattle.path_walk.specs.Events.{acquired_mutex}
 use Rattle.path_walk.specs.Paths.{Walk, paths_of}
 use Rattle.path_walk.specs.declared.event.Event.{Event}
 use Rattle.path_walk.specs.declared.event.EventKind.{EventKind}
@@ -73,7 +73,7 @@ module _ {B : Type 0} (setting : Setting B) (nodes : List Node) (w : World) wher
         → Seen (suc e.position) (e.deeds ++ Drained e.thread.name e.event.step c v ∷ [])
     pub all_drain : (p : ℕ) (h : List Deed) → Gone p h
         → ((t : ℕ) (q : Walk) (x : Event) → IsThread code log t q → Contains q.events x → place code log w t x < p) → AllDrained ops.buffered h
-    pub frees : (e : Next) (m : ℕ) → takes e.event.kind ≡ Some m → owner_in e.deeds m ≡ None
+    pub frees : (e : Next) (m : ℕ) → acquired_mutex e.event.kind ≡ Some m → owner_in e.deeds m ≡ None
     pub woken : (e : Next) (c m : ℕ) → e.event.kind ≡ kind.Wake c m → set.contains (waiting_in e.deeds c) e.thread.name ≡ false
     pub waits : (e : Next) (c : ℕ) → e.event.kind ≡ kind.Signal c → (u : Name)
         → woken_by (paths_of code log) w (number_of (paths_of code log) e.thread.index e.event.step) ≡ Some u → set.contains (waiting_in e.deeds c) u ≡ true

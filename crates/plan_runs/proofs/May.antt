@@ -14,7 +14,7 @@ use Rattle.run_history.specs.History.{Deed, pending}
 use Rattle.run_history.specs.Told.{children_in, owner_in}
 use Rattle.run_history.proofs.Lists.{last_or-push}
 use Rattle.run_follows.specs.Follow.{may_do_in, OtherIs}
-use Rattle.path_walk.specs.Events.{takes}
+use Rattle.path_walk.specs.Events.{acquired_mutex}
 use Rattle.path_walk.specs.Paths.{paths_of}
 use Rattle.path_walk.specs.declared.event.EventKind.{EventKind}
 use Rattle.path_walk.specs.declared.event.EventKind.TheVariants as kind
@@ -64,8 +64,8 @@ module _ {B : Type 0} (setting : Setting B) (nodes : List Node) (w : World) (g :
   drained : (k : EventKind) → k ≡ x.kind → may_overtake k ≡ false → is_nil (stores (pending ops.buffered h q.name)) ≡ true
   drained k same not = g.empties now (ap may_overtake (sym same) ∙ not)
 
-  free : (m : ℕ) (k : EventKind) → k ≡ x.kind → takes k ≡ Some m → is_none (owner_in h m) ≡ true
-  free m k same is = ap is_none (g.frees now m (ap takes (sym same) ∙ is))
+  free : (m : ℕ) (k : EventKind) → k ≡ x.kind → acquired_mutex k ≡ Some m → is_none (owner_in h m) ≡ true
+  free m k same is = ap is_none (g.frees now m (ap acquired_mutex (sym same) ∙ is))
 
   signal_may : (c : ℕ) (o : Option Name) → kind.Signal c ≡ x.kind
       → woken_by (paths_of code log) w (number_of (paths_of code log) t x.step) ≡ o → may_do_in ops.buffered h q.name (WakeOne c) o ≡ true

@@ -11,7 +11,7 @@ ghost use Rattle.tc_base.specs.declared.request.Request.{Request};
 ghost use Rattle.run_history.specs.History.{Deed, Did, Drained};
 ghost use Rattle.run_history.specs.Told.{owner_in, waiting_in, is_thread_in, steps_in, has_exited_in};
 ghost use Rattle.run_follows.specs.blocked.Stuck.{AllAreBlocked};
-ghost use Rattle.path_walk.specs.Events.{takes};
+ghost use Rattle.path_walk.specs.Events.{acquired_mutex};
 ghost use Rattle.path_walk.specs.Paths.{Walk, paths_of};
 ghost use Rattle.path_walk.specs.declared.event.Event.{Event};
 ghost use Rattle.path_walk.specs.declared.event.EventKind.TheVariants as kind;
@@ -26,7 +26,7 @@ ghost use Rattle.world_plan.specs.Plan.{is_failure, woken_by, other_of};
 /// The mutex that a thread's next event takes is free: every region of it that began has ended.
 pub fn mutexes_are_free<B>()
     ensures { (s : Setting B) (nodes : List Node) (w : World) (e : NextEvent s nodes w) (m : ℕ)
-        → IsLawfulWorld s nodes w → takes e.event.kind ≡ Some m → owner_in e.deeds m ≡ None }
+        → IsLawfulWorld s nodes w → acquired_mutex e.event.kind ≡ Some m → owner_in e.deeds m ≡ None }
 {}
 
 /// A thread whose event is next waits on no condition: its sleep has ended.

@@ -17,7 +17,7 @@ use Rattle.tc_base.specs.declared.request.Request.{Request}
 use Rattle.tc_base.specs.declared.request.Request.TheVariants.{Write, Acquire, Release, BeginWait, EndWait, Start, Await}
 use Rattle.tc_code.specs.declared.instr.Instr.{Instr}
 use Rattle.tc_code.specs.Code.{Code}
-use Rattle.tc_code.specs.Step.{request, drains_first, is_free, is_let, allows, perform, waiting_on, woken, drained, step}
+use Rattle.tc_code.specs.Step.{request, drains_first, is_free, is_let, allows, perform, waiting_on, state_after_wake, state_after_drain, step}
 use Rattle.tc_code.specs.Run.{IsReached}
 use Rattle.run_laws.specs.Alone.{same}
 use Rattle.run_laws.proofs.Names.{same_or_apart, same_self, get_put, get_put_apart}
@@ -173,11 +173,11 @@ module _ {B : Type 0} (Related : Owners → Owners → Type 0) (keeping : Keepin
         let waits = ap (λ (x : State B). set.contains (waiting_on x g.condition) w) d.shared ∙ g.waits in
         record {
           buffer = b;
-          state = woken ops v q w g.thread g.condition;
+          state = state_after_wake ops v q w g.thread g.condition;
           one = makes_wake ops code v q g.thread (going_same none) here w g.condition g.at g.empty waits;
           differ =
-              subst (λ x. Differ Related n t u b x (woken ops v q w g.thread g.condition)) (sym g.after)
-              (subst (λ y. Differ Related n t u b (woken ops s q w g.thread g.condition) (woken ops y q w g.thread g.condition)) (sym d.shared)
+              subst (λ x. Differ Related n t u b x (state_after_wake ops v q w g.thread g.condition)) (sym g.after)
+              (subst (λ y. Differ Related n t u b (state_after_wake ops s q w g.thread g.condition) (state_after_wake ops y q w g.thread g.condition)) (sym d.shared)
               (record { shared = refl; owners = d.owners; threads = put_other n t u b s.threads v.threads q _ apart d.threads }));
         }
 
@@ -187,11 +187,11 @@ module _ {B : Type 0} (Related : Owners → Owners → Type 0) (keeping : Keepin
         let here = d.threads.others q (λ e. apart (sym e)) ∙ g.there in
         record {
           buffer = b;
-          state = drained ops v q g.thread form;
+          state = state_after_drain ops v q g.thread form;
           one = makes_drain ops code v q g.thread (going_same none) here form g.may;
           differ =
-              subst (λ x. Differ Related n t u b x (drained ops v q g.thread form)) (sym g.after)
-              (subst (λ y. Differ Related n t u b (drained ops s q g.thread form) (drained ops y q g.thread form)) (sym d.shared)
+              subst (λ x. Differ Related n t u b x (state_after_drain ops v q g.thread form)) (sym g.after)
+              (subst (λ y. Differ Related n t u b (state_after_drain ops s q g.thread form) (state_after_drain ops y q g.thread form)) (sym d.shared)
               (record { shared = refl; owners = d.owners; threads = put_other n t u b s.threads v.threads q _ apart d.threads }));
         }
 
@@ -204,12 +204,12 @@ module _ {B : Type 0} (Related : Owners → Owners → Type 0) (keeping : Keepin
         let own : Thread B = record { local = u; buffer = b } in
         record {
           buffer = rest;
-          state = drained ops v n own form;
+          state = state_after_drain ops v n own form;
           one = makes_drain ops code v n own (going_same none) d.threads.here form may;
           differ =
-              subst (λ x. Differ Related n t u rest x (drained ops v n own form))
-              (ap (λ x. drained ops s n x form) (sym one) ∙ sym g.after)
-              (subst (λ y. Differ Related n t u rest (drained ops s n (record { local = t; buffer = b }) form) (drained ops y n own form)) (sym d.shared)
+              subst (λ x. Differ Related n t u rest x (state_after_drain ops v n own form))
+              (ap (λ x. state_after_drain ops s n x form) (sym one) ∙ sym g.after)
+              (subst (λ y. Differ Related n t u rest (state_after_drain ops s n (record { local = t; buffer = b }) form) (state_after_drain ops y n own form)) (sym d.shared)
               (record { shared = refl; owners = d.owners; threads = put_own n t u t u b rest s.threads v.threads d.threads }));
         }
 

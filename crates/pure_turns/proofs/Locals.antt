@@ -14,7 +14,7 @@ use Rattle.tc_code.specs.declared.instr.Instr.TheVariants.{Set, LoadAt, Store, S
 use Rattle.tc_code.specs.declared.instr.Instr.TheVariants.{Create, Ready, Join, Assert, Nonzero, InRange, Swap, Cas, Exit}
 use Rattle.tc_code.specs.Code.{Code, instr_at}
 use Rattle.tc_code.specs.Lawful.{exprs_of, written}
-use Rattle.tc_code.specs.Step.{request, site, is_within, is_nonzero, cell_at, value_in, can_be_joined, child_number, stepped, branched, local_after, arguments_of, instr_of}
+use Rattle.tc_code.specs.Step.{request, site, is_within, is_nonzero, cell_at, value_in, can_be_joined, child_number, step_in_place, step_by_branch, local_after, arguments_of, instr_of}
 use Rattle.int_ops.specs.Arith.{is_distance}
 use Rattle.tc_code.proofs.Facts.{at_its_place}
 use Rattle.run_laws.proofs.After.{branch_is, after_has}
@@ -34,7 +34,7 @@ slots_after t (Branch e to) v = ap (λ (x : Local). x.slots) (branch_is t _ to)
 slots_after t _ v = refl
 
 -- an instruction leads on from its place
-branch_leads : (t : Local) (e : Expr) (b : Bool) (to : ℕ) → MayLead (Branch e to) t.instruction (branched t b to).instruction
+branch_leads : (t : Local) (e : Expr) (b : Bool) (to : ℕ) → MayLead (Branch e to) t.instruction (step_by_branch t b to).instruction
 branch_leads t e true to = inl refl
 branch_leads t e false to = inr refl
 
@@ -179,10 +179,10 @@ alike_back live t u alike = record {
 
 -- the thread after a request that read a value
 abbrev pub after_request : Local → Instr → Request → ℤ → Local
-after_request t i Fail v = stepped t
+after_request t i Fail v = step_in_place t
 after_request t i r v = local_after t i v
 
-stepped_alike : (live : Liveness) (t u : Local) → AreAlike live t u → AreAlike live (stepped t) (stepped u)
+stepped_alike : (live : Liveness) (t u : Local) → AreAlike live t u → AreAlike live (step_in_place t) (step_in_place u)
 stepped_alike live t u alike = record {
   place = alike.place;
   slots = alike.slots;

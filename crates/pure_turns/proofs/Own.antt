@@ -15,7 +15,7 @@ use Rattle.tc_base.specs.declared.request.Request.TheVariants.{Read, Write, Exch
 use Rattle.tc_code.specs.declared.instr.Instr.{Instr}
 use Rattle.tc_code.specs.declared.instr.Instr.TheVariants.{Signal}
 use Rattle.tc_code.specs.Code.{Code}
-use Rattle.tc_code.specs.Step.{request, arguments_of, instr_of, with_thread, waiting_on, in_memory, loaded, allows, did, born, perform, woken, step}
+use Rattle.tc_code.specs.Step.{request, arguments_of, instr_of, with_thread, waiting_on, in_memory, loaded, allows, state_after_step, born, perform, state_after_wake, step}
 use Rattle.tc_code.specs.Run.{IsReached}
 use Rattle.run_laws.proofs.Names.{is_same, child_apart}
 use Rattle.run_laws.proofs.Steps.{Ran, Woke, none_failed, step_went}
@@ -39,7 +39,7 @@ module _ {B : Type 0} (ops : BufferOps B) (code : Code) (n : Name) where
     at : instr_of code x.local ≡ Some (Signal condition)
     empty : IsTrue (ops.is_empty x.buffer)
     waits : IsTrue (set.contains (waiting_on s condition) w)
-    after : s₁ ≡ woken ops s n w x condition
+    after : s₁ ≡ state_after_wake ops s n w x condition
 
   pub ran_of : (s s₁ : State B) (x : Thread B) → fin.get s.threads n ≡ Some x → Ran ops code s s₁ n → RanOf s s₁ x
   ran_of s s₁ x there w =
@@ -90,7 +90,7 @@ module _ {B : Type 0} (ops : BufferOps B) (code : Code) (n : Name) where
       whole = perform ops code s n (record { local = t; buffer = b }) i (Start f)
 
       grown : ℕ → List ℤ → State B
-      grown k xs = with_thread (did ops (record s { threads = vs }) n (record { local = u; buffer = b }) i) (child n (k + 1)) (born ops code f xs)
+      grown k xs = with_thread (state_after_step ops (record s { threads = vs }) n (record { local = u; buffer = b }) i) (child n (k + 1)) (born ops code f xs)
   performs t u b s vs i _ d children arguments =
       record { value = pos 0; buffer = b; differ = record { shared = refl; owners = refl; threads = put_own n t u _ _ b b s.threads vs d } }
 
@@ -146,12 +146,12 @@ module _ {B : Type 0} (ops : BufferOps B) (code : Code) (n : Name) where
           first = first;
           second = second;
           buffer = b;
-          state = woken ops v n q other w.condition;
+          state = state_after_wake ops v n q other w.condition;
           one = makes_wake ops code v n other (going_same Equal equal_keeps ops code n t u b s v d alike.rest.has_exited none) d.threads.here q w.condition
               (at_same code live closed t u i alike w.at) w.empty (ap (λ (x : State B). set.contains (waiting_on x w.condition) q) shares ∙ w.waits);
           differ =
-              subst (λ x. Differ Equal n first second b x (woken ops v n q other w.condition)) (sym w.after)
-              (subst (λ y. Differ Equal n first second b (woken ops s n q own w.condition) (woken ops y n q other w.condition)) (sym shares)
+              subst (λ x. Differ Equal n first second b x (state_after_wake ops v n q other w.condition)) (sym w.after)
+              (subst (λ y. Differ Equal n first second b (state_after_wake ops s n q own w.condition) (state_after_wake ops y n q other w.condition)) (sym shares)
               (record { shared = refl; owners = refl; threads = put_own n t u first second b b s.threads v.threads d.threads }));
           alike = request_alike code live closed t u i Silent (pos 0) alike w.at;
           behind = request_behind u t i Silent (pos 0);

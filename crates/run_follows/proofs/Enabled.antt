@@ -18,13 +18,13 @@ use Rattle.tc_base.specs.declared.request.Request.TheVariants.{Read, Exchange, C
 use Rattle.tc_code.specs.declared.instr.Instr.{Instr}
 use Rattle.tc_code.specs.declared.instr.Instr.TheVariants.{Inside, Holds, Signal, Ready, Assert, Nonzero, InRange}
 use Rattle.tc_code.specs.Code.{Code}
-use Rattle.tc_code.specs.Step.{request, site, instr_of, loaded, drains_first, is_let, allows, perform, woken, step, move_of}
+use Rattle.tc_code.specs.Step.{request, site, instr_of, loaded, drains_first, is_let, allows, perform, state_after_wake, step, move_of}
 use Rattle.tc_code.specs.Step.{run_of, wake_of, drain_of, opening}
 use Rattle.tc_code.specs.Step as stepping
 use Rattle.tc_code.specs.Run.{run}
 use Rattle.store_buffers.specs.Pending.{Store, stores, Binding, Stands, waits}
 use Rattle.store_buffers.specs.Laws.{Laws, SomeDrains}
-use Rattle.run_history.specs.History.{Deed, pending, taken, history, Issue, pending_issues}
+use Rattle.run_history.specs.History.{Deed, pending, value_taken, history, Issue, pending_issues}
 use Rattle.run_follows.specs.Follow.{seen_in, is_let_in, is_allowed_in, may_wake_in, taken_in, IsNextDrain, HasTurn}
 use Rattle.run_history.specs.Told.{failed_in}
 use Rattle.run_history.proofs.Locals.{LocalsAre, keeps_locals, opening_locals}
@@ -109,7 +109,7 @@ module _ {B : Type 0} (ops : BufferOps B) (model : Model) (bound : Binding) (law
     pub load_told : (c : ℕ) → c < length code.memory → loaded ops s t c ≡ seen_in ops.buffered code h n c
     load_told c within = ap₂ unwrap_or (laws.forward_stands t.buffer (pending ops.buffered h n) c stands) (a.memory.values c within)
 
-    pub taken_told : (r : Request) → AsksOf code r → taken ops code s t r ≡ taken_in ops.buffered code h n r
+    pub taken_told : (r : Request) → AsksOf code r → value_taken ops code s t r ≡ taken_in ops.buffered code h n r
     taken_told (Read c) within = load_told c within
     taken_told (Exchange c v) within = a.memory.values c within
     taken_told (CompareExchange c e v) within = a.memory.values c within
@@ -153,7 +153,7 @@ module _ {B : Type 0} (ops : BufferOps B) (model : Model) (bound : Binding) (law
     wake_of_told : (u : Name) (i : Instr) → AsksOf code (request t.local i)
         → is_some (wake_of ops s n u t i) ≡ may_wake_in ops.buffered h n u (request t.local i)
     wake_of_told u (Signal c) within =
-        where_true _ (woken ops s n u t c) ∙ ap₂ (λ e ns. e && set.contains ns u) empty_told (a.waiters.waiters c within)
+        where_true _ (state_after_wake ops s n u t c) ∙ ap₂ (λ e ns. e && set.contains ns u) empty_told (a.waiters.waiters c within)
     wake_of_told u (Inside len e) within = sym (no_wake u _)
     wake_of_told u (Holds m) within = sym (no_wake u _)
     wake_of_told u (Ready v) within = sym (no_wake u _)
@@ -173,7 +173,7 @@ module _ {B : Type 0} (ops : BufferOps B) (model : Model) (bound : Binding) (law
     pub drain_told : (form : Option ℕ) → is_some (step ops code s (move.Drain n form)) ≡ is_none (failed_in h) && ops.may_drain t.buffer form
     drain_told form =
         move_told (move.Drain n form) (ops.may_drain t.buffer form)
-        (ap (λ o. is_some (option_and_then (λ x. drain_of ops s n x form) o)) here ∙ where_true _ (stepping.drained ops s n t form))
+        (ap (λ o. is_some (option_and_then (λ x. drain_of ops s n x form) o)) here ∙ where_true _ (stepping.state_after_drain ops s n t form))
 
     -- a store may drain exactly if one is pending that needn't wait
     may_drain_told : (form : Option ℕ) → (ops.may_drain t.buffer form ≡ true → SomeDrains ops bound (pending ops.buffered h n) form)

@@ -143,7 +143,7 @@ module _ {B : Type 0} (machine : Machine B) where
       let out = laws.drain_stands t.buffer ps form some.older some.store some.newer st some.drains in
       let split = split_at (pending_issues ops.buffered h n) some.older (Store some.store) some.newer some.drains.there in
       subst (MayFollow ops.buffered bound code h)
-      (sym (deed_is ops model bound laws code s (stepping.drained ops s n t form) h n t form here refl some.older some.store some.newer some.drains.is_free out
+      (sym (deed_is ops model bound laws code s (stepping.state_after_drain ops s n t form) h n t form here refl some.older some.store some.newer some.drains.is_free out
       a.deeds.buffers split))
       (next_drain ops model bound laws code s h a n t here form has some split)
 

@@ -23,7 +23,7 @@ use Rattle.tc_code.specs.Step as stepping
 use Rattle.tc_code.specs.Run.{IsReached, run_from, run}
 use Rattle.tc_code.proofs.Facts.{opening_is_reached, step_is_reached}
 use Rattle.store_buffers.specs.Pending.{Store, stores, form_of, waits}
-use Rattle.run_history.specs.History.{Deed, Did, Drained, Issue, pending_issues, pending, did, woke, drained, taken, created_by}
+use Rattle.run_history.specs.History.{Deed, Did, Drained, Issue, pending_issues, pending, did, woke, drained, value_taken, created_by}
 use Rattle.run_history.specs.History.{by_instr, deed_of, history_from, history}
 use Rattle.run_history.specs.Locals.{asks_next}
 use Rattle.run_history.specs.Told.{steps_in, failed_in, waiting_in}
@@ -90,7 +90,7 @@ module _ {B : Type 0} (machine : Machine B) where
           let i = x.by.instr in
           let within = subst (AsksOf code) x.by.asks (next_asks_within ops code s n t i lawful reached x.there x.by.at) in
           let steps : t.local.steps ≡ k = number_is ops code s h n a.deeds.buffers.threads t x.there ∙ sym number in
-          let took : taken ops code s t r ≡ v = taken_told ops model bound laws code s h a n t x.there r within ∙ sym takes in
+          let took : value_taken ops code s t r ≡ v = taken_told ops model bound laws code s h a n t x.there r within ∙ sym takes in
           record {
             state = stepping.perform ops code s n t i r;
             goes =
@@ -101,7 +101,7 @@ module _ {B : Type 0} (machine : Machine B) where
                 ∙ ap (λ o. option_map_or (λ t. by_instr ops code t (did ops code s n t)) o []) x.there
                 ∙ ap (λ o. option_map_or (λ i. did ops code s n t (request t.local i) ∷ []) o []) x.by.at
                 ∙ ap (λ q. did ops code s n t q ∷ []) x.by.asks
-                ∙ ap (λ j. Did n j r (taken ops code s t r) (created_by ops code n t.local r) ∷ []) steps
+                ∙ ap (λ j. Did n j r (value_taken ops code s t r) (created_by ops code n t.local r) ∷ []) steps
                 ∙ ap₂ (λ w p. Did n k r w p ∷ []) took (sym made);
           }
 
@@ -116,7 +116,7 @@ module _ {B : Type 0} (machine : Machine B) where
           let both = and_parts (is_nil (stores (pending ops.buffered h n))) (set.contains (waiting_in h c) u) may in
           let steps : t.local.steps ≡ k = number_is ops code s h n a.deeds.buffers.threads t x.there ∙ sym number in
           record {
-            state = stepping.woken ops s n u t c;
+            state = stepping.state_after_wake ops s n u t c;
             goes =
                 makes_wake ops code s n t going x.there u c at (empty_told ops model bound laws code s h a n t x.there ∙ both.0)
                 (ap (λ ns. set.contains ns u) (a.waiters.waiters c within) ∙ both.1);
@@ -161,12 +161,12 @@ module _ {B : Type 0} (machine : Machine B) where
         let out = laws.drain_stands t.buffer (pending ops.buffered h n) form (whats d.older) e (whats d.newer) (a.deeds.buffers.stands n t here)
         (record { there = there; by_form = refl; is_free = d.is_free }) in
         record {
-          state = stepping.drained ops s n t form;
+          state = stepping.state_after_drain ops s n t form;
           goes = makes_drain ops code s n t going here form out.may;
           does =
               ap (λ o. option_map_or (λ (x : Thread B). drained ops code h n (ops.drain x.buffer form).entry ∷ []) o []) here
               ∙ ap (λ x. x ∷ [])
-              (deed_is ops model bound laws code s (stepping.drained ops s n t form) h n t form here refl (whats d.older) e (whats d.newer) d.is_free out
+              (deed_is ops model bound laws code s (stepping.state_after_drain ops s n t form) h n t form here refl (whats d.older) e (whats d.newer) d.is_free out
               a.deeds.buffers split);
         }
 

@@ -14,7 +14,7 @@ use Rattle.tc_base.specs.declared.request.Request.TheVariants.{WakeOne}
 use Rattle.tc_code.specs.declared.instr.Instr.{Instr}
 use Rattle.tc_code.specs.declared.instr.Instr.TheVariants.{Signal}
 use Rattle.tc_code.specs.Code.{Code}
-use Rattle.tc_code.specs.Step.{request, instr_of, allows, perform, waiting_on, woken, step, opening}
+use Rattle.tc_code.specs.Step.{request, instr_of, allows, perform, waiting_on, state_after_wake, step, opening}
 use Rattle.tc_code.specs.Step as machine
 use Rattle.tc_code.specs.Run.{run_from, run, IsReached}
 use Rattle.tc_code.proofs.Facts.{opening_is_reached, step_is_reached}
@@ -29,10 +29,10 @@ module _ {B : Type 0} (ops : BufferOps B) (code : Code) where
         → P (perform ops code s n t i r) (h ++ did ops code s n t r ∷ [])
     pub waked : (s : State B) (h : List Deed) (n u : Name) (t : Thread B) (c : ℕ) → IsReached ops code s → s.failed ≡ None
         → fin.get s.threads n ≡ Some t → instr_of code t.local ≡ Some (Signal c) → IsTrue (ops.is_empty t.buffer)
-        → IsTrue (set.contains (waiting_on s c) u) → P s h → P (woken ops s n u t c) (h ++ woke ops code n u t (WakeOne c) ∷ [])
+        → IsTrue (set.contains (waiting_on s c) u) → P s h → P (state_after_wake ops s n u t c) (h ++ woke ops code n u t (WakeOne c) ∷ [])
     pub flushed : (s : State B) (h : List Deed) (n : Name) (t : Thread B) (form : Option ℕ) → IsReached ops code s → s.failed ≡ None
         → fin.get s.threads n ≡ Some t → IsTrue (ops.may_drain t.buffer form) → P s h
-        → P (machine.drained ops s n t form) (h ++ drained ops code h n (ops.drain t.buffer form).entry ∷ [])
+        → P (machine.state_after_drain ops s n t form) (h ++ drained ops code h n (ops.drain t.buffer form).entry ∷ [])
 
   module _ (P : State B → List Deed → Type 0) (keeps : Keeps P) where
     kept_by_move : (s u : State B) (h : List Deed) (m : Move) → IsReached ops code s → s.failed ≡ None → Went ops code s u m → P s h

@@ -20,7 +20,7 @@ use Rattle.store_buffers.specs.Laws.{Laws}
 use Rattle.store_buffers.specs.helpers.Lists.{store_last, bar_last}
 use Rattle.run_laws.specs.Ints.{AsksInts, HoldsInts, Empty, Issued, Barred, Drained, PassesInts, ThreadHasInts, StateHasInts}
 use Rattle.run_laws.proofs.Ints.{zero_int, in_memory_int, loaded_int, values_are_ints, requests_have_ints}
-use Rattle.run_history.specs.History.{taken, history}
+use Rattle.run_history.specs.History.{value_taken, history}
 use Rattle.run_history.specs.Ints.{DeedHasInts}
 use Rattle.run_history.proofs.Frame.{Keeps, holds_after}
 
@@ -97,7 +97,7 @@ module _ {B : Type 0} (ops : BufferOps B) where
     }
 
   module _ (code : Code) (passes : PassesInts ops) (lawful : IsLawful code) where
-    pub taken_int : (s : State B) (t : Thread B) (r : Request) → StateHasInts ops s → ThreadHasInts ops t → IsInt (taken ops code s t r)
+    pub taken_int : (s : State B) (t : Thread B) (r : Request) → StateHasInts ops s → ThreadHasInts ops t → IsInt (value_taken ops code s t r)
     taken_int s t (Read c) has ints = loaded_int ops code passes s has t c ints
     taken_int s t (Exchange c v) has ints = in_memory_int ops code passes s has c
     taken_int s t (CompareExchange c e v) has ints = in_memory_int ops code passes s has c

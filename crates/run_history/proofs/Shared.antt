@@ -15,7 +15,7 @@ use Rattle.tc_base.specs.declared.request.Request.TheVariants.{Read, Write, Acqu
 use Rattle.tc_base.specs.declared.request.Request.TheVariants.{WakeOne, WakeAll, Fail}
 use Rattle.tc_code.specs.declared.instr.Instr.{Instr}
 use Rattle.tc_code.specs.Code.{Code}
-use Rattle.tc_code.specs.Step.{perform, with_thread, local_after, woken, waiting_on, in_memory, NameSet, opening}
+use Rattle.tc_code.specs.Step.{perform, with_thread, local_after, state_after_wake, waiting_on, in_memory, NameSet, opening}
 use Rattle.tc_code.specs.Step as machine
 use Rattle.run_laws.proofs.Basics.{by_bool, either, index_or-replicate}
 use Rattle.run_laws.proofs.Whole.{performed_shares}
@@ -70,7 +70,7 @@ module _ {B : Type 0} (ops : BufferOps B) (code : Code) where
   store_as s n t i c v b =
       if b
       then with_thread s n (record { local = local_after t.local i (pos 0); buffer = ops.issue t.buffer c v })
-      else record (machine.did ops s n t i) { memory = slice_set s.memory c v }
+      else record (machine.state_after_step ops s n t i) { memory = slice_set s.memory c v }
 
   -- the history determines the values in memory
   pub record MemoryIs (s : State B) (h : List Deed) : Type 0 where
@@ -177,8 +177,8 @@ module _ {B : Type 0} (ops : BufferOps B) (code : Code) where
   pub keeps_failure : Keeps ops code FailureIs
   keeps_failure = record {
     ran = λ s h n t i r _ _ _ _ _ _ f. failure_by s (perform ops code s n t i r) h (did ops code s n t r) (performed_failed s n t i r) f;
-    waked = λ s h n u t c _ _ _ _ _ _ f. failure_by s (woken ops s n u t c) h _ refl f;
-    flushed = λ s h n t form _ _ _ _ f. failure_by s (machine.drained ops s n t form) h _ refl f;
+    waked = λ s h n u t c _ _ _ _ _ _ f. failure_by s (state_after_wake ops s n u t c) h _ refl f;
+    flushed = λ s h n t form _ _ _ _ f. failure_by s (machine.state_after_drain ops s n t form) h _ refl f;
   }
 
   -- the memory at the start is that of the empty history

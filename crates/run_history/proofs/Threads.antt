@@ -15,7 +15,7 @@ use Rattle.tc_base.specs.declared.request.Request.TheVariants.{Silent, Write, Ba
 use Rattle.tc_code.specs.declared.instr.Instr.{Instr}
 use Rattle.tc_code.specs.declared.instr.Instr.TheVariants.{Inside, Branch, Holds, Signal, Create, Ready, Assert, Nonzero, InRange, Exit}
 use Rattle.tc_code.specs.Code.{Code}
-use Rattle.tc_code.specs.Step.{request, site, local_after, arguments_of, perform, with_thread, born, woken, opening}
+use Rattle.tc_code.specs.Step.{request, site, local_after, arguments_of, perform, with_thread, born, state_after_wake, opening}
 use Rattle.tc_code.specs.Step as machine
 use Rattle.tc_code.specs.Run.{IsReached}
 use Rattle.run_laws.proofs.Basics.{by_bool}
@@ -23,7 +23,7 @@ use Rattle.run_laws.proofs.After.{branch_is}
 use Rattle.run_laws.proofs.Counts.{after_counts}
 use Rattle.run_laws.proofs.Created.{child_is_new}
 use Rattle.run_laws.proofs.Names.{same_self, same_other, same_or_apart, get_put, get_put_apart, child_apart}
-use Rattle.run_history.specs.History.{Deed, Did, Drained, same, taken, created_by}
+use Rattle.run_history.specs.History.{Deed, Did, Drained, same, value_taken, created_by}
 use Rattle.run_history.specs.Locals.{after_step}
 use Rattle.run_history.specs.Told.{creates, is_thread_in, is_step_of, steps_in, is_start_of, children_in, is_exit_of, has_exited_in}
 use Rattle.run_history.proofs.Lists.{filter_map-push, count-push}
@@ -93,7 +93,7 @@ module _ {B : Type 0} (ops : BufferOps B) (code : Code) where
 
   -- the thread after a request
   abbrev pub own : State B → Thread B → Instr → Request → Thread B
-  own s t i r = record { local = after_step t.local i r (taken ops code s t r); buffer = buffer_by t.buffer r }
+  own s t i r = record { local = after_step t.local i r (value_taken ops code s t r); buffer = buffer_by t.buffer r }
 
   -- the threads with the child that a request creates
   abbrev pub with_born : Name → Thread B → Instr → Request → ByName (Thread B) → ByName (Thread B)
@@ -105,7 +105,7 @@ module _ {B : Type 0} (ops : BufferOps B) (code : Code) where
   performed_threads s n t i (Write c v) =
       by_bool (λ b. (let w : State B =
       if b then with_thread s n (record { local = local_after t.local i (pos 0); buffer = ops.issue t.buffer c v })
-      else record (machine.did ops s n t i) { memory = _ } in w.threads)
+      else record (machine.state_after_step ops s n t i) { memory = _ } in w.threads)
       ≡ fin.insert s.threads n (record { local = local_after t.local i (pos 0); buffer = if b then ops.issue t.buffer c v else t.buffer }))
       ops.buffered refl refl
   performed_threads s n t i Silent = refl
@@ -296,11 +296,11 @@ module _ {B : Type 0} (ops : BufferOps B) (code : Code) where
   pub keeps_threads : Keeps ops code ThreadsAre
   keeps_threads = record {
     ran = λ s h n t i r reached _ here _ asks _ a.
-        threads_by s (perform ops code s n t i r) h n t i r (taken ops code s t r) (created_by ops code n t.local r) reached here asks
+        threads_by s (perform ops code s n t i r) h n t i r (value_taken ops code s t r) (created_by ops code n t.local r) reached here asks
         (performed_threads s n t i r) (makes_what n t.local t.local.steps r _) a;
     waked = λ s h n u t c reached _ here _ _ _ a.
-        threads_by s (woken ops s n u t c) h n t (Signal c) (WakeOne c) (pos 0) (Some u) reached here refl refl refl a;
-    flushed = λ s h n t form _ _ here _ a. threads_flushed s (machine.drained ops s n t form) h n t (ops.drain t.buffer form).rest _ _ _ here refl a;
+        threads_by s (state_after_wake ops s n u t c) h n t (Signal c) (WakeOne c) (pos 0) (Some u) reached here refl refl refl a;
+    flushed = λ s h n t form _ _ here _ a. threads_flushed s (machine.state_after_drain ops s n t form) h n t (ops.drain t.buffer form).rest _ _ _ here refl a;
   }
 
   -- only main exists at the start

@@ -6,10 +6,10 @@ use Rattle.tc_code.specs.Expr.{Expr}
 use Rattle.tc_code.specs.declared.instr.Instr.{Instr}
 use Rattle.tc_code.specs.declared.instr.Instr.TheVariants.{Set, Load, LoadAt, Branch, Goto, Lock, Unlock, Sleep, Wake, Create, Join, Swap, Cas}
 use Rattle.tc_code.specs.Lawful.{target}
-use Rattle.tc_code.specs.Step.{branched, local_after}
+use Rattle.tc_code.specs.Step.{step_by_branch, local_after}
 
 -- a branch changes the place, the outcomes and the count of steps, and nothing else
-pub branch_is : (t : Local) (b : Bool) (to : ℕ) → branched t b to ≡ record t
+pub branch_is : (t : Local) (b : Bool) (to : ℕ) → step_by_branch t b to ≡ record t
     { instruction = cond b (t.instruction + 1) to; outcomes = t.outcomes ++ b ∷ []; steps = t.steps + 1 }
 branch_is t true to = refl
 branch_is t false to = refl
@@ -19,7 +19,7 @@ abbrev pub Leads : Instr → ℕ → ℕ → Type 0
 Leads i p k = (k ≡ p + 1) ⊎ (target i ≡ Some k)
 
 -- a branch leads to the next place or to its target
-branch_leads : (t : Local) (e : Expr) (b : Bool) (to : ℕ) → Leads (Branch e to) t.instruction (branched t b to).instruction
+branch_leads : (t : Local) (e : Expr) (b : Bool) (to : ℕ) → Leads (Branch e to) t.instruction (step_by_branch t b to).instruction
 branch_leads t e true to = inl refl
 branch_leads t e false to = inr refl
 

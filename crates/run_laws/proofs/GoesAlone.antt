@@ -15,7 +15,7 @@ use Rattle.tc_code.specs.declared.instr.Instr.TheVariants.{Signal}
 use Rattle.tc_code.specs.Code.{Code}
 use Rattle.tc_base.specs.declared.request.Request.{Request}
 use Rattle.tc_base.specs.declared.request.Request.TheVariants.{Read, Write, Exchange, CompareExchange, Bar, WakeOne, Start, Fail}
-use Rattle.tc_code.specs.Step.{request, stepped, local_after, instr_of, loaded, in_memory, perform, step}
+use Rattle.tc_code.specs.Step.{request, step_in_place, local_after, instr_of, loaded, in_memory, perform, step}
 use Rattle.tc_code.specs.Run.{IsReached, run_from}
 use Rattle.tc_code.proofs.Facts.{step_is_reached}
 use Rattle.run_laws.specs.Alone.{same, Alone, after_request, goes_on, after_steps, taken_by, taken_in, taken_from}
@@ -34,7 +34,7 @@ is_read _ = false
 
 -- the thread after a request that takes no value
 abbrev local_by : Local → Instr → Request → Local
-local_by t i Fail = stepped t
+local_by t i Fail = step_in_place t
 local_by t i _ = local_after t i (pos 0)
 
 -- a request that takes no value leaves all values

@@ -24,8 +24,8 @@ use Rattle.tc_code.specs.declared.instr.Instr.TheVariants.{Set, Load, LoadAt, St
 use Rattle.tc_code.specs.declared.instr.Instr.TheVariants.{Ready, Assert, Nonzero, InRange, Swap, Cas}
 use Rattle.tc_code.specs.Code.{Code}
 use Rattle.tc_code.specs.Lawful.{exprs_of, IsLawful}
-use Rattle.tc_code.specs.Step.{request, site, stepped, value_in, local_after, arguments_of, instr_of, in_memory, replaced, ints_of, loaded, born}
-use Rattle.tc_code.specs.Step.{perform, with_thread, did, exchanged, step, opening}
+use Rattle.tc_code.specs.Step.{request, site, step_in_place, value_in, local_after, arguments_of, instr_of, in_memory, replaced, ints_of, loaded, born}
+use Rattle.tc_code.specs.Step.{perform, with_thread, state_after_step, state_after_exchange, step, opening}
 use Rattle.tc_code.specs.Run.{IsReached}
 use Rattle.tc_code.proofs.Facts.{placed_next, step_is_reached}
 use Rattle.tc_code.proofs.Ints.{value_int}
@@ -147,10 +147,10 @@ module _ {B : Type 0} (ops : BufferOps B) (code : Code) (passes : PassesInts ops
     does_ints : (v : ℤ) (b : B) → IsInt v → HoldsInts ops b → StateHasInts ops (with_thread s n (record { local = local_after t.local i v; buffer = b }))
     does_ints v b int holds = put_ints s has n _ (record { slots = after_int t.local ints.slots i v is int; buffer = holds })
 
-    did_ints : StateHasInts ops (did ops s n t i)
+    did_ints : StateHasInts ops (state_after_step ops s n t i)
     did_ints = does_ints (pos 0) t.buffer zero_int ints.buffer
 
-    exchanged_ints : (c : ℕ) (v : ℤ) → IsInt v → StateHasInts ops (exchanged ops s n t i c v)
+    exchanged_ints : (c : ℕ) (v : ℤ) → IsInt v → StateHasInts ops (state_after_exchange ops s n t i c v)
     exchanged_ints c v int = record {
       memory = All-set IsInt s.memory c v int has.memory;
       threads = (does_ints (in_memory s c) t.buffer (in_memory_int s has c) ints.buffer).threads;
@@ -167,9 +167,9 @@ module _ {B : Type 0} (ops : BufferOps B) (code : Code) (passes : PassesInts ops
         exchanged_ints c (replaced (in_memory s c) e v) (either IsInt (int_eq (in_memory s c) e) v (in_memory s c) asks.1 (in_memory_int s has c))
     performed_ints Bar asks = does_ints (pos 0) (ops.bar t.buffer) zero_int (Barred t.buffer ints.buffer)
     performed_ints (Start f) asks =
-        put_ints (did ops s n t i) did_ints (child n (t.local.children + 1)) _ (born_ints f _ (arguments_int t.local ints.slots i is))
+        put_ints (state_after_step ops s n t i) did_ints (child n (t.local.children + 1)) _ (born_ints f _ (arguments_int t.local ints.slots i is))
     performed_ints Fail asks =
-        let failed = put_ints s has n (record t { local = stepped t.local }) (record { slots = ints.slots; buffer = ints.buffer }) in
+        let failed = put_ints s has n (record t { local = step_in_place t.local }) (record { slots = ints.slots; buffer = ints.buffer }) in
         record { memory = failed.memory; threads = failed.threads }
     performed_ints r asks = record { memory = did_ints.memory; threads = did_ints.threads }
 

@@ -13,7 +13,7 @@ use Rattle.tc_base.specs.declared.moves.Move.TheVariants as move
 use Rattle.tc_code.specs.declared.instr.Instr.{Instr}
 use Rattle.tc_code.specs.declared.instr.Instr.TheVariants.{Signal}
 use Rattle.tc_code.specs.Code.{Code}
-use Rattle.tc_code.specs.Step.{request, instr_of, allows, perform, waiting_on, woken, drained, step, move_of, run_of, wake_of, drain_of, opening}
+use Rattle.tc_code.specs.Step.{request, instr_of, allows, perform, waiting_on, state_after_wake, state_after_drain, step, move_of, run_of, wake_of, drain_of, opening}
 use Rattle.tc_code.specs.Run.{IsReached}
 use Rattle.tc_code.proofs.Facts.{kept_by_run, opening_is_reached, step_is_reached}
 use Rattle.run_laws.proofs.Basics.{unless}
@@ -36,14 +36,14 @@ module _ {B : Type 0} (ops : BufferOps B) (code : Code) where
     pub at : instr_of code thread.local ≡ Some (Signal condition)
     pub empty : IsTrue (ops.is_empty thread.buffer)
     pub waits : IsTrue (set.contains (waiting_on s condition) waiter)
-    pub after : u ≡ woken ops s n waiter thread condition
+    pub after : u ≡ state_after_wake ops s n waiter thread condition
 
   -- a store of a thread drains
   pub record Drained (s u : State B) (n : Name) (form : Option ℕ) : Type 0 where
     pub thread : Thread B
     pub there : fin.get s.threads n ≡ Some thread
     pub may : IsTrue (ops.may_drain thread.buffer form)
-    pub after : u ≡ drained ops s n thread form
+    pub after : u ≡ state_after_drain ops s n thread form
 
   -- a move by its kind
   abbrev pub Went : State B → State B → Move → Type 0

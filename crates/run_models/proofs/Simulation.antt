@@ -23,8 +23,8 @@ use Rattle.tc_base.specs.declared.request.Request.TheVariants.{Start, Await, Fai
 use Rattle.tc_code.specs.declared.instr.Instr.{Instr}
 use Rattle.tc_code.specs.declared.instr.Instr.TheVariants.{Signal}
 use Rattle.tc_code.specs.Code.{Code}
-use Rattle.tc_code.specs.Step.{request, local_after, stepped, arguments_of, instr_of, in_memory, drains_first, is_let, with_thread}
-use Rattle.tc_code.specs.Step.{allows, loaded, done, did, stored, perform, born, waiting_on, woken, drained, step, opening}
+use Rattle.tc_code.specs.Step.{request, local_after, step_in_place, arguments_of, instr_of, in_memory, drains_first, is_let, with_thread}
+use Rattle.tc_code.specs.Step.{allows, loaded, state_after_read, state_after_step, state_after_store, perform, born, waiting_on, state_after_wake, state_after_drain, step, opening}
 use Rattle.tc_code.specs.Run.{run_from, run, IsStuck, EndsAs, Reproduces, path_of}
 use Rattle.tc_code.proofs.Facts.{run_from-append}
 use Rattle.store_buffers.specs.Pending.{Pending, Store, Bar as bar, stores, Binding, waits, form_of, Stands}
@@ -162,7 +162,7 @@ module _ {B C : Type 0} (ops : BufferOps B) (more : BufferOps C) where
       performs i (Write cell v) other = absurd (other cell v refl)
       performs i (Read cell) other = record {
         threads = fin.insert us n (record { local = local_after t.local i (loaded ops s t cell); buffer = c });
-        same = ap (λ o. done more (as_more s us) n mine i (unwrap_or o (in_memory s cell))) (same_forward t.buffer c cell both);
+        same = ap (λ o. state_after_read more (as_more s us) n mine i (unwrap_or o (in_memory s cell))) (same_forward t.buffer c cell both);
         alike = kept (local_after t.local i (loaded ops s t cell));
       }
       performs i (Exchange cell v) other = record { threads = _; same = refl; alike = kept (local_after t.local i (in_memory s cell)) }
@@ -179,7 +179,7 @@ module _ {B C : Type 0} (ops : BufferOps B) (more : BufferOps C) where
         alike = alike_insert _ _ (child n (t.local.children + 1)) (born ops code f (arguments_of t.local i)).local ops.empty more.empty
             (kept (local_after t.local i (pos 0))) both_empty;
       }
-      performs i Fail other = record { threads = _; same = refl; alike = kept (stepped t.local) }
+      performs i Fail other = record { threads = _; same = refl; alike = kept (step_in_place t.local) }
       performs i Silent other = record { threads = _; same = refl; alike = kept (local_after t.local i (pos 0)) }
       performs i _ other = record { threads = _; same = refl; alike = kept (local_after t.local i (pos 0)) }
 
@@ -204,7 +204,7 @@ module _ {B C : Type 0} (ops : BufferOps B) (more : BufferOps C) where
         buffered_store = with_thread s n (record { local = after; buffer = ops.issue t.buffer cell v })
 
         abbrev store_at_once : State B
-        store_at_once = record (did ops s n t i) { memory = slice_set s.memory cell v }
+        store_at_once = record (state_after_step ops s n t i) { memory = slice_set s.memory cell v }
 
         -- the effect of a store on the other side, by whether each model has buffers
         abbrev StoreFollows : Bool → Bool → Type 0
@@ -212,7 +212,7 @@ module _ {B C : Type 0} (ops : BufferOps B) (more : BufferOps C) where
             Follows s us (move.Run n ∷ (if b then [] else if d then move.Drain n form ∷ [] else []))
             (if b then buffered_store else store_at_once)
 
-        other_stores : step more code (as_more s us) (move.Run n) ≡ Some (stored more (as_more s us) n mine i cell v)
+        other_stores : step more code (as_more s us) (move.Run n) ≡ Some (state_after_store more (as_more s us) n mine i cell v)
         other_stores = makes_run more code (as_more s us) n mine going there i (Write cell v) at asks refl
 
         abbrev issued : Thread C
@@ -221,7 +221,7 @@ module _ {B C : Type 0} (ops : BufferOps B) (more : BufferOps C) where
         other_issues : more.buffered ≡ true → step more code (as_more s us) (move.Run n) ≡ Some (as_more s (fin.insert us n issued))
         other_issues buffered =
             other_stores ∙ ap (λ b. Some (if b then as_more s (fin.insert us n issued)
-            else record (did more (as_more s us) n mine i) { memory = slice_set s.memory cell v })) buffered
+            else record (state_after_step more (as_more s us) n mine i) { memory = slice_set s.memory cell v })) buffered
 
         -- both models have buffers
         into_both : ops.buffered ≡ true → StoreFollows true true
@@ -240,7 +240,7 @@ module _ {B C : Type 0} (ops : BufferOps B) (more : BufferOps C) where
         into_neither none =
             follows_one s us (move.Run n) store_at_once (fin.insert us n (record { local = after; buffer = c }))
             (other_stores ∙ ap (λ b. Some (if b then as_more s (fin.insert us n issued)
-            else record (did more (as_more s us) n mine i) { memory = slice_set s.memory cell v })) none)
+            else record (state_after_step more (as_more s us) n mine i) { memory = slice_set s.memory cell v })) none)
             (kept after)
 
         -- only the other model has buffers: its store drains at once
@@ -289,15 +289,15 @@ module _ {B C : Type 0} (ops : BufferOps B) (more : BufferOps C) where
       run_follows i r at asks may = request_follows i r at asks may (λ cell v e. cc)
 
       wake_follows : (u : Name) (cond : ℕ) → instr_of code t.local ≡ Some (Signal cond) → IsTrue (ops.is_empty t.buffer)
-          → IsTrue (set.contains (waiting_on s cond) u) → Follows s us (move.Wake n u ∷ []) (woken ops s n u t cond)
+          → IsTrue (set.contains (waiting_on s cond) u) → Follows s us (move.Wake n u ∷ []) (state_after_wake ops s n u t cond)
       wake_follows u cond at empty waits =
-          follows_one s us (move.Wake n u) (woken ops s n u t cond) (fin.insert us n (record { local = local_after t.local (Signal cond) (pos 0); buffer = c }))
+          follows_one s us (move.Wake n u) (state_after_wake ops s n u t cond) (fin.insert us n (record { local = local_after t.local (Signal cond) (pos 0); buffer = c }))
           (makes_wake more code (as_more s us) n mine going there u cond at (same_empty t.buffer c both ∙ empty) waits)
           (kept (local_after t.local (Signal cond) (pos 0)))
 
       -- a drain removes the same store on the other side
       drain_follows : (form : Option ℕ) → IsTrue (ops.may_drain t.buffer form)
-          → Follows s us (move.Drain n (form_of bound_more (ops.drain t.buffer form).entry.cell) ∷ []) (drained ops s n t form)
+          → Follows s us (move.Drain n (form_of bound_more (ops.drain t.buffer form).entry.cell) ∷ []) (state_after_drain ops s n t form)
       drain_follows form may =
           let some = laws.may_drain_stands t.buffer both.list form both.here may in
           let d = some.drains in

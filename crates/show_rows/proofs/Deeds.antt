@@ -22,7 +22,7 @@ use Rattle.run_laws.proofs.Basics.{some_value}
 use Rattle.run_laws.proofs.Steps.{Went, step_went}
 use Rattle.store_buffers.specs.Pending.{Binding}
 use Rattle.store_buffers.specs.Laws.{Laws}
-use Rattle.run_history.specs.History.{Deed, Did, Drained, history, deed_of, did, woke, drained, taken, created_by, by_instr}
+use Rattle.run_history.specs.History.{Deed, Did, Drained, history, deed_of, did, woke, drained, value_taken, created_by, by_instr}
 use Rattle.run_history.specs.Locals.{locals_in}
 use Rattle.run_history.proofs.Frame.{holds_after}
 use Rattle.run_history.proofs.Locals.{LocalsAre, keeps_locals, opening_locals}
@@ -99,7 +99,7 @@ module _ {B : Type 0} (ops : BufferOps B) (model : Model) (bound : Binding) (law
   seen_so = subst (SeenIs ops model bound laws code s) (sym so.told) (seen_is ops model bound laws code so.made s so.leads)
 
   -- the value that a request takes
-  pub taken_so : (thread : Thread B) (r : Request) → taken ops code s thread r ≡ taken_by ops t.seen.memory thread r
+  pub taken_so : (thread : Thread B) (r : Request) → value_taken ops code s thread r ≡ taken_by ops t.seen.memory thread r
   taken_so thread r = taken_is ops model bound laws code s told thread r seen_so ∙ ap (λ (x : Seen). taken_by ops x.memory thread r) (sym so.sees)
 
   -- the store that drains
@@ -137,7 +137,7 @@ module _ {B : Type 0} (ops : BufferOps B) (model : Model) (bound : Binding) (law
       → deed_of ops code s told (move.Run n) ≡ Did m k r v o ∷ []
   run_gives n thread i there at m k r v o em ek er ev eo =
       run_does ops code s told n thread there i at
-      ∙ ap (λ (x : Request). Did n thread.local.steps x (taken ops code s thread x) (created_by ops code n thread.local x) ∷ []) (sym er)
+      ∙ ap (λ (x : Request). Did n thread.local.steps x (value_taken ops code s thread x) (created_by ops code n thread.local x) ∷ []) (sym er)
       ∙ ap (λ x. Did n thread.local.steps r x (created_by ops code n thread.local r) ∷ []) (taken_so thread r ∙ sym ev)
       ∙ ap (λ x. Did n thread.local.steps r v x ∷ []) (sym eo)
       ∙ ap (λ x. Did n x r v o ∷ []) (sym ek)

@@ -46,7 +46,7 @@ use Rattle.bit_order.proofs.Meaning.{values-say-worlds}
 use Rattle.bit_blast.specs.Blasted.{BlastMeans, IsApart, IsPosed, impossible, layout_of}
 use Rattle.bit_blast.specs.Contended.{contended}
 use Rattle.bit_blast.specs.Laws.{BodyIsTold}
-use Rattle.bit_blast.specs.Whole.{whole}
+use Rattle.bit_blast.specs.Whole.{all_clauses}
 use Rattle.bit_blast.specs.Whole as blast
 use Rattle.bit_blast.proofs.Completed.{completed_events, contended_within, same_part}
 use Rattle.bit_blast.proofs.Posed.{blast_means, formula_in}
@@ -70,7 +70,7 @@ use Rattle.plan_runs.proofs.Runs.{plan_reproduces}
 use Rattle.clap_solve.specs.Solved.{IsWithin}
 use Rattle.clap_solve.proofs.Meaning as solve
 use Rattle.clap_solve.proofs.Ordered.{completed_lawful}
-use Rattle.switch_clauses.specs.Clauses.{asked_of_all, switch_clauses, switched_by}
+use Rattle.switch_clauses.specs.Clauses.{asked_of_all, switch_clauses, clauses_with_levels}
 use Rattle.switch_clauses.proofs.Same.{same_few}
 use Rattle.switch_clauses.proofs.Whole as stands
 use Rattle.path_laws.specs.Setting.{Setting, setting_of}
@@ -198,7 +198,7 @@ module _ (buffered : Bool) (bound : Binding) (code : Code) (log : Log) (lawful :
           omega (arith, less, events_y, same_Some (number_of ps e.thread e.it.step) last number)
 
   abbrev f : Formula
-  f = whole y s.nodes s.formula
+  f = all_clauses y s.nodes s.formula
 
   pub levels_ready : IsReady y (threads_of ps) (failing_of ps) f
   levels_ready = record {
@@ -223,7 +223,7 @@ module _ (buffered : Bool) (bound : Binding) (code : Code) (log : Log) (lawful :
       pub small : All (λ p. p < 256) possible.world.positions
       pub few : world_switches ps possible.world ≤ most
 
-    said : ps.dead ≡ false → (v : Valuation) → IsTrue (satisfies v (switched_by ps s most).clauses) → IsSaid v
+    said : ps.dead ≡ false → (v : Valuation) → IsTrue (satisfies v (clauses_with_levels ps s most).clauses) → IsSaid v
     said lives v all =
         let own = first_part v f.clauses (level_clauses y (threads_of ps) (failing_of ps) (suc f.vars) most) all in
         let m = stands.model y s.nodes s.formula ready v own in
@@ -246,7 +246,7 @@ module _ (buffered : Bool) (bound : Binding) (code : Code) (log : Log) (lawful :
         }
 
     abbrev Satisfied : Valuation → Bool → Type 0
-    Satisfied v dead = IsTrue (satisfies v (if dead then impossible.clauses else switched_by ps s most).clauses)
+    Satisfied v dead = IsTrue (satisfies v (if dead then impossible.clauses else clauses_with_levels ps s most).clauses)
 
     pub says : (v : Valuation) → IsTrue (satisfies v (switch_clauses buffered bound code log most).clauses) → IsSaid v
     says v satisfied = by ps.dead refl satisfied
@@ -257,7 +257,7 @@ module _ (buffered : Bool) (bound : Binding) (code : Code) (log : Log) (lawful :
 
     -- each such world comes from such values
     pub is_said : (p : IsPossible buffered bound code log) → IsWorldFor (record { order = s.order; loads = s.symbolic.loads }) p.world
-        → world_switches ps p.world ≤ most → (v : Valuation) × IsTrue (satisfies v (switched_by ps s most).clauses)
+        → world_switches ps p.world ≤ most → (v : Valuation) × IsTrue (satisfies v (clauses_with_levels ps s most).clauses)
     is_said p is few =
         let world_for : IsWorldFor (record { order = oa; loads = s.symbolic.loads }) p.world = record {
           world = is.world;

@@ -20,7 +20,7 @@ use Rattle.order_switches.specs.Levels.{AreLevels, Counts}
 use Rattle.order_switches.specs.Switches.{end_at, switches}
 use Rattle.order_switches.proofs.Levels as levels
 use Rattle.switch_order.specs.Laws.{IsReady, LevelsMean}
-use Rattle.switch_order.specs.Levels.{counts_literal, level_clauses, level_literal, levelled, rise, rises, rises_from}
+use Rattle.switch_order.specs.Levels.{counts_literal, level_clauses, level_literal, with_levels, rise, rises, rises_from}
 use Rattle.switch_order.proofs.Greatest.{greatest, greatest_least, greatest_most, greatest_passes, then_true, true_then}
 use Rattle.switch_order.proofs.Literals as literals
 
@@ -32,7 +32,7 @@ module _ (y : Layout) (threads : List ℕ) (failing : Option ℕ) (most : ℕ) (
   start = suc f.vars
 
   abbrev g : Formula
-  g = levelled y threads failing most f
+  g = with_levels y threads failing most f
 
   abbrev before_l : (first second : ℕ) → ℤ
   before_l = before_literal y

@@ -13,7 +13,7 @@ use Rattle.tc_code.specs.Code.{Code, instr_at, line_at}
 use Rattle.tc_code.specs.declared.instr.Instr.{Instr}
 use Rattle.tc_code.specs.declared.instr.Instr.TheVariants.{Load, LoadAt, Store, StoreAt, Inside, Holds, Ready, Assert, Nonzero, InRange, Swap, Cas, Exit}
 use Rattle.path_walk.specs.Steps.{is_site, step_at, steps_at}
-use Rattle.path_walk.specs.Marks.{Marks, marked, marked_from}
+use Rattle.path_walk.specs.Marks.{Marks, marks_after_instr, marked_from}
 use Rattle.path_walk.specs.Events.{asks, kind_with, events_of}
 use Rattle.path_walk.specs.declared.event.Event.{Event}
 use Rattle.path_walk.specs.declared.event.EventKind.{EventKind}
@@ -181,8 +181,8 @@ module _ (code : Code) (f : ℕ) where
         let h = and_parts last (length (steps_at code f places) == 0) h in
         let none : length places ≡ 0 = sym (length-map places (step_at code f)) ∙ (Decides-eqb (length (steps_at code f places)) 0).0 h.1 in
         ap is_site (sym is) ∙ (site h.0).0 none in
-        let rest = along_finds places e (marked m (step_at code f place).instr) last (step + 1) (one.1 ∙ ap (λ n. n + 1) at) there.1 (λ h. (site h).1) in
-        let later = events_of code f (marked_from last (step + 1) (marked m (step_at code f place).instr) (steps_at code f places)) in
+        let rest = along_finds places e (marks_after_instr m (step_at code f place).instr) last (step + 1) (one.1 ∙ ap (λ n. n + 1) at) there.1 (λ h. (site h).1) in
+        let later = events_of code f (marked_from last (step + 1) (marks_after_instr m (step_at code f place).instr) (steps_at code f places)) in
         let first : option_to_list (option_and_then (cell_event_at step) (kind_with m (step_at code f place).instr stops)) ≡ option_to_list (does m d.steps i) =
         ap (λ j. option_to_list (option_and_then (cell_event_at step) (kind_with m j stops))) is ∙ ap option_to_list (does_with m step i stops at_site)
         ∙ ap (λ n. option_to_list (does m n i)) (sym at) in

@@ -18,8 +18,8 @@ use Rattle.tc_code.specs.declared.instr.Instr.TheVariants.{Load, LoadAt, Store, 
 use Rattle.path_walk.specs.Paths.{Walk, Paths}
 use Rattle.sym_terms.specs.declared.node.Node.{Node}
 use Rattle.sym_terms.specs.declared.node.Node.TheVariants.{Constant, Symbol, Unary, Binary}
-use Rattle.sym_exec.specs.Making.{Made, Grows, made, last_index, range_test, replaced_term}
-use Rattle.sym_exec.specs.Thread.{HandsOf, Doing, HasTerms, term_in, making, symbol_in, after_instr, wanted_of, after_step, after_all}
+use Rattle.sym_exec.specs.Making.{Made, Grows, term_of_node, last_index, range_test, replaced_term}
+use Rattle.sym_exec.specs.Thread.{HandsOf, Doing, HasTerms, term_in, with_term, symbol_in, after_instr, wanted_of, after_step, after_all}
 use Rattle.sym_exec.specs.Executed.{Course, Executed, arguments_for, fails_at, thread_started, thread_done, with_thread, nothing, executed}
 use Rattle.sym_exec.specs.declared.symbolic.Access.{Access}
 use Rattle.sym_exec.specs.declared.symbolic.Test.{Test}
@@ -64,19 +64,19 @@ one_test d e x up are within =
 -- the term that a compare-and-exchange writes exists
 replaced_within : (nodes : List Node) (v e f : ℕ) → let w = replaced_term nodes v e f in w.term < length w.nodes
 replaced_within nodes v e f =
-    let change = made nodes (Binary Xor v f) in
-    let same = made change.nodes (Binary Eq v e) in
-    let mask = made same.nodes (Unary Neg same.term) in
-    let masked = made mask.nodes (Binary And change.term mask.term) in
+    let change = term_of_node nodes (Binary Xor v f) in
+    let same = term_of_node change.nodes (Binary Eq v e) in
+    let mask = term_of_node same.nodes (Unary Neg same.term) in
+    let masked = term_of_node mask.nodes (Binary And change.term mask.term) in
     made_within masked.nodes (Binary Xor v masked.term)
 
 -- the term of a range test exists
 range_within : (x : Made) (last : ℤ) → let w = range_test x last in w.term < length w.nodes
 range_within x last =
-    let zero = made x.nodes (Constant (pos 0)) in
-    let low = made zero.nodes (Binary Le zero.term x.term) in
-    let top = made low.nodes (Constant last) in
-    let high = made top.nodes (Binary Le x.term top.term) in
+    let zero = term_of_node x.nodes (Constant (pos 0)) in
+    let low = term_of_node zero.nodes (Binary Le zero.term x.term) in
+    let top = term_of_node low.nodes (Constant last) in
+    let high = term_of_node top.nodes (Binary Le x.term top.term) in
     made_within high.nodes (Binary And low.term high.term)
 
 -- an instruction adds accesses and tests whose terms exist then
@@ -97,7 +97,7 @@ instr_of_terms line wanted d (Store c e) s named are =
     (expr_within d.nodes d.slots e s.slots named)
 instr_of_terms line wanted d (StoreAt first len i e) s named are =
     let x = term_in d i in
-    let y = term_in (making d x) e in
+    let y = term_in (with_term d x) e in
     let named_slots = and_parts (names_slots (length d.slots) i) (names_slots (length d.slots) e) named in
     let index : x.term < length x.nodes = expr_within d.nodes d.slots i s.slots named_slots.0 in
     one_access d (after_instr line wanted d (StoreAt first len i e)) _ (instr_goes line wanted d (StoreAt first len i e) s named).grows are
@@ -111,8 +111,8 @@ instr_of_terms line wanted d (Swap k c e) s named are =
     (stays_within x.nodes g.nodes x.term (grows_made x.nodes (Symbol d.loads)) (expr_within d.nodes d.slots e s.slots named_slots.1))
 instr_of_terms line wanted d (Cas k c e new) s named are =
     let x = term_in d e in
-    let y = term_in (making d x) new in
-    let v = symbol_in (making d y) in
+    let y = term_in (with_term d x) new in
+    let v = symbol_in (with_term d y) in
     one_access d (after_instr line wanted d (Cas k c e new)) _ (instr_goes line wanted d (Cas k c e new) s named).grows are tt
     (replaced_within v.nodes v.term x.term y.term)
 instr_of_terms line wanted d (Inside len i) s named are =

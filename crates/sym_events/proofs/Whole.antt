@@ -7,7 +7,7 @@ use Rattle.std.proofs.lemmas.List.{length-map, map-append}
 use Rattle.std.proofs.lemmas.List.Elements.{All-nil, All-head, All-tail, All-weaker, All-push, All-contains}
 use Rattle.std.proofs.lemmas.Option.{none-some, same_Some, slice_get-map}
 use Rattle.tc_code.specs.Code.{Code}
-use Rattle.path_walk.specs.Marks.{unmarked}
+use Rattle.path_walk.specs.Marks.{marks_at_start}
 use Rattle.path_walk.specs.Paths.{Walk, Paths, ArePaths}
 use Rattle.path_walk.specs.declared.event.Event.{Event}
 use Rattle.path_walk.specs.declared.event.EventKind.{EventKind}
@@ -48,7 +48,7 @@ module _ (code : Code) (paths : Paths) where
   with_thread_found x ws w walked so =
       let d = thread_started code x w in
       let e = thread_done code paths x w in
-      let one = along_finds code w.function w.outcomes (fails_at paths (length x.symbolic.threads) w) w.places d (unmarked code w.function) walked.last 0 refl
+      let one = along_finds code w.function w.outcomes (fails_at paths (length x.symbolic.threads) w) w.places d (marks_at_start code w.function) walked.last 0 refl
       walked.there walked.site in
       let c : Course = record { name = w.name; tests = e.tests; accesses = e.accesses; creates = e.creates } in
       let own : events_by c ≡ events_in w = ap (map event_by) one.accesses ∙ one.are ∙ ap cell_events (sym walked.events) in

@@ -13,7 +13,7 @@ use Rattle.sym_terms.specs.Terms.{with_node, id_of}
 use Rattle.sym_terms.specs.declared.node.Node.{Node}
 use Rattle.sym_terms.specs.declared.node.Node.TheVariants.{Constant, Unary, Binary}
 use Rattle.sym_terms.proofs.Growth as terms
-use Rattle.sym_exec.specs.Making.{Grows, made, expr_term}
+use Rattle.sym_exec.specs.Making.{Grows, term_of_node, expr_term}
 use Rattle.sym_exec.specs.Thread.{AreOf}
 
 pub grows_none : (a : List Node) → Grows a a
@@ -22,11 +22,11 @@ grows_none a = ([], sym (append-nil a))
 pub grows_both : (a b c : List Node) → Grows a b → Grows b c → Grows a c
 grows_both a b c g h = (g.0 ++ h.0, h.1 ∙ ap (λ x. x ++ h.0) g.1 ∙ append_assoc a g.0 h.0)
 
-pub grows_made : (nodes : List Node) (node : Node) → Grows nodes (made nodes node).nodes
+pub grows_made : (nodes : List Node) (node : Node) → Grows nodes (term_of_node nodes node).nodes
 grows_made nodes node = terms.grows nodes node
 
 -- a made term is one of the nodes
-pub made_within : (nodes : List Node) (node : Node) → (made nodes node).term < length (made nodes node).nodes
+pub made_within : (nodes : List Node) (node : Node) → (term_of_node nodes node).term < length (term_of_node nodes node).nodes
 made_within nodes node = slice_get_within (with_node nodes node) (id_of nodes node) node (terms.is_given nodes node)
 
 -- a term stays one of the nodes
@@ -42,11 +42,11 @@ expr_grows nodes slots (expr.Number n) = grows_made nodes (Constant n)
 expr_grows nodes slots (expr.Slot k) = grows_none nodes
 expr_grows nodes slots (expr.Unary op a) =
     let x = expr_term nodes slots a in
-    grows_both nodes x.nodes (made x.nodes (Unary op x.term)).nodes (expr_grows nodes slots a) (grows_made x.nodes (Unary op x.term))
+    grows_both nodes x.nodes (term_of_node x.nodes (Unary op x.term)).nodes (expr_grows nodes slots a) (grows_made x.nodes (Unary op x.term))
 expr_grows nodes slots (expr.Binary op a b) =
     let x = expr_term nodes slots a in
     let y = expr_term x.nodes slots b in
-    let all = (made y.nodes (Binary op x.term y.term)).nodes in
+    let all = (term_of_node y.nodes (Binary op x.term y.term)).nodes in
     grows_both nodes x.nodes all (expr_grows nodes slots a)
     (grows_both x.nodes y.nodes all (expr_grows x.nodes slots b) (grows_made y.nodes (Binary op x.term y.term)))
 

@@ -34,8 +34,8 @@ use Rattle.sym_terms.specs.Terms.{AreTerms}
 use Rattle.sym_terms.specs.Values.{value_of}
 use Rattle.sym_terms.specs.declared.node.Node.{Node}
 use Rattle.sym_terms.specs.declared.node.Node.TheVariants.{Symbol, Unary, Binary}
-use Rattle.sym_exec.specs.Making.{Made, AllMade, Grows, made, expr_term, with_expr, expr_terms, range_test, last_index, replaced_term}
-use Rattle.sym_exec.specs.Thread.{Handed, Doing, AreOf, HasTerms, term_in, making, testing, symbol_in, after_instr, wanted_of, after_step, after_all}
+use Rattle.sym_exec.specs.Making.{Made, AllMade, Grows, term_of_node, expr_term, with_expr, expr_terms, range_test, last_index, replaced_term}
+use Rattle.sym_exec.specs.Thread.{Handed, Doing, AreOf, HasTerms, term_in, with_term, with_test, symbol_in, after_instr, wanted_of, after_step, after_all}
 use Rattle.sym_exec.specs.helpers.Threads.{names_within}
 use Rattle.sym_exec.specs.Alone.{slots_by, condition, outcomes_of, given_by, given_of, values_in, Asked, asked_by, asked_of}
 use Rattle.sym_exec.specs.Ints.{exchanged}
@@ -93,20 +93,20 @@ pub replaced_value : (nodes : List Node) (v e f : ℕ) (loads : List ℤ) (a b c
     → value_of nodes loads v ≡ a → value_of nodes loads e ≡ b → value_of nodes loads f ≡ c → HasValue loads (replaced_term nodes v e f) (exchanged a b c)
 replaced_value nodes v e f loads a b c are wv we wf va vb vc =
     let first : Node = Binary Xor v f in
-    let change = made nodes first in
+    let change = term_of_node nodes first in
     let hc = binary_value Xor nodes v f a c loads are wv wf va vc in
     let gc : Grows nodes change.nodes = grows_made nodes first in
     let second : Node = Binary Eq v e in
-    let same = made change.nodes second in
+    let same = term_of_node change.nodes second in
     let hs = binary_value Eq change.nodes v e a b loads hc.terms (stays_within nodes change.nodes v gc wv) (stays_within nodes change.nodes e gc we)
     (value_stays nodes change.nodes loads v gc wv ∙ va) (value_stays nodes change.nodes loads e gc we ∙ vb) in
     let gs : Grows change.nodes same.nodes = grows_made change.nodes second in
     let third : Node = Unary Neg same.term in
-    let mask = made same.nodes third in
+    let mask = term_of_node same.nodes third in
     let hm = unary_value Neg same (equal a b) loads hs in
     let gcm : Grows change.nodes mask.nodes = grows_both change.nodes same.nodes mask.nodes gs (grows_made same.nodes third) in
     let fourth : Node = Binary And change.term mask.term in
-    let masked = made mask.nodes fourth in
+    let masked = term_of_node mask.nodes fourth in
     let hk = binary_value And mask.nodes change.term mask.term (bits_xor a c) (negated (equal a b)) loads hm.terms
     (stays_within change.nodes mask.nodes change.term gcm hc.within) hm.within (value_stays change.nodes mask.nodes loads change.term gcm hc.within ∙ hc.value)
     hm.value in
@@ -174,7 +174,7 @@ IsShort _ = Unit {0}
 -- an instruction that tests an expression
 expr_told : (loads : List ℤ) (line : ℕ) (wanted : Bool) (d : Doing) (i : Instr) (t : Local) (v : ℤ) (e : Expr) (branches : ℕ) → AreTerms d.nodes → HasTerms d
     → IsTrue (names_slots (length d.slots) e) → t.slots ≡ slots_by loads d → (local_after t i v).slots ≡ t.slots
-    → condition t i ≡ Some (is_nonzero (value_in t e)) → Told loads d (record (testing d line wanted (term_in d e)) { branches = branches }) t i v
+    → condition t i ≡ Some (is_nonzero (value_in t e)) → Told loads d (record (with_test d line wanted (term_in d e)) { branches = branches }) t i v
 expr_told loads line wanted d i t v e branches are s named is kept tests =
     let x = term_in d e in
     let h = expr_value d.nodes d.slots e loads are s.slots named in
@@ -216,7 +216,7 @@ told loads line wanted d (LoadAt k first len i) t v are s named short is load =
     let named = and_parts (nat_lt k (length d.slots)) (names_slots (length d.slots) i) named in
     let x = term_in d i in
     let hx = expr_value d.nodes d.slots i loads are s.slots named.1 in
-    let y = made x.nodes (Symbol d.loads) in
+    let y = term_of_node x.nodes (Symbol d.loads) in
     let h = symbol_value x.nodes d.loads loads hx.terms in
     let g : Grows d.nodes y.nodes = grows_both d.nodes x.nodes y.nodes (expr_grows d.nodes d.slots i) (grows_made x.nodes (Symbol d.loads)) in
     record {
@@ -230,7 +230,7 @@ told loads line wanted d (Swap k c e) t v are s named short is load =
     let named = and_parts (nat_lt k (length d.slots)) (names_slots (length d.slots) e) named in
     let x = term_in d e in
     let hx = expr_value d.nodes d.slots e loads are s.slots named.1 in
-    let y = made x.nodes (Symbol d.loads) in
+    let y = term_of_node x.nodes (Symbol d.loads) in
     let h = symbol_value x.nodes d.loads loads hx.terms in
     let g : Grows d.nodes y.nodes = grows_both d.nodes x.nodes y.nodes (expr_grows d.nodes d.slots e) (grows_made x.nodes (Symbol d.loads)) in
     record {
@@ -246,10 +246,10 @@ told loads line wanted d (Cas k c e new) t v are s named short is load =
     let x = term_in d e in
     let hx = expr_value d.nodes d.slots e loads are s.slots first.1 in
     let gx : Grows d.nodes x.nodes = expr_grows d.nodes d.slots e in
-    let y = term_in (making d x) new in
+    let y = term_in (with_term d x) new in
     let hy = expr_value x.nodes d.slots new loads hx.terms (stay_of d.nodes x.nodes d.slots gx s.slots) named.1 in
     let gy : Grows x.nodes y.nodes = expr_grows x.nodes d.slots new in
-    let z = made y.nodes (Symbol d.loads) in
+    let z = term_of_node y.nodes (Symbol d.loads) in
     let hz = symbol_value y.nodes d.loads loads hy.terms in
     let gz : Grows y.nodes z.nodes = grows_made y.nodes (Symbol d.loads) in
     let w = replaced_term z.nodes z.term x.term y.term in
@@ -278,7 +278,7 @@ told loads line wanted d (StoreAt first len i e) t v are s named short is load =
     let x = term_in d i in
     let hx = expr_value d.nodes d.slots i loads are s.slots named.0 in
     let gx : Grows d.nodes x.nodes = expr_grows d.nodes d.slots i in
-    let y = term_in (making d x) e in
+    let y = term_in (with_term d x) e in
     record {
       terms = (expr_value x.nodes d.slots e loads hx.terms (stay_of d.nodes x.nodes d.slots gx s.slots) named.1).terms;
       slots = kept_told loads d y.nodes t.slots (grows_both d.nodes x.nodes y.nodes gx (expr_grows x.nodes d.slots e)) s.slots is;
@@ -430,7 +430,7 @@ asks loads line wanted d (StoreAt first len i e) t v are s named is load int int
     let x = term_in d i in
     let hx = expr_value d.nodes d.slots i loads are s.slots named.0 in
     let gx : Grows d.nodes x.nodes = expr_grows d.nodes d.slots i in
-    let y = term_in (making d x) e in
+    let y = term_in (with_term d x) e in
     let gy : Grows x.nodes y.nodes = expr_grows x.nodes d.slots e in
     let hy = expr_value x.nodes d.slots e loads hx.terms (stay_of d.nodes x.nodes d.slots gx s.slots) named.1 in
     let value : (later : List Node) → Grows y.nodes later → value_of later loads y.term ≡ value_in t e = λ later g.
@@ -461,10 +461,10 @@ asks loads line wanted d (Cas k c e new) t v are s named is load int ints =
     let x = term_in d e in
     let hx = expr_value d.nodes d.slots e loads are s.slots first.1 in
     let gx : Grows d.nodes x.nodes = expr_grows d.nodes d.slots e in
-    let y = term_in (making d x) new in
+    let y = term_in (with_term d x) new in
     let hy = expr_value x.nodes d.slots new loads hx.terms (stay_of d.nodes x.nodes d.slots gx s.slots) named.1 in
     let gy : Grows x.nodes y.nodes = expr_grows x.nodes d.slots new in
-    let z = made y.nodes (Symbol d.loads) in
+    let z = term_of_node y.nodes (Symbol d.loads) in
     let hz = symbol_value y.nodes d.loads loads hy.terms in
     let gz : Grows y.nodes z.nodes = grows_made y.nodes (Symbol d.loads) in
     let gyz : Grows x.nodes z.nodes = grows_both x.nodes y.nodes z.nodes gy gz in

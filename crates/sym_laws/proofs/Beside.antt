@@ -14,7 +14,7 @@ use Rattle.tc_code.specs.Code.{Code, instr_at}
 use Rattle.tc_code.specs.declared.instr.Instr.{Instr}
 use Rattle.tc_code.specs.declared.instr.Instr.TheVariants.{Inside, Branch, Create, Holds, Ready, Assert, Nonzero, InRange}
 use Rattle.tc_code.specs.Lawful.{IsLawful}
-use Rattle.tc_code.specs.Step.{request, site, local_after, branched, is_nonzero, value_in}
+use Rattle.tc_code.specs.Step.{request, site, local_after, step_by_branch, is_nonzero, value_in}
 use Rattle.run_laws.proofs.Changes.{is_fail}
 use Rattle.run_laws.specs.Ints.{AsksInts}
 use Rattle.run_history.specs.Locals.{after_step as thread_after}
@@ -49,7 +49,7 @@ wanted_here outcomes (Some m) d (Branch e to) h = absurd (false≢true h)
 wanted_here outcomes None d i h = refl
 wanted_here outcomes (Some m) d i h = refl
 
-branch_outcomes : (t : Local) (b : Bool) (to : ℕ) → (branched t b to).outcomes ≡ t.outcomes ++ b ∷ []
+branch_outcomes : (t : Local) (b : Bool) (to : ℕ) → (step_by_branch t b to).outcomes ≡ t.outcomes ++ b ∷ []
 branch_outcomes t true to = refl
 branch_outcomes t false to = refl
 

@@ -23,7 +23,7 @@ use Rattle.tc_code.specs.Run.{IsReached}
 use Rattle.tc_code.specs.Step.{request, arguments_of, born, opening}
 use Rattle.run_laws.proofs.Created.{child_is_new}
 use Rattle.run_laws.proofs.Names.{get_put_cases}
-use Rattle.run_history.specs.History.{Deed, Did, Drained, same, taken}
+use Rattle.run_history.specs.History.{Deed, Did, Drained, same, value_taken}
 use Rattle.run_history.specs.Told.{is_step_of, steps_in}
 use Rattle.run_history.proofs.Threads.{ThreadsAre, own, with_born}
 use Rattle.run_log.specs.Logs.{is_log}
@@ -99,14 +99,14 @@ module _ {B : Type 0} (ops : BufferOps B) (code : Code) (log : Log) (nodes : Lis
   module _ (s u : State B) (h : List Deed) (j : ℕ) (p : ThreadPath) (there : slice_get log.threads j ≡ Some p) (t : Thread B) (i : Instr) (o : Option Name)
       (reached : IsReached ops code s) (does : Does ops code s u p.name t i (request t.local i)) (told : ThreadsAre ops code s h) (follow : AllFollow s h)
       (functions : (q : Name) (x : Thread B) → fin.get u.threads q ≡ Some x → function_of code log q ≡ Some x.local.function)
-      (goes : GoesOnPath code log p t.local i (taken ops code s t (request t.local i)))
-      (agrees : Agrees (h ++ Did p.name t.local.steps (request t.local i) (taken ops code s t (request t.local i)) o ∷ [])) where
+      (goes : GoesOnPath code log p t.local i (value_taken ops code s t (request t.local i)))
+      (agrees : Agrees (h ++ Did p.name t.local.steps (request t.local i) (value_taken ops code s t (request t.local i)) o ∷ [])) where
     abbrev deed : Deed
-    deed = Did p.name t.local.steps (request t.local i) (taken ops code s t (request t.local i)) o
+    deed = Did p.name t.local.steps (request t.local i) (value_taken ops code s t (request t.local i)) o
 
     own_follows : FollowsAt (h ++ deed ∷ []) j p (own ops code s t i (request t.local i)).local
     own_follows =
-        step_follows code log nodes lawful is terms j p there loads h t.local i (taken ops code s t (request t.local i)) o goes
+        step_follows code log nodes lawful is terms j p there loads h t.local i (value_taken ops code s t (request t.local i)) o goes
         (follow j p t there does.there) agrees
 
     fresh : fin.get s.threads (child p.name (t.local.children + 1)) ≡ None
@@ -126,13 +126,13 @@ module _ {B : Type 0} (ops : BufferOps B) (code : Code) (log : Log) (nodes : Lis
         nothing_asked q.name h (sym (told.steps q.name) ∙ ap (λ m. option_map_or (λ (y : Thread B). y.local.steps) (fin.get s.threads m) 0) name
         ∙ ap (λ y. option_map_or (λ (y : Thread B). y.local.steps) y 0) fresh) in
         subst (λ (y : Thread B). FollowsAt (h ++ deed ∷ []) k q y.local) (sym new)
-        (child_follows code log nodes lawful is terms j p there loads h t.local i (taken ops code s t (request t.local i)) o goes
+        (child_follows code log nodes lawful is terms j p there loads h t.local i (value_taken ops code s t (request t.local i)) o goes
         (follow j p t there does.there) agrees f asks k q qt name function none)
     by_which k q x qt at (Another apart old) =
         let none : flat_map (asked_of q.name) (h ++ deed ∷ []) ≡ flat_map (asked_of q.name) h =
         asked_more q.name h deed
         ∙ ap (λ es. flat_map (asked_of q.name) h ++ es)
-        (others_asked q.name p.name t.local.steps (request t.local i) (taken ops code s t (request t.local i)) o apart)
+        (others_asked q.name p.name t.local.steps (request t.local i) (value_taken ops code s t (request t.local i)) o apart)
         ∙ append-nil (flat_map (asked_of q.name) h) in
         subst (Follows (found code log nodes).nodes loads (execution code log nodes k (walk_of code log q) x.local.steps) x.local) (sym none)
         (follow k q x qt old)

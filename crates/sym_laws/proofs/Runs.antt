@@ -23,7 +23,7 @@ use Rattle.tc_code.specs.Step.{request, step, opening}
 use Rattle.run_laws.specs.Ints.{PassesInts}
 use Rattle.run_laws.proofs.Ints.{values_are_ints, asks_ints}
 use Rattle.run_laws.proofs.Steps.{Went, Ran, Woke, Drained, step_went, none_failed}
-use Rattle.run_history.specs.History.{Deed, Did, taken, created_by, did, woke, drained, by_instr, deed_of, history_from, history}
+use Rattle.run_history.specs.History.{Deed, Did, value_taken, created_by, did, woke, drained, by_instr, deed_of, history_from, history}
 use Rattle.run_history.proofs.Frame.{kept_by_step}
 use Rattle.run_history.proofs.Ints.{taken_int}
 use Rattle.run_history.proofs.Threads.{ThreadsAre, own, keeps_threads, opening_threads}
@@ -56,7 +56,7 @@ module _ {B : Type 0} (ops : BufferOps B) (code : Code) (log : Log) (nodes : Lis
   Agrees h = AgreesWith (found code log nodes).symbolic loads h
 
   abbrev taken_in : State B → Thread B → Instr → ℤ
-  taken_in s t i = taken ops code s t (request t.local i)
+  taken_in s t i = value_taken ops code s t (request t.local i)
 
   -- the facts that each move keeps
   record IsKept (s : State B) (h : List Deed) : Type 0 where

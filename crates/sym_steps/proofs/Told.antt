@@ -29,7 +29,7 @@ use Rattle.run_history.proofs.of_pending.In.{In, in_left, in_right}
 use Rattle.list_laws.proofs.Lists.{get_seam}
 use Rattle.path_walk.specs.Events.{kind_with}
 use Rattle.path_walk.specs.Fits.{fails_in}
-use Rattle.path_walk.specs.Marks.{unmarked, marks_after}
+use Rattle.path_walk.specs.Marks.{marks_at_start, marks_after}
 use Rattle.path_walk.specs.Paths.{Walk, walk_of, paths_of}
 use Rattle.path_walk.specs.Steps.{Step, Onward, onward, is_site, steps_at}
 use Rattle.path_walk.specs.Steps as path
@@ -281,7 +281,7 @@ module _ {B : Type 0} (setting : Setting B) (nodes : List Node) (loads : List �
       event_is : (other : Option Name) → OtherIs h w.name (request t i) other → kind_of (request t i) other ≡ kind_at w (steps_in h w.name)
       event_is other other_is =
           let ss = steps_at code w.function w.places in
-          let start = unmarked code w.function in
+          let start = marks_at_start code w.function in
           let m = marks_after start (take k ss) in
           let s : Step = record { place = t.instruction; instr = i } in
           let y = thread_next setting along thread going x in

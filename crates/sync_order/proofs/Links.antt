@@ -20,7 +20,7 @@ use Rattle.order_formula.specs.Worlds.{World}
 use Rattle.lawful_order.specs.Children.{HasExited, ChildRule}
 use Rattle.lawful_order.specs.Events.{all_events, HasEvent, Creates, Joins, IsChild, IsBefore}
 use Rattle.sync_order.specs.Children.{is_exit, is_child, created_before, exit_before, exited_before}
-use Rattle.sync_order.specs.Children.{of_children, created, joined, links_formula, children_formula}
+use Rattle.sync_order.specs.Children.{of_children, create_conjuncts, join_conjuncts, links_formula, children_formula}
 use Rattle.order_events.specs.Parts.{comes_before}
 use Rattle.sync_order.proofs.Groups.{same_child}
 use Rattle.order_events.proofs.Lists.{in_front, in_map, of_map, in_flat_map, of_flat_map, in_filter, of_filter}
@@ -69,10 +69,10 @@ module _ (paths : Paths) where
 
   -- the conjuncts of a thread's creates, and those of its joins
   abbrev all_created : ℕ → Walk → List Conjunct
-  all_created t p = flat_map (created (all_events paths) paths.threads t p) p.creates
+  all_created t p = flat_map (create_conjuncts (all_events paths) paths.threads t p) p.creates
 
   abbrev all_joined : ℕ → Walk → List Conjunct
-  all_joined t p = flat_map (joined (all_events paths) paths.threads t p) p.joins
+  all_joined t p = flat_map (join_conjuncts (all_events paths) paths.threads t p) p.joins
 
   -- the conjuncts of creates are in the formula
   create_in : (t c : ℕ) (l : Link) (x : Event) → Creates paths t l → IsChild paths t l.child c → HasEvent paths c x
@@ -82,7 +82,7 @@ module _ (paths : Paths) where
       let z = created_before (all_events paths) t l c x in
       in_each (links_formula (all_events paths) paths.threads) t p z paths.threads creates.1
       (Contains-append_left (all_created t p) (all_joined t p) z
-      (in_flat_map (created (all_events paths) paths.threads t p) l z p.creates creates.2
+      (in_flat_map (create_conjuncts (all_events paths) paths.threads t p) l z p.creates creates.2
       (in_children t l.child c p has.0 (λ d q. map (created_before (all_events paths) t l d) q.events) z creates.1 has.1 is
       (in_map (created_before (all_events paths) t l c) x has.0.events has.2))))
 
@@ -93,7 +93,7 @@ module _ (paths : Paths) where
       let z = exited_before (all_events paths) t l c q in
       in_each (links_formula (all_events paths) paths.threads) t p z paths.threads joins.1
       (Contains-append_right (all_created t p) (all_joined t p) z
-      (in_flat_map (joined (all_events paths) paths.threads t p) l z p.joins joins.2
+      (in_flat_map (join_conjuncts (all_events paths) paths.threads t p) l z p.joins joins.2
       (in_children t l.child c p q (λ d r. exited_before (all_events paths) t l d r ∷ []) z joins.1 at is (in_front z []))))
 
   -- the formula has no other conjuncts
@@ -124,7 +124,7 @@ module _ (paths : Paths) where
       let p = o.element in
       elim (Contains-append_cases (all_created t p) (all_joined t p) z o.there) [
         | inl first ↦
-            let l = of_flat_map (created (all_events paths) paths.threads t p) z p.creates first in
+            let l = of_flat_map (create_conjuncts (all_events paths) paths.threads t p) z p.creates first in
             let c = of_child t l.0.child p (λ d q. map (created_before (all_events paths) t l.0 d) q.events) z o.at l.2 in
             let x = of_map (created_before (all_events paths) t l.0 c.place) z c.thread.events c.there in
             inl (record {
@@ -138,7 +138,7 @@ module _ (paths : Paths) where
               made = x.2;
             })
         | inr second ↦
-            let l = of_flat_map (joined (all_events paths) paths.threads t p) z p.joins second in
+            let l = of_flat_map (join_conjuncts (all_events paths) paths.threads t p) z p.joins second in
             let c = of_child t l.0.child p (λ d r. exited_before (all_events paths) t l.0 d r ∷ []) z o.at l.2 in
             inr (record {
               thread = t;

@@ -21,9 +21,9 @@ use Rattle.lawful_order.specs.Events.{Of, all_events, all_sleeps, HasEvent, HasR
 use Rattle.condition_order.specs.Conditions.{enders}
 use Rattle.condition_order.specs.declared.wait.Ender.{Ender}
 use Rattle.sync_order.specs.Children.{is_exit, exit_before, children_formula}
-use Rattle.sync_order.specs.Mutexes.{left_at, left_before, mutexes_formula}
+use Rattle.sync_order.specs.Mutexes.{release_literal, left_before, mutexes_formula}
 use Rattle.order_events.specs.Parts.{comes_before, one_of}
-use Rattle.sync_order.specs.Stuck.{cases_if, is_held, unended_by, unended, sleeping, sleeps_on, has_exited, cannot_go_on, stuck_at, stuck_formula}
+use Rattle.sync_order.specs.Stuck.{cases_if, is_held, not_ended_literal, unended, sleeping, sleeps_on, has_exited, cannot_go_on, stuck_at, stuck_formula}
 use Rattle.sync_order.proofs.Links.{made_by}
 use Rattle.order_events.proofs.Lists.{of_map, of_filter}
 use Rattle.sync_order.proofs.Regions.{is_pair}
@@ -52,7 +52,7 @@ pub record AreLiterals (paths : Paths) (Step : (t k : ℕ) → Type 0) (L : Lite
   pub left : (t k : ℕ) (r : Region) → HasRegion paths t r → r.to ≡ Some k → Step t k
   pub before : (t k u j : ℕ) → Step t k → Step u j → L (comes_before (all_events paths) t k u j)
   pub unended : (s : ℕ) (x : Of Sleep) (g : Ender) → slice_get (all_sleeps paths) s ≡ Some x → Contains (enders (all_events paths) x.it.condition) g
-      → L (unended_by s g)
+      → L (not_ended_literal s g)
 
 module _ (paths : Paths) (Step : (t k : ℕ) → Type 0) (L : Literal → Type 0) (are : AreLiterals paths Step L) where
   pub in_children : (z : Conjunct) → Contains (children_formula paths) z → Has L z
@@ -72,7 +72,7 @@ module _ (paths : Paths) (Step : (t k : ℕ) → Type 0) (L : Literal → Type 0
   in_left : (r s : Of Region) → HasRegion paths r.thread r.it → HasRegion paths s.thread s.it → (l : Literal)
       → Contains (left_before (all_events paths) r s) l → L l
   in_left r s has_r has_s l i =
-      let k = of_map (left_at (all_events paths) r s) l (option_to_list r.it.to) i in
+      let k = of_map (release_literal (all_events paths) r s) l (option_to_list r.it.to) i in
       subst L k.2 (are.before r.thread k.0 s.thread s.it.«from» (are.left r.thread k.0 r.it has_r (of_option r.it.to k.0 k.1))
       (are.taken s.thread s.it has_s))
 
@@ -93,7 +93,7 @@ module _ (paths : Paths) (Step : (t k : ℕ) → Type 0) (L : Literal → Type 0
       let s = in_of_each (sleeping (all_events paths) t k) (all_sleeps paths) l i in
       let c = s.element.it.condition in
       let own = of_if (s.element.thread == t && s.element.it.step == k) l (unended (all_events paths) s.place c) s.there in
-      let g = of_map (unended_by s.place) l (enders (all_events paths) c) own.1 in
+      let g = of_map (not_ended_literal s.place) l (enders (all_events paths) c) own.1 in
       subst L g.2 (are.unended s.place s.element g.0 s.at g.1)
 
   one_case : (ls : List Literal) → All L ls → All (All L) (ls ∷ [])

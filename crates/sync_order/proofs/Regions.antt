@@ -17,7 +17,7 @@ use Rattle.order_formula.specs.Truth.{body_at, literal_at}
 use Rattle.order_formula.specs.Worlds.{World}
 use Rattle.lawful_order.specs.Events.{Of, HasRegion, all_events}
 use Rattle.lawful_order.specs.Mutexes.{IsLeftBefore, MutexRule}
-use Rattle.sync_order.specs.Mutexes.{exclude, all_regions, left_at, left_before, excludes, exclusive, mutexes_formula}
+use Rattle.sync_order.specs.Mutexes.{exclude, all_regions, release_literal, left_before, excludes, exclusive, mutexes_formula}
 use Rattle.sync_order.proofs.Groups.{same_mutex}
 use Rattle.order_events.proofs.Lists.{in_front, in_at, in_map, of_map}
 use Rattle.order_events.proofs.Numbers.{in_all_from, of_all_from}
@@ -96,15 +96,15 @@ module _ (paths : Paths) where
     left_holds : (r s : Of Region) → IsLeftBefore paths w r.thread r.it s.thread s.it
         → (l : Literal) × Contains (left_before (all_events paths) r s) l × (literal_at nodes w l ≡ true)
     left_holds r s left = (
-      left_at (all_events paths) r s left.0,
-      in_map (left_at (all_events paths) r s) left.0 (option_to_list r.it.to) (in_option r.it.to left.0 left.1),
+      release_literal (all_events paths) r s left.0,
+      in_map (release_literal (all_events paths) r s) left.0 (option_to_list r.it.to) (in_option r.it.to left.0 left.1),
       before_holds nodes w paths r.thread left.0 s.thread s.it.«from» left.2,
     )
 
     holds_left : (r s : Of Region) (l : Literal) → Contains (left_before (all_events paths) r s) l → literal_at nodes w l ≡ true
         → IsLeftBefore paths w r.thread r.it s.thread s.it
     holds_left r s l there holds =
-        let k = of_map (left_at (all_events paths) r s) l (option_to_list r.it.to) there in
+        let k = of_map (release_literal (all_events paths) r s) l (option_to_list r.it.to) there in
         (k.0, of_option r.it.to k.0 k.1, step_before nodes w paths r.thread k.0 s.thread s.it.«from» (ap (literal_at nodes w) k.2 ∙ holds))
 
     abbrev OneIsLeft : Of Region → Of Region → Type 0

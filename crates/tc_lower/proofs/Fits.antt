@@ -25,7 +25,7 @@ use Rattle.tc_tree.specs.Grammar.{
   statements_then,
 }
 use Rattle.tc_lower.specs.declared.things.Named.{Named}
-use Rattle.tc_lower.specs.Things.{scope, own_things, ints}
+use Rattle.tc_lower.specs.Things.{thing_in_scope, own_things, ints}
 use Rattle.tc_lower.specs.Statements.{all_lowered}
 use Rattle.tc_lower.specs.helpers.Programs.{BodyFits, ThreadsFit}
 use Rattle.tc_lower.proofs.Widths.{statements_width}
@@ -55,13 +55,13 @@ globals_width (Condition c ∷ gs) rest = omega (arith, globals_width gs rest)
 module _ (source : List ℕ) (all : List Named) where
   -- a body, and the words after it
   body_width : (parameters : List Name) (b : Body) (rest : List Word)
-      → length (all_lowered (scope source (own_things parameters b.locals) all) 0 (length parameters + ints b.locals) b.statements).instrs + 3 * length b.locals
+      → length (all_lowered (thing_in_scope source (own_things parameters b.locals) all) 0 (length parameters + ints b.locals) b.statements).instrs + 3 * length b.locals
       + 3 * length rest ≤ 3 * length (body_then b rest)
   body_width parameters b rest =
       omega (
         arith,
         locals_width b.locals (statements_then b.statements (AnEnd b.end ∷ rest)),
-        statements_width (scope source (own_things parameters b.locals) all) 0 (length parameters + ints b.locals) b.statements (AnEnd b.end ∷ rest),
+        statements_width (thing_in_scope source (own_things parameters b.locals) all) 0 (length parameters + ints b.locals) b.statements (AnEnd b.end ∷ rest),
       )
 
   body_fits : (parameters : List Name) (b : Body) (rest : List Word) (n : ℕ) → length parameters + length (body_then b rest) ≤ n → n ≤ PROGRAM_BYTES

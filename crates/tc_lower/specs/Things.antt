@@ -27,8 +27,8 @@ own_first (Some t) other = Some t
 own_first None other = other
 
 -- the thing that a name in a body denotes
-abbrev pub scope : List ℕ → List Named → List Named → Name → Option Thing
-scope source own all x = own_first (thing_in source own x) (thing_in source all x)
+abbrev pub thing_in_scope : List ℕ → List Named → List Named → Name → Option Thing
+thing_in_scope source own all x = own_first (thing_in source own x) (thing_in source all x)
 
 -- the thing of a global, after these counts: an int is the next cell, an array the next few
 abbrev pub global_thing : Numbers → Global → Named

@@ -9,7 +9,7 @@ ghost use Rattle.tc_tree.specs.Numbers.{HasInts};
 ghost use Rattle.tc_tree.specs.declared.expression.Name.{Name};
 ghost use Rattle.tc_lower.specs.Kinds.{Agree};
 ghost use Rattle.tc_lower.specs.Lowering.{code_of};
-ghost use Rattle.tc_lower.specs.Things.{scope, own_things, program_things};
+ghost use Rattle.tc_lower.specs.Things.{thing_in_scope, own_things, program_things};
 
 /// The code of a program whose cells fit and whose numbers are ints is lawful, whatever its names.
 pub fn code_is_lawful()
@@ -22,5 +22,5 @@ pub fn code_is_lawful()
 pub fn names_stand_for_what_they_mean()
     ensures { (source : List ℕ) (p : Program) (parameters : List Name) (b : Body) (x : Name)
         → Agree (meaning_in source (own_declarations parameters b.locals ++ program_declarations p) x)
-        (scope source (own_things parameters b.locals) (program_things p.globals p.threads) x) }
+        (thing_in_scope source (own_things parameters b.locals) (program_things p.globals p.threads) x) }
 {}

@@ -24,7 +24,7 @@ use Rattle.tc_code.specs.declared.instr.Instr.TheVariants.{Signal}
 use Rattle.tc_code.specs.Code.{Code}
 use Rattle.tc_code.specs.Lawful.{IsLawful}
 use Rattle.tc_code.specs.Run.{IsReached}
-use Rattle.tc_code.specs.Step.{step, wake_of, woken, drain_of, drained, move_of, instr_of, waiting_on}
+use Rattle.tc_code.specs.Step.{step, wake_of, state_after_wake, drain_of, state_after_drain, move_of, instr_of, waiting_on}
 use Rattle.std.proofs.lemmas.Bool.{and_parts}
 use Rattle.run_laws.proofs.Basics.{none_unless, unless, some_value}
 use Rattle.tc_machine.specs.Moves as choice
@@ -138,7 +138,7 @@ module _ {B : Type 0} (ops : BufferOps B) (code : Code) (s : State B) (n : Name)
       let after = some_value (step ops code s (Drain n form)) enabled in
       option_and_then_some (λ u. drain_of ops s n u form) (fin.get s.threads n) after.0 (unless (is_some s.failed) _ after.0 after.1).1 (λ u here g.
       subst (λ (v : Thread B). ops.may_drain v.buffer form ≡ true) (same_Some u t (sym here ∙ there))
-      (cond_some (ops.may_drain u.buffer form) (drained ops s n u form) after.0 g).0)
+      (cond_some (ops.may_drain u.buffer form) (state_after_drain ops s n u form) after.0 g).0)
 
 module _ {B : Type 0} (ops : BufferOps B) (model : Model) (bound : Binding) (laws : Laws ops model bound) (code : Code) (lawful : IsLawful code) (s : State B)
     (reached : IsReached ops code s) where
@@ -191,7 +191,7 @@ module _ {B : Type 0} (ops : BufferOps B) (model : Model) (bound : Binding) (law
   woken_is_thread : (n u : Name) (t : Thread B) (i : Instr) (v : State B) → wake_of ops s n u t i ≡ Some v → IsSome (fin.get s.threads u)
   woken_is_thread n u t (Signal c) v h =
       waiters_are_threads ops code s reached u c (and_parts (ops.is_empty t.buffer) _
-      (cond_some (ops.is_empty t.buffer && set.contains (waiting_on s c) u) (woken ops s n u t c) v h).0).1
+      (cond_some (ops.is_empty t.buffer && set.contains (waiting_on s c) u) (state_after_wake ops s n u t c) v h).0).1
   woken_is_thread n u t i v h = absurd (none-some v h)
 
   listed_move : (m : Move) (v : State B) → move_of ops code s m ≡ Some v → is_enabled ops code s m ≡ true
@@ -206,7 +206,7 @@ module _ {B : Type 0} (ops : BufferOps B) (model : Model) (bound : Binding) (law
   listed_move (Drain n form) v h enabled =
       option_and_then_some (λ t. drain_of ops s n t form) (fin.get s.threads n) v h (λ t there g.
       drain_is_listed n (Drain n form) (subst IsSome (sym there) refl)
-      (drain_is_one n t form there (cond_some (ops.may_drain t.buffer form) (drained ops s n t form) v g).0) enabled)
+      (drain_is_one n t form there (cond_some (ops.may_drain t.buffer form) (state_after_drain ops s n t form) v g).0) enabled)
 
   -- every enabled move is listed
   pub every_enabled_move_is_listed : (m : Move) → IsSome (step ops code s m) → Contains (enabled_moves ops code s) m

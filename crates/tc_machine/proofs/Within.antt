@@ -43,7 +43,7 @@ use Rattle.tc_code.specs.declared.instr.Instr.{Instr}
 use Rattle.tc_code.specs.Code.{Code}
 use Rattle.tc_code.specs.Lawful.{IsLawful}
 use Rattle.tc_code.specs.Run.{IsReached}
-use Rattle.tc_code.specs.Step.{request, local_after, with_thread, did, perform, stored, drained, drain_of, born, step}
+use Rattle.tc_code.specs.Step.{request, local_after, with_thread, state_after_step, perform, state_after_store, state_after_drain, drain_of, born, step}
 use Rattle.run_laws.proofs.Basics.{some_value, unless}
 use Rattle.run_laws.proofs.Names.{get_put_cases}
 use Rattle.run_laws.proofs.Steps.{step_went, holds_in_reached}
@@ -147,12 +147,12 @@ module _ {B : Type 0} (ops : BufferOps B) (model : Model) (bound : Binding) (law
 
   module _ (code : Code) (n : ℕ) where
     stored_within : (s : State B) (q : Name) (t : Thread B) (i : Instr) (c : ℕ) (v : ℤ) → c < n → AllWithin n s.threads → HoldsWithin n t.buffer
-        → AllWithin n (stored ops s q t i c v).threads
+        → AllWithin n (state_after_store ops s q t i c v).threads
     stored_within s q t i c v lt all h = either_way ops.buffered refl
       where
         either_way : (b : Bool) → ops.buffered ≡ b
             → AllWithin n (cond b (with_thread s q (record { local = local_after t.local i (pos 0); buffer = ops.issue t.buffer c v }))
-            (record (did ops s q t i) { memory = slice_set s.memory c v })).threads
+            (record (state_after_step ops s q t i) { memory = slice_set s.memory c v })).threads
         either_way true e = all_put n s.threads q _ all (issued_within n t.buffer c v e lt h)
         either_way false e = all_put n s.threads q _ all h
 
@@ -179,7 +179,7 @@ module _ {B : Type 0} (ops : BufferOps B) (model : Model) (bound : Binding) (law
         (all_put (length code.memory) s.threads q _ all (all q w.thread w.there))
     went_within s u (move.Drain q form) reached one all =
         option_and_then_some (λ t. drain_of ops s q t form) (fin.get s.threads q) u (unless (is_some s.failed) _ u one).1 (λ t there g.
-        let may = cond_some (ops.may_drain t.buffer form) (drained ops s q t form) u g in
+        let may = cond_some (ops.may_drain t.buffer form) (state_after_drain ops s q t form) u g in
         subst (λ (v : State B). AllWithin (length code.memory) v.threads) may.1
         (all_put (length code.memory) s.threads q _ all (rest_within (length code.memory) t.buffer form (all q t there) may.0)))
 
@@ -211,4 +211,4 @@ module _ {B : Type 0} (ops : BufferOps B) (model : Model) (bound : Binding) (law
         let after = some_value (step ops code s (move.Drain q form)) enabled in
         option_and_then_some (λ t. drain_of ops s q t form) (fin.get s.threads q) after.0 (unless (is_some s.failed) _ after.0 after.1).1 (λ t there g.
         subst (λ o. IfSome o (λ (t : Thread B). (ops.drain t.buffer form).entry.cell < length s.memory)) (sym there)
-        (drained_is_there s reached q t there form (cond_some (ops.may_drain t.buffer form) (drained ops s q t form) after.0 g).0))
+        (drained_is_there s reached q t there form (cond_some (ops.may_drain t.buffer form) (state_after_drain ops s q t form) after.0 g).0))

@@ -19,7 +19,7 @@ use Rattle.tc_code.specs.declared.instr.Instr.{Instr}
 use Rattle.tc_code.specs.declared.instr.Instr.TheVariants.{Branch, Create}
 use Rattle.tc_code.specs.Code.{Code, instr_at}
 use Rattle.tc_code.proofs.Facts.{at_its_place}
-use Rattle.tc_code.specs.Step.{step, opening, perform, request, born, stepped}
+use Rattle.tc_code.specs.Step.{step, opening, perform, request, born, step_in_place}
 use Rattle.tc_code.specs.Run.{IsReached}
 use Rattle.run_laws.specs.Whole.{AllThreads}
 use Rattle.run_laws.proofs.Basics.{either, some_is}
@@ -97,7 +97,7 @@ module _ {B : Type 0} (ops : BufferOps B) (code : Code) where
       → FailedAt (perform ops code s n t i r)
   fails_at s n t i Fail none at =
       subst (λ o. IsSomeAnd o (λ u. IsSome (instr_at code u.local.function u.local.instruction)))
-      (sym (get_put s.threads n (record t { local = stepped t.local }))) (some_is _ i at)
+      (sym (get_put s.threads n (record t { local = step_in_place t.local }))) (some_is _ i at)
   fails_at s n t i (Write c v) none at =
       none_at (perform ops code s n t i (Write c v)) (either (λ (u : State B). u.failed ≡ None) ops.buffered _ _ none none)
   fails_at s n t i r none at = none_at (perform ops code s n t i r) none

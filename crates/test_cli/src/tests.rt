@@ -34,9 +34,9 @@ impl ScantShelf {
 impl Shelf for ScantShelf {
     ghost use Rattle.std.specs.Prelude.{if◌then◌else◌};
     ghost use Rattle.test_shelves.specs.Mem.{sure_shelf_tells};
-    ghost use Rattle.tc_io.specs.Outside.{closed};
+    ghost use Rattle.tc_io.specs.Outside.{without_reading};
 
-    ghost tells = { λ s. if s.reading then sure_shelf_tells s.shelf else closed (sure_shelf_tells s.shelf) };
+    ghost tells = { λ s. if s.reading then sure_shelf_tells s.shelf else without_reading (sure_shelf_tells s.shelf) };
 
     fn fetch(&mut self, alloc: Global, name: &str, limit: u64) -> Result<Vec<u8>, FetchFault> {
         if !self.finds_memory() {

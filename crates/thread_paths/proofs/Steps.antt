@@ -5,7 +5,7 @@ use Rattle.tc_limits.specs.declared.limits.TheConstants.{STEPS}
 use Rattle.tc_code.specs.Code.{Code, instr_at}
 use Rattle.tc_code.specs.declared.instr.Instr.{Instr}
 use Rattle.path_walk.specs.Events.{excludes}
-use Rattle.path_walk.specs.Marks.{Marks, marked}
+use Rattle.path_walk.specs.Marks.{Marks, marks_after_instr}
 use Rattle.thread_marks.specs.Own.{Own, own_of}
 use Rattle.thread_paths.specs.declared.aim.Scope.{Scope}
 use Rattle.thread_paths.specs.declared.descent.At.{At}
@@ -81,7 +81,7 @@ module _ (code : Code) (scope : Scope) (start : List Bool) (first n : ℕ) (at :
             dead code scope start first n at' o' own opened_node i still_there some (ends false told) (sym (cannot opened_node.marks opened_node.is))
 
         pub is_next_node : ((t : Marks) → own ≡ own_of t → false ≡ excludes t i false) → (own' : Own)
-            → ((t : Marks) → own ≡ own_of t → own' ≡ own_of (marked t i)) → IsNode code scope start first (n + 1) to o' own'
+            → ((t : Marks) → own ≡ own_of t → own' ≡ own_of (marks_after_instr t i)) → IsNode code scope start first (n + 1) to o' own'
         is_next_node can own' marks =
             subst (λ z. IsNode code scope start first (n + 1) z o' own') (sym is_next)
             (next_node code scope start first n at' o' own opened_node i still_there some (ends false told) (sym (can opened_node.marks opened_node.is))

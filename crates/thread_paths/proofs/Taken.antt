@@ -11,8 +11,8 @@ use Rattle.tc_code.specs.Code.{Code, instr_at}
 use Rattle.tc_code.specs.declared.instr.Instr.{Instr}
 use Rattle.tc_code.specs.declared.instr.Instr.TheVariants as instr
 use Rattle.path_walk.specs.Events.{excludes, is_impossible}
-use Rattle.path_walk.specs.Marks.{Marks, unmarked, marked, marked_from, marked_steps}
-use Rattle.path_walk.specs.Steps.{Onward, onward, before, places_from, end_from, step_at, steps_at, is_site}
+use Rattle.path_walk.specs.Marks.{Marks, marks_at_start, marks_after_instr, marked_from, marked_steps}
+use Rattle.path_walk.specs.Steps.{Onward, onward, with_place, places_from, end_from, step_at, steps_at, is_site}
 use Rattle.path_walk.specs.declared.fault.Misfit.{Misfit}
 use Rattle.path_walk.proofs.Places.{past_exit, short, step_more, end_more, count}
 use Rattle.thread_paths.specs.Ends.{is_exit, is_used, last_is, has_end, fails_at_end, MayTake}
@@ -78,7 +78,7 @@ module _ (code : Code) (f : ℕ) (aim : Aim) where
 
     -- the last step
     one_place : (last : List Bool) (place : ℕ) → (is_nil last && is_last code f aim t i place)
-        ≡ judged t number (end_from code f 0 place last) (before k (places_from code f 0 place last))
+        ≡ judged t number (end_from code f 0 place last) (with_place k (places_from code f 0 place last))
     one_place [] place =
         not_one (fails_by k []) aim.may_fail (is_site i) (excludes t i true) (excludes t i false) (ends_with code f aim.end i place)
         (ap (λ x. aim.may_fail && is_site x) instr_is)
@@ -92,16 +92,16 @@ module _ (code : Code) (f : ℕ) (aim : Aim) where
 
     -- one more step
     more_places : (n : ℕ) (on : Onward) (r : Result (List ℕ) Misfit) (to : ℕ) → places_from code f (suc n) on.place on.outcomes ≡ r
-        → (not (excludes t i false) && judged (marked t i) (number + 1) to r) ≡ judged t number to (before k r)
+        → (not (excludes t i false) && judged (marks_after_instr t i) (number + 1) to r) ≡ judged t number to (with_place k r)
     more_places n on (Err e) to is = and_none (not (excludes t i false))
     more_places n on (Ok []) to is = absurd (omega (arith, count code f (suc n) on.place on.outcomes [] is))
     more_places n on (Ok (p ∷ ps)) to is =
-        not_more (excludes t i false) (list_any is_impossible (marked_from (fails_by p ps) (number + 1) (marked t i) (steps_at code f (p ∷ ps))))
+        not_more (excludes t i false) (list_any is_impossible (marked_from (fails_by p ps) (number + 1) (marks_after_instr t i) (steps_at code f (p ∷ ps))))
         (fails_by p ps || ends_with code f aim.end (last_instr p ps) to)
-        ∙ ap (λ x. not (excludes t x false || list_any is_impossible (marked_from (fails_by p ps) (number + 1) (marked t x) (steps_at code f (p ∷ ps))))
+        ∙ ap (λ x. not (excludes t x false || list_any is_impossible (marked_from (fails_by p ps) (number + 1) (marks_after_instr t x) (steps_at code f (p ∷ ps))))
         && (fails_by p ps || ends_with code f aim.end (last_instr p ps) to)) (sym instr_is)
         ∙ ap (λ v. not (excludes t (step_at code f k).instr v
-        || list_any is_impossible (marked_from (fails_by p ps) (number + 1) (marked t (step_at code f k).instr) (steps_at code f (p ∷ ps))))
+        || list_any is_impossible (marked_from (fails_by p ps) (number + 1) (marks_after_instr t (step_at code f k).instr) (steps_at code f (p ∷ ps))))
         && (fails_by p ps || ends_with code f aim.end (last_instr p ps) to)) (sym not_the_last)
       where
         not_the_last : (fails_by p ps && (length (steps_at code f (p ∷ ps)) == 0)) ≡ false
@@ -120,14 +120,14 @@ module _ (code : Code) (f : ℕ) (aim : Aim) where
         ∙ sym (ap (judged t number (end_from code f (suc n) k o)) (short code f (suc n) k o i (omega arith) at leads))
 
     module _ (i : Instr) (at : instr_at code f k ≡ Some i) (on : Onward) (leads : onward k i o ≡ Some on) where
-      places_are : (n : ℕ) → places_from code f (suc n) k o ≡ before k (places_from code f n on.place on.outcomes)
+      places_are : (n : ℕ) → places_from code f (suc n) k o ≡ with_place k (places_from code f n on.place on.outcomes)
       places_are n = step_more code f (suc n) n k o i on (omega arith) at leads
 
       end_is : (n : ℕ) → end_from code f (suc n) k o ≡ end_from code f n on.place on.outcomes
       end_is n = end_more code f (suc n) n k o i on (omega arith) at leads
 
       judged_is : (n : ℕ) → judged t number (end_from code f (suc n) k o) (places_from code f (suc n) k o)
-          ≡ judged t number (end_from code f n on.place on.outcomes) (before k (places_from code f n on.place on.outcomes))
+          ≡ judged t number (end_from code f n on.place on.outcomes) (with_place k (places_from code f n on.place on.outcomes))
       judged_is n =
           ap (λ x. judged t number x (places_from code f (suc n) k o)) (end_is n)
           ∙ ap (judged t number (end_from code f n on.place on.outcomes)) (places_are n)
@@ -135,7 +135,7 @@ module _ (code : Code) (f : ℕ) (aim : Aim) where
       told_last : Told 0 t k o number
       told_last = goes_last code f aim t k o i at on leads ∙ one_place t k o number i at on.outcomes on.place ∙ sym (judged_is 0)
 
-      told_more : (n : ℕ) → Told n (marked t i) on.place on.outcomes (number + 1) → Told (suc n) t k o number
+      told_more : (n : ℕ) → Told n (marks_after_instr t i) on.place on.outcomes (number + 1) → Told (suc n) t k o number
       told_more n later =
           goes_more code f aim t k o i at on leads n
           ∙ ap (λ v. not (excludes t i false) && v) later
@@ -153,7 +153,7 @@ module _ (code : Code) (f : ℕ) (aim : Aim) where
     module _ (n : ℕ) (rest : (u : Marks) (j : ℕ) (later : List Bool) (m : ℕ) → Told n u j later m) where
       next_by : (i : Instr) → instr_at code f k ≡ Some i → (x : Option Onward) → onward k i o ≡ x → Told (suc n) t k o number
       next_by i at None leads = told_short (suc n) i at leads
-      next_by i at (Some on) leads = told_more i at on leads n (rest (marked t i) on.place on.outcomes (number + 1))
+      next_by i at (Some on) leads = told_more i at on leads n (rest (marks_after_instr t i) on.place on.outcomes (number + 1))
 
       next_of : (x : Option Instr) → instr_at code f k ≡ x → Told (suc n) t k o number
       next_of None at = told_past (suc n) at
@@ -194,22 +194,22 @@ module _ (code : Code) (scope : Scope) where
     abbrev there : Result (List ℕ) Misfit → Type 0
     there r = places_from code f (suc n) 0 o ≡ r
 
-    judged_by : (r : Result (List ℕ) Misfit) → there r → takes code scope o (suc n) ≡ judged code f aim (unmarked code f) 0 (end_from code f (suc n) 0 o) r
-    judged_by r is = told code f aim n (unmarked code f) 0 o 0 ∙ ap (judged code f aim (unmarked code f) 0 (end_from code f (suc n) 0 o)) is
+    judged_by : (r : Result (List ℕ) Misfit) → there r → takes code scope o (suc n) ≡ judged code f aim (marks_at_start code f) 0 (end_from code f (suc n) 0 o) r
+    judged_by r is = told code f aim n (marks_at_start code f) 0 o 0 ∙ ap (judged code f aim (marks_at_start code f) 0 (end_from code f (suc n) 0 o)) is
 
     to_places : (r : Result (List ℕ) Misfit) → there r → takes code scope o (suc n) ≡ true → MayTake code f aim (path o (suc n))
     to_places (Err e) is may = absurd (let never = judged_by (Err e) is in cc)
     to_places (Ok []) is may = absurd (let never = judged_by (Ok []) is in cc)
     to_places (Ok (k ∷ ps)) is may =
         let parts = and_parts
-        (not (list_any is_impossible (marked_from (fails_by code f aim k ps) 0 (unmarked code f) (steps_at code f (k ∷ ps)))))
+        (not (list_any is_impossible (marked_from (fails_by code f aim k ps) 0 (marks_at_start code f) (steps_at code f (k ∷ ps)))))
         (fails_by code f aim k ps || ends_with code f aim.end (last_instr code f aim k ps) (end_from code f (suc n) 0 o))
         (sym (judged_by (Ok (k ∷ ps)) is) ∙ may) in
         record {
           places = k ∷ ps;
           along = is;
           possible = ap (λ v. list_any is_impossible (marked_steps code f v (steps_at code f (k ∷ ps)))) (fails_is code f aim k ps)
-              ∙ not-true (list_any is_impossible (marked_from (fails_by code f aim k ps) 0 (unmarked code f) (steps_at code f (k ∷ ps)))) parts.0;
+              ∙ not-true (list_any is_impossible (marked_from (fails_by code f aim k ps) 0 (marks_at_start code f) (steps_at code f (k ∷ ps)))) parts.0;
           ends = ap (λ v. v || has_end code f aim.end (path o (suc n)) (k ∷ ps)) (fails_is code f aim k ps)
               ∙ ap (λ v. fails_by code f aim k ps || v) (end_by code f aim aim.end n o k ps) ∙ parts.1;
         }

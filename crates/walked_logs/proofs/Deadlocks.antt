@@ -20,9 +20,9 @@ use Rattle.walked_logs.proofs.Stands.{ends_exit as ends_by_exit, first_instr, fu
 use Rattle.run_history.proofs.of_pending.In.{In}
 use Rattle.path_walk.specs.Events.{is_impossible, blocked_at}
 use Rattle.path_walk.specs.Fits.{ending_by, ending_of}
-use Rattle.path_walk.specs.Marks.{Marks, marked_steps, marks_after, unmarked, handle_in}
+use Rattle.path_walk.specs.Marks.{Marks, marked_steps, marks_after, marks_at_start, handle_in}
 use Rattle.path_walk.specs.Paths.{Walk, blocked_after, have_exited, is_dead, walk_of}
-use Rattle.path_walk.specs.Steps.{steps_at, is_failing, ended, can_block, standing, end_from}
+use Rattle.path_walk.specs.Steps.{steps_at, is_failing, places_if_well_ended, can_block, standing, end_from}
 use Rattle.path_walk.specs.declared.ending.Ending.{Ending}
 use Rattle.path_walk.specs.declared.ending.Ending.TheVariants.{Fails, Rests, Open}
 use Rattle.path_walk.specs.declared.event.Sleep.{Sleep}
@@ -46,7 +46,7 @@ abbrev the_ok : List ℕ → Result (List ℕ) Misfit
 the_ok ps = Ok ps
 
 -- a path that rests has exited or stands before an instruction that can block
-rests_so : (code : Code) (f : ℕ) (p : Path) (ps : List ℕ) → ended code f Rests p (Ok ps) ≡ Ok ps → option_map_or can_block (standing code f p) true ≡ true
+rests_so : (code : Code) (f : ℕ) (p : Path) (ps : List ℕ) → places_if_well_ended code f Rests p (Ok ps) ≡ Ok ps → option_map_or can_block (standing code f p) true ≡ true
 rests_so code f p ps is = by (option_map_or can_block (standing code f p) true) is
   where
     by : (b : Bool) → cond b (the_ok ps) (Err NotBlocked) ≡ the_ok ps → b ≡ true
@@ -111,8 +111,8 @@ module _ (code : Code) (log : Log) (lawful : IsLawful code) (normal : IsNormalDe
     rests : option_map_or can_block (standing code w.function k.path) true ≡ true
     rests =
         rests_so code w.function k.path w.places
-        (ap (λ x. ended code w.function x k.path (the_ok w.places)) (sym (resting w.name))
-        ∙ ap (ended code w.function (ending_of log w.name) k.path) (sym k.places) ∙ k.fits)
+        (ap (λ x. places_if_well_ended code w.function x k.path (the_ok w.places)) (sym (resting w.name))
+        ∙ ap (places_if_well_ended code w.function (ending_of log w.name) k.path) (sym k.places) ∙ k.fits)
 
     has_its_end : (e : End) → Asked w.name e → has_end code w.function e k.path w.places ≡ true
     has_its_end e (Joined is joined) =
@@ -140,7 +140,7 @@ module _ (code : Code) (log : Log) (lawful : IsLawful code) (normal : IsNormalDe
         let stands : standing code v.function own.path ≡ instr_at code w.function (says code log w k).place =
         ap₂ (standing code) same.0 path ∙ ap (instr_at code w.function) (sym (says_so code log w k).place) in
         let no_block =
-        none_blocked (ending_of log v.name) (marks_after (unmarked code v.function) (steps_at code v.function v.places)) v.sleeps
+        none_blocked (ending_of log v.name) (marks_after (marks_at_start code v.function) (steps_at code v.function v.places)) v.sleeps
         (standing code v.function own.path) (ap is_some stands ∙ none) in
         false≢true (sym no_block ∙ ap is_some (sym own.blocked) ∙ left.blocked)
 
@@ -152,7 +152,7 @@ module _ (code : Code) (log : Log) (lawful : IsLawful code) (normal : IsNormalDe
     at = instr_at code w.function (says code log w own).place
 
     abbrev marks : Marks
-    marks = marks_after (unmarked code w.function) (steps_at code w.function w.places)
+    marks = marks_after (marks_at_start code w.function) (steps_at code w.function w.places)
 
     -- what blocks it, by the instruction it stands before
     blocked_is : w.blocked ≡ option_and_then (blocked_at marks w.sleeps) at

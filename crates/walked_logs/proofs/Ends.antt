@@ -19,9 +19,9 @@ use Rattle.run_laws.proofs.Basics.{index_or-replicate}
 use Rattle.run_history.proofs.of_pending.In.{In, in_mapped, from_mapped}
 use Rattle.path_walk.specs.Events.{asks, kind_with, join_by, joins_of, regions_of}
 use Rattle.path_walk.specs.Fits.{fails_in, ending_of}
-use Rattle.path_walk.specs.Marks.{Marks, unmarked, marked, marks_after, has_mutex, handle_in}
+use Rattle.path_walk.specs.Marks.{Marks, marks_at_start, marks_after_instr, marks_after, has_mutex, handle_in}
 use Rattle.path_walk.specs.Paths.{Walk}
-use Rattle.path_walk.specs.Steps.{Step, step_at, steps_at, is_site, is_failing, ended, ends_at_site}
+use Rattle.path_walk.specs.Steps.{Step, step_at, steps_at, is_site, is_failing, places_if_well_ended, ends_at_site}
 use Rattle.path_walk.specs.declared.ending.Ending.{Ending}
 use Rattle.path_walk.specs.declared.ending.Ending.TheVariants.{Fails, Rests, Open}
 use Rattle.path_walk.specs.declared.event.Event.{Event}
@@ -98,7 +98,7 @@ create_kind : (m : Marks) (i : Instr) (a : EventKind) → is_create i ≡ true �
 create_kind m (Create h f es) a is e = sym (same_Some (kind.Create (m.children + 1)) a e)
 create_kind m i a is e = absurd (false≢true is)
 
-one_more_child : (m : Marks) (i : Instr) → is_create i ≡ true → (marked m i).children ≡ m.children + 1
+one_more_child : (m : Marks) (i : Instr) → is_create i ≡ true → (marks_after_instr m i).children ≡ m.children + 1
 one_more_child m (Create h f es) is = refl
 one_more_child m i is = absurd (false≢true is)
 
@@ -149,13 +149,13 @@ joins_place : (m : Marks) (ss : List Step) (k : ℕ) → Joins m ss k → JoinsA
 joins_place m [] k j = absurd j
 joins_place m (s ∷ ss) k (inl now) = record { place = 0; step = s; there = refl; now = now }
 joins_place m (s ∷ ss) k (inr later) =
-    let rest = joins_place (marked m s.instr) ss k later in
+    let rest = joins_place (marks_after_instr m s.instr) ss k later in
     record { place = suc rest.place; step = rest.step; there = rest.there; now = rest.now }
 
 joins_at : (m : Marks) (ss : List Step) (k p : ℕ) (s : Step) → slice_get ss p ≡ Some s → JoinsNow (marks_after m (take p ss)) s.instr k → Joins m ss k
 joins_at m [] k p s at now = absurd (none-some s at)
 joins_at m (x ∷ ss) k zero s at now = inl (subst (λ (y : Step). JoinsNow m y.instr k) (sym (same_Some x s at)) now)
-joins_at m (x ∷ ss) k (suc p) s at now = inr (joins_at (marked m x.instr) ss k p s at now)
+joins_at m (x ∷ ss) k (suc p) s at now = inr (joins_at (marks_after_instr m x.instr) ss k p s at now)
 
 -- The last step.
 
@@ -179,7 +179,7 @@ abbrev the_ok : List ℕ → Result (List ℕ) Misfit
 the_ok ps = Ok ps
 
 -- a path that fails ends at a site
-site_at_end : (code : Code) (f : ℕ) (e : Ending) (p : Path) (ps : List ℕ) → ended code f e p (Ok ps) ≡ Ok ps → is_failing e ≡ true
+site_at_end : (code : Code) (f : ℕ) (e : Ending) (p : Path) (ps : List ℕ) → places_if_well_ended code f e p (Ok ps) ≡ Ok ps → is_failing e ≡ true
     → ends_at_site code f ps ≡ true
 site_at_end code f Open p ps is fails = absurd (false≢true fails)
 site_at_end code f Rests p ps is fails = absurd (false≢true fails)
@@ -219,7 +219,7 @@ exit_asks m i e = absurd (false≢true e)
 
 -- Mutexes.
 
-held_long : (t : Marks) (i : Instr) → length (marked t i).held ≡ length t.held
+held_long : (t : Marks) (i : Instr) → length (marks_after_instr t i).held ≡ length t.held
 held_long t (Lock l) = length-set t.held l true
 held_long t (Unlock l) = length-set t.held l false
 held_long t (Sleep c l) = length-set t.held l false
@@ -228,7 +228,7 @@ held_long t i = refl
 
 held_same : (t : Marks) (ss : List Step) → length (marks_after t ss).held ≡ length t.held
 held_same t [] = refl
-held_same t (s ∷ ss) = held_same (marked t s.instr) ss ∙ held_long t s.instr
+held_same t (s ∷ ss) = held_same (marks_after_instr t s.instr) ss ∙ held_long t s.instr
 
 pub held_within : (held : List Bool) (m : ℕ) → slice_index_or held m false ≡ true → m < length held
 held_within [] m e = absurd (false≢true e)
@@ -247,7 +247,7 @@ module _ (code : Code) (log : Log) (w : Walk) (k : IsWalk code log w) where
   b = fails_in log w.name
 
   abbrev start : Marks
-  start = unmarked code w.function
+  start = marks_at_start code w.function
 
   abbrev pub steps : List Step
   steps = steps_at code w.function w.places
@@ -256,9 +256,9 @@ module _ (code : Code) (log : Log) (w : Walk) (k : IsWalk code log w) where
   says = told code w.function k.path
 
   -- what the path says
-  pub says_so : After code w.function k.path.steps k.path.outcomes (untold code w.function) (unmarked code w.function) w.places says
+  pub says_so : After code w.function k.path.steps k.path.outcomes (untold code w.function) (marks_at_start code w.function) w.places says
   says_so =
-      told_along code w.function k.path.steps k.path.outcomes (untold code w.function) (unmarked code w.function) w.places k.places
+      told_along code w.function k.path.steps k.path.outcomes (untold code w.function) (marks_at_start code w.function) w.places k.places
       (alike_first code w.function)
 
   pub many : length steps ≡ length w.places
@@ -266,7 +266,7 @@ module _ (code : Code) (log : Log) (w : Walk) (k : IsWalk code log w) where
 
   pub site_fails : b ≡ true → ends_at_site code w.function w.places ≡ true
   site_fails fails =
-      site_at_end code f (ending_of log w.name) k.path w.places (ap (ended code f (ending_of log w.name) k.path) (sym k.places) ∙ k.fits) fails
+      site_at_end code f (ending_of log w.name) k.path w.places (ap (places_if_well_ended code f (ending_of log w.name) k.path) (sym k.places) ∙ k.fits) fails
 
   -- the last step asks this
   pub record Last (asked : EventKind) : Type 0 where
@@ -333,7 +333,7 @@ module _ (code : Code) (log : Log) (w : Walk) (k : IsWalk code log w) where
       nil_of (drop (suc l.place) steps) (omega (arith, length-drop (suc l.place) steps, l.last)) in
       let whole : steps ≡ take l.place steps ++ l.step ∷ [] =
       split_at steps l.place l.step l.there ∙ ap (λ xs. take l.place steps ++ l.step ∷ xs) none in
-      let marks : marks_after start steps ≡ marked m l.step.instr =
+      let marks : marks_after start steps ≡ marks_after_instr m l.step.instr =
       ap (marks_after start) whole ∙ marks-append start (take l.place steps) (l.step ∷ []) in
       let count : length says.created ≡ m.children + 1 =
       says_so.alike.count ∙ ap (λ (x : Marks). x.children) marks ∙ one_more_child m l.step.instr is in

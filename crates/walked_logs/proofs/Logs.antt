@@ -19,7 +19,7 @@ use Rattle.std.proofs.lemmas.List.{length-replicate, length-set}
 use Rattle.run_laws.proofs.Basics.{index_or-replicate}
 use Rattle.run_history.proofs.of_pending.In.{In, in_append, in_left, in_right, any_in, in_any}
 use Rattle.path_walk.specs.Fits.{places_in, started, child_function, function_below, function_of}
-use Rattle.path_walk.specs.Marks.{unmarked}
+use Rattle.path_walk.specs.Marks.{marks_at_start}
 use Rattle.path_walk.specs.Paths.{Walk}
 use Rattle.path_walk.specs.Steps.{steps_at}
 use Rattle.path_walk.proofs.Faults.{function_of_child, missing, fitting}
@@ -417,7 +417,7 @@ module _ (code : Code) (log : Log) (kind : Kind) (facts : Facts code log kind) w
               subst (λ (x : Told). In number x.joined) (sym same_told)
               (subst (λ n. In n T.joined) (eqb-true p.one number p.passes) p.there)
 
-          by : In number [] ⊎ Joins (unmarked code w.function) (steps_at code w.function w.places) number → IsJoined code log d.name
+          by : In number [] ⊎ Joins (marks_at_start code w.function) (steps_at code w.function w.places) number → IsJoined code log d.name
           by (inl i) = absurd i
           by (inr j) =
               let l = joins_there code log w k number j in
@@ -439,7 +439,7 @@ module _ (code : Code) (log : Log) (kind : Kind) (facts : Facts code log kind) w
           let does = joins_told code log w k j.join i in
           let there : In number (says code log w k).joined =
           (says_so code log w k).joins number
-          (inr (subst (Joins (unmarked code w.function) (steps_at code w.function w.places)) (sym same.1) does)) in
+          (inr (subst (Joins (marks_at_start code w.function) (steps_at code w.function w.places)) (sym same.1) does)) in
           false≢true (sym none ∙ in_any (λ j. j == number) number T.joined
           (subst (λ (x : Told). In number x.joined) same_told there) (eq-eqb number number refl))
 

@@ -12,7 +12,7 @@ use Rattle.tc_code.specs.declared.instr.Instr.{Instr}
 use Rattle.tc_code.specs.declared.instr.Instr.TheVariants.{Lock, Unlock, Sleep, Wake, Create, Join, Exit}
 use Rattle.run_history.proofs.of_pending.In.{In, in_append, in_left, in_right}
 use Rattle.path_walk.specs.Fits.{starts, started}
-use Rattle.path_walk.specs.Marks.{Marks, unmarked, marked, marks_after, handle_in}
+use Rattle.path_walk.specs.Marks.{Marks, marks_at_start, marks_after_instr, marks_after, handle_in}
 use Rattle.path_walk.specs.Steps.{Step, step_at, steps_at, places_from, end_from, is_site}
 use Rattle.path_walk.proofs.Places.{Unrolled, unrolled, end_more}
 use Rattle.log_walk.specs.Told.{Told, untold, is_create, told_by, told_from}
@@ -52,10 +52,10 @@ pub record Alike (t : Told) (m : Marks) : Type 0 where
   pub numbers : AreNumbers t.children m.handles
   pub count : length t.created ≡ m.children
 
-pub alike_first : (code : Code) (f : ℕ) → Alike (untold code f) (unmarked code f)
+pub alike_first : (code : Code) (f : ℕ) → Alike (untold code f) (marks_at_start code f)
 alike_first code f = record { held = refl; numbers = all_unset (handles_of code f); count = refl }
 
-alike_step : (t : Told) (m : Marks) (i : Instr) (to : ℕ) → Alike t m → Alike (told_by t i to) (marked m i)
+alike_step : (t : Told) (m : Marks) (i : Instr) (to : ℕ) → Alike t m → Alike (told_by t i to) (marks_after_instr m i)
 alike_step t m (Lock l) to a = record { held = ap (λ hs. slice_set hs l true) a.held; numbers = a.numbers; count = a.count }
 alike_step t m (Unlock l) to a = record { held = ap (λ hs. slice_set hs l false) a.held; numbers = a.numbers; count = a.count }
 alike_step t m (Sleep c l) to a = record { held = ap (λ hs. slice_set hs l false) a.held; numbers = a.numbers; count = a.count }
@@ -88,7 +88,7 @@ JoinsNow m _ k = ⊥
 -- a step joins the child of that number
 abbrev pub Joins : Marks → List Step → ℕ → Type 0
 Joins m [] k = ⊥
-Joins m (s ∷ ss) k = JoinsNow m s.instr k ⊎ Joins (marked m s.instr) ss k
+Joins m (s ∷ ss) k = JoinsNow m s.instr k ⊎ Joins (marks_after_instr m s.instr) ss k
 
 only : (c k : ℕ) → In k (c ∷ []) → c ≡ k
 only c k (inl same) = same
@@ -140,7 +140,7 @@ module _ (code : Code) (f n : ℕ) (o : List Bool) (t : Told) (m : Marks) (ps : 
   is : told_from code f (suc n) o t ≡ told_from code f n u.next.outcomes t'
   is = more code f o t t.place refl o refl u.instr u.at (suc n) n u.next (omega arith) u.leads
 
-  module _ (rest : After code f n u.next.outcomes t' (marked m (step_at code f t.place).instr) u.rest (told_from code f n u.next.outcomes t')) where
+  module _ (rest : After code f n u.next.outcomes t' (marks_after_instr m (step_at code f t.place).instr) u.rest (told_from code f n u.next.outcomes t')) where
     joined_first : (k : ℕ) → In k (told_from code f n u.next.outcomes t').joined
         → In k t.joined ⊎ Joins m (steps_at code f (t.place ∷ u.rest)) k
     joined_first k i =
@@ -197,5 +197,5 @@ told_along code f (suc n) o t m ps h a =
     let u : Unrolled code f n t.place o ps = unrolled code f n t.place o ps h in
     let same : (step_at code f t.place).instr ≡ u.instr = ap (λ x. unwrap_or x Exit) u.at in
     further code f n o t m ps a u same
-    (told_along code f n u.next.outcomes (told_by t u.instr u.next.place) (marked m (step_at code f t.place).instr) u.rest u.told
-    (subst (λ i. Alike (told_by t u.instr u.next.place) (marked m i)) (sym same) (alike_step t m u.instr u.next.place a)))
+    (told_along code f n u.next.outcomes (told_by t u.instr u.next.place) (marks_after_instr m (step_at code f t.place).instr) u.rest u.told
+    (subst (λ i. Alike (told_by t u.instr u.next.place) (marks_after_instr m i)) (sym same) (alike_step t m u.instr u.next.place a)))

@@ -13,7 +13,7 @@ use Rattle.tc_code.specs.declared.instr.Instr.TheVariants.{Exit}
 use Rattle.run_log.specs.Logs.{is_log}
 use Rattle.path_walk.specs.Events.{asks, kind_with}
 use Rattle.path_walk.specs.Fits.{fails_in, Fits}
-use Rattle.path_walk.specs.Marks.{Marks, unmarked, marks_after}
+use Rattle.path_walk.specs.Marks.{Marks, marks_at_start, marks_after}
 use Rattle.path_walk.specs.Paths.{Walk}
 use Rattle.path_walk.specs.Steps.{step_at, steps_at}
 use Rattle.path_walk.specs.declared.event.Event.{Event}
@@ -62,7 +62,7 @@ module _ (code : Code) (log : Log) (is : is_log log ≡ true) where
       let ss = steps_at code q.function q.places in
       let e = at_step code log q (walk_is code log is fits (path_thread t q there)) x (in_contains x q.events i) in
       let both = and_parts (fails_in log q.name) (length (drop (suc e.place) ss) == 0)
-      (to_fail (marks_after (unmarked code q.function) (take e.place ss)) e.step.instr (fails_in log q.name && length (drop (suc e.place) ss) == 0) (e.asks ∙ ap (λ a. Some a) fail)) in
+      (to_fail (marks_after (marks_at_start code q.function) (take e.place ss)) e.step.instr (fails_in log q.name && length (drop (suc e.place) ss) == 0) (e.asks ∙ ap (λ a. Some a) fail)) in
       let rest = eqb-true (length (drop (suc e.place) ss)) 0 both.1 in
       let within = slice_get_within ss e.place e.step e.there in
       let long = length-map q.places (step_at code q.function) in

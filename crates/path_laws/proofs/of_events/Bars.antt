@@ -20,7 +20,7 @@ use Rattle.run_history.specs.pending.Deeds.{is_bar_between, has_bar_between}
 use Rattle.run_history.proofs.of_pending.In.{In, in_at, in_split, any_in, in_any}
 use Rattle.path_walk.specs.Events.{kind_with}
 use Rattle.path_walk.specs.Fits.{fails_in}
-use Rattle.path_walk.specs.Marks.{Marks, unmarked, marked, marks_after}
+use Rattle.path_walk.specs.Marks.{Marks, marks_at_start, marks_after_instr, marks_after}
 use Rattle.path_walk.specs.Steps.{Step, step_at, steps_at}
 use Rattle.path_walk.specs.declared.event.Event.{Event}
 use Rattle.path_walk.specs.declared.event.EventKind.{EventKind}
@@ -56,7 +56,7 @@ bar_is t (InRange x) e = absurd (site_is_no_bar _ e)
 bar_is t i e = absurd cc
 
 -- a bar adds one, and nothing else does
-bars_more : (m : Marks) (i : Instr) → (marked m i).bars ≡ m.bars + cond (is_bar i) 1 0
+bars_more : (m : Marks) (i : Instr) → (marks_after_instr m i).bars ≡ m.bars + cond (is_bar i) 1 0
 bars_more m Stbar = refl
 bars_more m i = omega arith
 
@@ -156,7 +156,7 @@ module _ {B : Type 0} (setting : Setting B) (history : HistoryAlong setting) (th
   ss = steps_at code w.function w.places
 
   abbrev start : Marks
-  start = unmarked code w.function
+  start = marks_at_start code w.function
 
   -- the path has the instruction of a deed's step
   step_on : (older : List Deed) (i : ℕ) (r : Request) (took : ℤ) (other : Option Name)

@@ -18,7 +18,7 @@ use Rattle.run_history.specs.Told.{is_thread_in, steps_in}
 use Rattle.run_history.proofs.Threads.{none_done}
 use Rattle.run_history.proofs.of_pending.In.{In, in_at, in_split, in_filter, from_filter, in_mapped, from_mapped}
 use Rattle.path_walk.specs.Fits.{fails_in}
-use Rattle.path_walk.specs.Marks.{unmarked}
+use Rattle.path_walk.specs.Marks.{marks_at_start}
 use Rattle.path_walk.specs.Paths.{Walk}
 use Rattle.path_walk.specs.Steps.{step_at, steps_at}
 use Rattle.path_walk.specs.declared.event.Event.{Event}
@@ -85,11 +85,11 @@ done_by h d n k asked i e =
 module _ (code : Code) (log : Log) (w : Walk) (k : IsWalk code log w) where
   -- the events of a thread are those of its steps
   abbrev pub AtStep : Event → Type 0
-  AtStep x = IsEventAt (fails_in log w.name) 0 (unmarked code w.function) (steps_at code w.function w.places) x
+  AtStep x = IsEventAt (fails_in log w.name) 0 (marks_at_start code w.function) (steps_at code w.function w.places) x
 
   pub at_step : (x : Event) → In x w.events → AtStep x
   at_step x i =
-      event_is_at code w.function (fails_in log w.name) 0 (unmarked code w.function) (steps_at code w.function w.places) x
+      event_is_at code w.function (fails_in log w.name) 0 (marks_at_start code w.function) (steps_at code w.function w.places) x
       (subst (In x) k.events i)
 
   pub event_within : (x : Event) → In x w.events → x.step < length w.places

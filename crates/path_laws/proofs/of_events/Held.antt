@@ -7,11 +7,11 @@ use Rattle.tc_base.specs.Paths.{Path}
 use Rattle.tc_base.specs.Names.{Name}
 use Rattle.tc_base.specs.States.{Local, Thread}
 use Rattle.tc_code.specs.Code.{Code}
-use Rattle.tc_code.specs.Step.{holds, stepped}
+use Rattle.tc_code.specs.Step.{holds, step_in_place}
 use Rattle.tc_code.proofs.Facts.{at_its_place}
 use Rattle.run_laws.proofs.Basics.{index_or-replicate}
 use Rattle.path_walk.specs.Fits.{fails_in}
-use Rattle.path_walk.specs.Marks.{unmarked, marks_after, has_mutex}
+use Rattle.path_walk.specs.Marks.{marks_at_start, marks_after, has_mutex}
 use Rattle.path_walk.specs.Steps.{step_at, steps_at}
 use Rattle.path_laws.specs.Setting.{Setting}
 use Rattle.path_laws.specs.Along.{HasMarks}
@@ -27,21 +27,21 @@ use Rattle.path_laws.proofs.of_history.Told.{its_run}
 
 -- a thread, also one that has failed, has the marks of its path so far
 stands_marks : (code : Code) (b : Bool) (t : Local) (ps : List ℕ) → Stands code b t ps
-    → HasMarks t (marks_after (unmarked code t.function) (steps_at code t.function ps))
+    → HasMarks t (marks_after (marks_at_start code t.function) (steps_at code t.function ps))
 stands_marks code false t ps h = h.marks
 stands_marks code true t ps h =
     let a = h.before in
     let f = a.function in
     let at = at_its_place code a h.instr h.at in
     let site = fail_is_site a h.instr h.asks in
-    let same : marks_after (unmarked code f) (steps_at code f (h.front ++ a.instruction ∷ [])) ≡ marks_after (unmarked code f) (steps_at code f h.front) =
-    ap (marks_after (unmarked code f)) (steps_push code a a h.instr h.front h.along at)
-    ∙ marks-append (unmarked code f) (steps_at code f h.front) (now code a a h.instr h.front h.along at ∷ [])
-    ∙ site_marks (marks_after (unmarked code f) (steps_at code f h.front)) h.instr site in
+    let same : marks_after (marks_at_start code f) (steps_at code f (h.front ++ a.instruction ∷ [])) ≡ marks_after (marks_at_start code f) (steps_at code f h.front) =
+    ap (marks_after (marks_at_start code f)) (steps_push code a a h.instr h.front h.along at)
+    ∙ marks-append (marks_at_start code f) (steps_at code f h.front) (now code a a h.instr h.front h.along at ∷ [])
+    ∙ site_marks (marks_after (marks_at_start code f) (steps_at code f h.front)) h.instr site in
     let m = h.along.marks in
-    subst (λ (x : Local). HasMarks x (marks_after (unmarked code x.function) (steps_at code x.function ps))) (sym h.is)
-    (subst (λ xs. HasMarks (stepped a) (marks_after (unmarked code f) (steps_at code f xs))) (sym h.all)
-    (subst (HasMarks (stepped a)) (sym same) (record { held = m.held; handles = m.handles; children = m.children })))
+    subst (λ (x : Local). HasMarks x (marks_after (marks_at_start code x.function) (steps_at code x.function ps))) (sym h.is)
+    (subst (λ xs. HasMarks (step_in_place a) (marks_after (marks_at_start code f) (steps_at code f xs))) (sym h.all)
+    (subst (HasMarks (step_in_place a)) (sym same) (record { held = m.held; handles = m.handles; children = m.children })))
 
 module _ {B : Type 0} (setting : Setting B) (history : HistoryAlong setting) (thread : PathThread setting.code setting.log) (t : Thread B)
     (k : IsWalking setting history thread t) where
@@ -51,12 +51,12 @@ module _ {B : Type 0} (setting : Setting B) (history : HistoryAlong setting) (th
   abbrev failed : Option Name
   failed = (its_run setting history).state.failed
 
-  pub thread_marks : HasMarks t.local (marks_after (unmarked code w.function) (take t.local.steps (steps_at code w.function w.places)))
+  pub thread_marks : HasMarks t.local (marks_after (marks_at_start code w.function) (take t.local.steps (steps_at code w.function w.places)))
   thread_marks =
       let n = t.local.steps in
-      subst (λ ss. HasMarks t.local (marks_after (unmarked code w.function) ss)) (sym (take-map (step_at code w.function) n w.places))
-      (subst (λ f. HasMarks t.local (marks_after (unmarked code f) (steps_at code f (take n w.places)))) k.function
-      (subst (λ ps. HasMarks t.local (marks_after (unmarked code t.local.function) (steps_at code t.local.function (take n ps)))) k.places
+      subst (λ ss. HasMarks t.local (marks_after (marks_at_start code w.function) ss)) (sym (take-map (step_at code w.function) n w.places))
+      (subst (λ f. HasMarks t.local (marks_after (marks_at_start code f) (steps_at code f (take n w.places)))) k.function
+      (subst (λ ps. HasMarks t.local (marks_after (marks_at_start code t.local.function) (steps_at code t.local.function (take n ps)))) k.places
       (stands_marks code (fails_by failed w.name) t.local _ k.so.stands)))
 
   -- a thread holds a mutex if the last of these events on the mutex acquires it
@@ -64,7 +64,7 @@ module _ {B : Type 0} (setting : Setting B) (history : HistoryAlong setting) (th
   holds_told m within =
       let n = t.local.steps in
       let ss = steps_at code w.function w.places in
-      let start = unmarked code w.function in
+      let start = marks_at_start code w.function in
       let number : 0 + n ≡ n = omega arith in
       let few : n ≤ length ss =
       omega (arith, k.so.on.steps, ap (λ (p : Path). p.steps) k.path, k.walk.long, length-map w.places (step_at code w.function)) in

@@ -20,9 +20,9 @@ use Rattle.run_history.specs.Told.{owner_by, owner_in, steps_in}
 use Rattle.run_history.proofs.Last.{owners_are_last}
 use Rattle.run_follows.proofs.of_deeds.Cells.{next_within}
 use Rattle.run_history.proofs.of_pending.In.{In}
-use Rattle.path_walk.specs.Events.{takes, left_at, regions_of}
+use Rattle.path_walk.specs.Events.{acquired_mutex, release_step, regions_of}
 use Rattle.path_walk.specs.Fits.{fails_in}
-use Rattle.path_walk.specs.Marks.{unmarked, marks_after}
+use Rattle.path_walk.specs.Marks.{marks_at_start, marks_after}
 use Rattle.path_walk.specs.Paths.{Walk}
 use Rattle.path_walk.specs.Steps.{steps_at}
 use Rattle.path_walk.specs.declared.event.Event.{Event}
@@ -90,18 +90,18 @@ taking m n d e = absurd (none-some (Some n) e)
 
 -- the region of an event that acquires a mutex
 abbrev region_at : Event → List Event → ℕ → Region
-region_at x later l = record { mutex = l; «from» = x.step; to = left_at l later }
+region_at x later l = record { mutex = l; «from» = x.step; to = release_step l later }
 
 -- the event that begins a region
-region_event : (es : List Event) (r : Region) → In r (regions_of es) → (x : Event) × In x es × (takes x.kind ≡ Some r.mutex)
+region_event : (es : List Event) (r : Region) → In r (regions_of es) → (x : Event) × In x es × (acquired_mutex x.kind ≡ Some r.mutex)
 region_event [] r i = absurd i
-region_event (x ∷ es) r i = by (takes x.kind) refl i (λ j. later (region_event es r j))
+region_event (x ∷ es) r i = by (acquired_mutex x.kind) refl i (λ j. later (region_event es r j))
   where
-    later : (y : Event) × In y es × (takes y.kind ≡ Some r.mutex) → (y : Event) × In y (x ∷ es) × (takes y.kind ≡ Some r.mutex)
+    later : (y : Event) × In y es × (acquired_mutex y.kind ≡ Some r.mutex) → (y : Event) × In y (x ∷ es) × (acquired_mutex y.kind ≡ Some r.mutex)
     later y = (y.0, inr y.1, y.2)
 
-    by : (o : Option ℕ) → takes x.kind ≡ o → In r (cons_option (option_map (region_at x es) o) (regions_of es))
-        → (In r (regions_of es) → (y : Event) × In y (x ∷ es) × (takes y.kind ≡ Some r.mutex)) → (y : Event) × In y (x ∷ es) × (takes y.kind ≡ Some r.mutex)
+    by : (o : Option ℕ) → acquired_mutex x.kind ≡ o → In r (cons_option (option_map (region_at x es) o) (regions_of es))
+        → (In r (regions_of es) → (y : Event) × In y (x ∷ es) × (acquired_mutex y.kind ≡ Some r.mutex)) → (y : Event) × In y (x ∷ es) × (acquired_mutex y.kind ≡ Some r.mutex)
     by None t i rest = rest i
     by (Some l) t (inl same) rest = (x, inl refl, t ∙ ap (λ (g : Region). Some g.mutex) same)
     by (Some l) t (inr i) rest = rest i
@@ -150,12 +150,12 @@ module _ {B : Type 0} (setting : Setting B) (history : HistoryAlong setting) whe
         let s = at_step code log w k e.0 e.1 in
         let ss = steps_at code w.function w.places in
         taken_within code log w k lawful m s.place s.step s.there
-        (takes_by (marks_after (unmarked code w.function) (take s.place ss)) s.step.instr (fails_in log n && length (drop (suc s.place) ss) == 0) e.0.kind m
+        (takes_by (marks_after (marks_at_start code w.function) (take s.place ss)) s.step.instr (fails_in log n && length (drop (suc s.place) ss) == 0) e.0.kind m
         s.asks (e.2 ∙ ap (λ l. Some l) mutex))
 
     rising : Rising w.events
     rising =
-        subst Rising (sym k.events) (events_rise code w.function (fails_in log n) 0 (unmarked code w.function) (steps_at code w.function w.places))
+        subst Rising (sym k.events) (events_rise code w.function (fails_in log n) 0 (marks_at_start code w.function) (steps_at code w.function w.places))
 
     module _ (t : Thread B) (here : fin.get r.state.threads n ≡ Some t) (within : m < code.mutexes) where
       steps : t.local.steps ≡ steps_in h n

@@ -13,11 +13,11 @@ use Rattle.tc_code.specs.Lawful.{IsLawful}
 use Rattle.tc_code.specs.declared.instr.Instr.{Instr}
 use Rattle.tc_code.specs.declared.instr.Instr.TheVariants.{Lock, Wake, Exit}
 use Rattle.tc_code.proofs.Facts.{placed}
-use Rattle.path_walk.specs.Events.{kind_with, takes}
+use Rattle.path_walk.specs.Events.{kind_with, acquired_mutex}
 use Rattle.path_walk.specs.Fits.{ending_of, fails_in}
 use Rattle.path_walk.specs.Marks.{Marks}
 use Rattle.path_walk.specs.Paths.{Walk}
-use Rattle.path_walk.specs.Steps.{Step, is_failing, is_site, ended, ends_at_site, step_at, steps_at}
+use Rattle.path_walk.specs.Steps.{Step, is_failing, is_site, places_if_well_ended, ends_at_site, step_at, steps_at}
 use Rattle.path_walk.specs.declared.ending.Ending.{Ending}
 use Rattle.path_walk.specs.declared.ending.Ending.TheVariants.{Fails, Rests, Open}
 use Rattle.path_walk.specs.declared.event.EventKind.{EventKind}
@@ -31,7 +31,7 @@ abbrev the_ok : List ℕ → Result (List ℕ) Misfit
 the_ok ps = Ok ps
 
 -- a path that fails ends at a site
-ends_so : (code : Code) (f : ℕ) (e : Ending) (p : Path) (ps : List ℕ) → ended code f e p (Ok ps) ≡ Ok ps → is_failing e ≡ true → ends_at_site code f ps ≡ true
+ends_so : (code : Code) (f : ℕ) (e : Ending) (p : Path) (ps : List ℕ) → places_if_well_ended code f e p (Ok ps) ≡ Ok ps → is_failing e ≡ true → ends_at_site code f ps ≡ true
 ends_so code f Open p ps told fails = absurd (true≢false (sym fails))
 ends_so code f Rests p ps told fails = absurd (true≢false (sym fails))
 ends_so code f Fails p ps told fails = by (ends_at_site code f ps) told
@@ -45,13 +45,13 @@ pub data TakesMutex (i : Instr) (m : ℕ) : Type 0 where
   By_lock : i ≡ Lock m → TakesMutex i m
   By_wake : (c : ℕ) → i ≡ Wake c m → TakesMutex i m
 
-pub takes_by : (t : Marks) (i : Instr) (fails : Bool) (k : EventKind) (m : ℕ) → kind_with t i fails ≡ Some k → takes k ≡ Some m → TakesMutex i m
-takes_by t i true k m is takes_it = let none : None ≡ takes k = ap (λ x. option_map_or takes x None) is in absurd (none-some m (none ∙ takes_it))
+pub takes_by : (t : Marks) (i : Instr) (fails : Bool) (k : EventKind) (m : ℕ) → kind_with t i fails ≡ Some k → acquired_mutex k ≡ Some m → TakesMutex i m
+takes_by t i true k m is takes_it = let none : None ≡ acquired_mutex k = ap (λ x. option_map_or acquired_mutex x None) is in absurd (none-some m (none ∙ takes_it))
 takes_by t (Lock l) false k m is takes_it =
-    let same : Some l ≡ takes k = ap (λ x. option_map_or takes x None) is in By_lock (ap Lock (same_Some l m (same ∙ takes_it)))
+    let same : Some l ≡ acquired_mutex k = ap (λ x. option_map_or acquired_mutex x None) is in By_lock (ap Lock (same_Some l m (same ∙ takes_it)))
 takes_by t (Wake c l) false k m is takes_it =
-    let same : Some l ≡ takes k = ap (λ x. option_map_or takes x None) is in By_wake c (ap (Wake c) (same_Some l m (same ∙ takes_it)))
-takes_by t i false k m is takes_it = let none : None ≡ takes k = ap (λ x. option_map_or takes x None) is in absurd (none-some m (none ∙ takes_it))
+    let same : Some l ≡ acquired_mutex k = ap (λ x. option_map_or acquired_mutex x None) is in By_wake c (ap (Wake c) (same_Some l m (same ∙ takes_it)))
+takes_by t i false k m is takes_it = let none : None ≡ acquired_mutex k = ap (λ x. option_map_or acquired_mutex x None) is in absurd (none-some m (none ∙ takes_it))
 
 -- the mutex that an instruction acquires exists
 instr_within : (code : Code) (f p : ℕ) (i : Instr) (m : ℕ) → IsLawful code → instr_at code f p ≡ Some i → TakesMutex i m → m < code.mutexes
@@ -82,7 +82,7 @@ module _ (code : Code) (log : Log) (w : Walk) (k : IsWalk code log w) where
   last_site s at fails =
       let long = length-map w.places (step_at code w.function) in
       let ends = ends_so code w.function (ending_of log w.name) k.path w.places
-      (ap (ended code w.function (ending_of log w.name) k.path) (sym k.places) ∙ k.fits) fails in
+      (ap (places_if_well_ended code w.function (ending_of log w.name) k.path) (sym k.places) ∙ k.fits) fails in
       site_by (slice_get w.places (length w.places - 1)) s
       (sym (slice_get-map (step_at code w.function) w.places (length w.places - 1))
       ∙ ap (λ n. slice_get walk_steps (n - 1)) (sym long) ∙ at) ends

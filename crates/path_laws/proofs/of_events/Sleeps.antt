@@ -16,7 +16,7 @@ use Rattle.tc_code.proofs.Facts.{placed}
 use Rattle.run_history.proofs.of_pending.In.{In}
 use Rattle.path_walk.specs.Events.{kind_with, sleep_by, sleeps_of}
 use Rattle.path_walk.specs.Fits.{fails_in}
-use Rattle.path_walk.specs.Marks.{Marks, unmarked, marked}
+use Rattle.path_walk.specs.Marks.{Marks, marks_at_start, marks_after_instr}
 use Rattle.path_walk.specs.Paths.{Walk}
 use Rattle.path_walk.specs.Steps.{Step, Onward, onward, places_from, step_at, steps_at}
 use Rattle.path_walk.specs.declared.event.Event.{Event}
@@ -117,7 +117,7 @@ module _ (code : Code) (lawful : IsLawful code) (f : ℕ) where
         → option_map (λ (e : Event). e.step) (slice_get (events_from code f b j m (t ∷ ss)) 0) ≡ Some j
     first_step j m t ss c l is =
         let k = wake_asks m c l (b && length ss == 0) in
-        let later = events_from code f b (j + 1) (marked m t.instr) ss in
+        let later = events_from code f b (j + 1) (marks_after_instr m t.instr) ss in
         let asked : kind_with m t.instr (b && length ss == 0) ≡ Some k.0 = ap (λ i. kind_with m i (b && length ss == 0)) is ∙ k.1 in
         ap (λ o. option_map (λ (e : Event). e.step) (slice_get (cons_option (option_map (event_at code f b j t m) o) later) 0)) asked
 
@@ -138,21 +138,21 @@ module _ (code : Code) (lawful : IsLawful code) (f : ℕ) where
     wakes_so j m (x ∷ ss) s follow i =
         let end : (j + 1) + length ss ≡ j + suc (length ss) = omega arith in
         by (kind_with m x.instr (b && length ss == 0)) refl i
-        (λ g. subst (λ e. WakesSo e s) end (wakes_so (j + 1) (marked m x.instr) ss s follow.1 g))
+        (λ g. subst (λ e. WakesSo e s) end (wakes_so (j + 1) (marks_after_instr m x.instr) ss s follow.1 g))
       where
         by_kind : (k : EventKind) → kind_with m x.instr (b && length ss == 0) ≡ Some k
-            → In s (cons_option (sleep_by j (slice_get (events_from code f b (j + 1) (marked m x.instr) ss) 0) k)
-            (sleeps_of (events_from code f b (j + 1) (marked m x.instr) ss)))
-            → (In s (sleeps_of (events_from code f b (j + 1) (marked m x.instr) ss)) → WakesSo (j + suc (length ss)) s) → WakesSo (j + suc (length ss)) s
+            → In s (cons_option (sleep_by j (slice_get (events_from code f b (j + 1) (marks_after_instr m x.instr) ss) 0) k)
+            (sleeps_of (events_from code f b (j + 1) (marks_after_instr m x.instr) ss)))
+            → (In s (sleeps_of (events_from code f b (j + 1) (marks_after_instr m x.instr) ss)) → WakesSo (j + suc (length ss)) s) → WakesSo (j + suc (length ss)) s
         by_kind (kind.Sleep c l) e (inl same) rest =
             subst (WakesSo (j + suc (length ss))) same
-            (begun_so j c l (marked m x.instr) x ss (sleep_is m x.instr (b && length ss == 0) c l e) follow.0)
+            (begun_so j c l (marks_after_instr m x.instr) x ss (sleep_is m x.instr (b && length ss == 0) c l e) follow.0)
         by_kind (kind.Sleep c l) e (inr i) rest = rest i
         by_kind k e i rest = rest i
 
         by : (o : Option EventKind) → kind_with m x.instr (b && length ss == 0) ≡ o
-            → In s (sleeps_of (cons_option (option_map (event_at code f b j x m) o) (events_from code f b (j + 1) (marked m x.instr) ss)))
-            → (In s (sleeps_of (events_from code f b (j + 1) (marked m x.instr) ss)) → WakesSo (j + suc (length ss)) s) → WakesSo (j + suc (length ss)) s
+            → In s (sleeps_of (cons_option (option_map (event_at code f b j x m) o) (events_from code f b (j + 1) (marks_after_instr m x.instr) ss)))
+            → (In s (sleeps_of (events_from code f b (j + 1) (marks_after_instr m x.instr) ss)) → WakesSo (j + suc (length ss)) s) → WakesSo (j + suc (length ss)) s
         by None e i rest = rest i
         by (Some k) e i rest = by_kind k e i rest
 
@@ -162,8 +162,8 @@ pub walk_wakes : (code : Code) (lawful : IsLawful code) (log : Log) (w : Walk) �
 walk_wakes code lawful log w k s i =
     let ss = steps_at code w.function w.places in
     let long : 0 + length ss ≡ length w.places = omega (arith, length-map w.places (step_at code w.function)) in
-    let events : w.sleeps ≡ sleeps_of (events_from code w.function (fails_in log w.name) 0 (unmarked code w.function) ss) =
+    let events : w.sleeps ≡ sleeps_of (events_from code w.function (fails_in log w.name) 0 (marks_at_start code w.function) ss) =
     k.sleeps ∙ ap sleeps_of k.events in
     subst (λ e. WakesSo code lawful w.function e s) long
-    (wakes_so code lawful w.function (fails_in log w.name) 0 (unmarked code w.function) ss s
+    (wakes_so code lawful w.function (fails_in log w.name) 0 (marks_at_start code w.function) ss s
     (wakes_follow code lawful w.function k.path.steps 0 k.path.outcomes w.places k.places) (subst (In s) events i))

@@ -20,7 +20,7 @@ use Rattle.run_history.specs.Locals.{asks_next}
 use Rattle.run_history.specs.Told.{is_thread_in, steps_in, failed_in}
 use Rattle.path_walk.specs.Events.{excludes, is_impossible}
 use Rattle.path_walk.specs.Fits.{fails_in, places_in}
-use Rattle.path_walk.specs.Marks.{Marks, unmarked, marks_after, marked_steps}
+use Rattle.path_walk.specs.Marks.{Marks, marks_at_start, marks_after, marked_steps}
 use Rattle.path_walk.specs.Paths.{Walk, paths_of}
 use Rattle.path_walk.specs.Steps.{Step, Onward, onward, places_from, end_from, step_at, steps_at}
 use Rattle.path_laws.specs.Setting.{Setting}
@@ -177,12 +177,12 @@ module _ {B : Type 0} (setting : Setting B) (history : HistoryAlong setting) (th
 
   -- the marks after the steps before it
   abbrev marks_now : Local → Marks
-  marks_now l = marks_after (unmarked code w.function) (take l.steps (steps_at code w.function w.places))
+  marks_now l = marks_after (marks_at_start code w.function) (take l.steps (steps_at code w.function w.places))
 
   pub has_marks : (x : IsNextOnPath code h w) → HasMarks x.local (marks_now x.local)
   has_marks x =
-      subst (λ ss. HasMarks x.local (marks_after (unmarked code w.function) ss)) (sym (take-map (step_at code w.function) x.local.steps w.places))
-      (subst (λ f. HasMarks x.local (marks_after (unmarked code f) (steps_at code f (take x.local.steps w.places)))) x.function (along_next x).marks)
+      subst (λ ss. HasMarks x.local (marks_after (marks_at_start code w.function) ss)) (sym (take-map (step_at code w.function) x.local.steps w.places))
+      (subst (λ f. HasMarks x.local (marks_after (marks_at_start code f) (steps_at code f (take x.local.steps w.places)))) x.function (along_next x).marks)
 
   -- whether the next step is the one that fails
   pub fails_there : (x : IsNextOnPath code h w)
@@ -199,7 +199,7 @@ module _ {B : Type 0} (setting : Setting B) (history : HistoryAlong setting) (th
       let fails = fails_in log w.name in
       let place = ap (slice_get w.places) x.steps ∙ x.place in
       let step = path_step code w n x.local.instruction x.instr place x.at in
-      let marked = marked_at fails 0 (unmarked code w.function) ss n (record { place = x.local.instruction; instr = x.instr }) step in
+      let marked = marked_at fails 0 (marks_at_start code w.function) ss n (record { place = x.local.instruction; instr = x.instr }) step in
       let possible = no_element is_impossible (marked_steps code w.function fails ss) n _ (k.alive dead) marked in
       wanted_by x.local (marks_now x.local) x.instr (fails_next log h w) (has_marks x)
       (ap (excludes (marks_now x.local) x.instr) (sym (fails_there x)) ∙ possible)

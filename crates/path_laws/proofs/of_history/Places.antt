@@ -6,7 +6,7 @@ use Rattle.std.proofs.lemmas.Option.{none-some, same_Some}
 use Rattle.tc_code.specs.Code.{Code, instr_at}
 use Rattle.tc_code.specs.declared.instr.Instr.{Instr}
 use Rattle.path_walk.specs.Steps.{Step, Onward, onward, places_from, end_from}
-use Rattle.path_walk.specs.Marks.{Marks, Marked, marked, marks_after, marked_from}
+use Rattle.path_walk.specs.Marks.{Marks, Marked, marks_after_instr, marks_after, marked_from}
 use Rattle.path_walk.proofs.Places.{unrolled, end_more}
 use Rattle.path_laws.proofs.Local.{onward_more}
 
@@ -77,12 +77,12 @@ marked_at fails j m (x ∷ ss) zero s at =
     the_marked n y = record { number = n; step = y; fails = fails && length ss == 0; marks = m }
 marked_at fails j m (x ∷ ss) (suc k) s at =
     let number : (j + 1) + k ≡ j + suc k = omega arith in
-    marked_at fails (j + 1) (marked m x.instr) ss k s at ∙ ap (λ n. Some (the_marked n)) number
+    marked_at fails (j + 1) (marks_after_instr m x.instr) ss k s at ∙ ap (λ n. Some (the_marked n)) number
   where
     the_marked : ℕ → Marked
     the_marked n = record {
       number = n;
       step = s;
       fails = fails && length (drop (suc k) ss) == 0;
-      marks = marks_after (marked m x.instr) (take k ss);
+      marks = marks_after (marks_after_instr m x.instr) (take k ss);
     }

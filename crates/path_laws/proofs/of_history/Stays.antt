@@ -18,7 +18,7 @@ use Rattle.tc_base.specs.declared.request.Request.{Request}
 use Rattle.tc_base.specs.declared.request.Request.TheVariants.{Silent, Start, Fail}
 use Rattle.tc_base.proofs.Names.{same_refl}
 use Rattle.tc_code.specs.Code.{Code}
-use Rattle.tc_code.specs.Step.{request, instr_of, arguments_of, local_after, branched, is_nonzero, value_in}
+use Rattle.tc_code.specs.Step.{request, instr_of, arguments_of, local_after, step_by_branch, is_nonzero, value_in}
 use Rattle.tc_code.specs.declared.instr.Instr.{Instr}
 use Rattle.tc_code.specs.declared.instr.Instr.TheVariants.{Branch, Exit}
 use Rattle.run_laws.proofs.Names.{get_put_cases}
@@ -33,7 +33,7 @@ use Rattle.run_follows.proofs.Follows.{nothing_follows, follow_push}
 use Rattle.list_laws.proofs.Lists.{split_at, get_seam}
 use Rattle.path_walk.specs.Fits.{starts, started, ending_of, fails_in, child_function, function_of, Fits}
 use Rattle.path_walk.specs.Paths.{Walk}
-use Rattle.path_walk.specs.Steps.{Step, is_failing, ended, places_from, places_of, step_at, steps_at}
+use Rattle.path_walk.specs.Steps.{Step, is_failing, places_if_well_ended, places_from, places_of, step_at, steps_at}
 use Rattle.path_walk.specs.declared.ending.Ending.{Ending}
 use Rattle.path_walk.specs.declared.ending.Ending.TheVariants.{Fails, Rests, Open}
 use Rattle.path_walk.specs.declared.fault.Misfit.TheVariants as misfit
@@ -66,7 +66,7 @@ module _ (code : Code) (log : Log) (fits : Fits code log) where
   no_failing_start f Rests p ps told = refl
   no_failing_start f Fails p ps told = by (0 == p.steps) refl
     where
-      fails_nowhere : (os : List Bool) → ended code f Fails p (places_from code f 0 0 os) ≡ Ok ps → ⊥
+      fails_nowhere : (os : List Bool) → places_if_well_ended code f Fails p (places_from code f 0 0 os) ≡ Ok ps → ⊥
       fails_nowhere [] e = cc
       fails_nowhere (o ∷ os) e = cc
 
@@ -74,7 +74,7 @@ module _ (code : Code) (log : Log) (fits : Fits code log) where
       by false e = refl
       by true e =
           let none : p.steps ≡ 0 = sym (eqb-true 0 p.steps e) in
-          absurd (fails_nowhere p.outcomes (ap (λ n. ended code f Fails p (places_from code f n 0 p.outcomes)) (sym none) ∙ told))
+          absurd (fails_nowhere p.outcomes (ap (λ n. places_if_well_ended code f Fails p (places_from code f n 0 p.outcomes)) (sym none) ∙ told))
 
   -- a thread whose function is known is on its path at its beginning
   pub born_on : (n : Name) (f : ℕ) (vs : List ℤ) → function_of code log n ≡ Some f → IsOnPath log None n (born_local code f vs)
@@ -106,7 +106,7 @@ module _ (code : Code) (log : Log) (fits : Fits code log) where
 
 -- A step.
 
-branch_adds : (t : Local) (b : Bool) (to : ℕ) → (branched t b to).outcomes ≡ t.outcomes ++ b ∷ []
+branch_adds : (t : Local) (b : Bool) (to : ℕ) → (step_by_branch t b to).outcomes ≡ t.outcomes ++ b ∷ []
 branch_adds t true to = refl
 branch_adds t false to = refl
 

@@ -18,7 +18,7 @@ use Rattle.run_history.proofs.Threads.{none_done}
 use Rattle.run_log.specs.Logs.{is_log}
 use Rattle.path_walk.specs.Events.{events_of, regions_of, sleeps_of, is_impossible}
 use Rattle.path_walk.specs.Fits.{ending_of, fails_in, places_in, function_of, Fits}
-use Rattle.path_walk.specs.Marks.{unmarked, marks_after, marked_steps}
+use Rattle.path_walk.specs.Marks.{marks_at_start, marks_after, marked_steps}
 use Rattle.path_walk.specs.Paths.{Walk, blocked_after, is_dead, walk_of, paths_of}
 use Rattle.path_walk.specs.Steps.{places_from, places_of, steps_at, standing}
 use Rattle.path_walk.proofs.Faults.{walked_there, by_path, fitting}
@@ -45,7 +45,7 @@ pub record IsWalk (code : Code) (log : Log) (w : Walk) : Type 0 where
   pub regions : w.regions ≡ regions_of w.events
   pub sleeps : w.sleeps ≡ sleeps_of w.events
   pub blocked : w.blocked
-      ≡ blocked_after (ending_of log w.name) (marks_after (unmarked code w.function) (steps_at code w.function w.places)) w.sleeps
+      ≡ blocked_after (ending_of log w.name) (marks_after (marks_at_start code w.function) (steps_at code w.function w.places)) w.sleeps
       (standing code w.function path)
   -- if the paths aren't dead, no step of the thread is one that no run can do
   pub alive : (paths_of code log).dead ≡ false

@@ -17,7 +17,7 @@ use Rattle.run_history.proofs.Lists.{filter_map-push}
 use Rattle.list_laws.proofs.Lists.{get_seam}
 use Rattle.path_walk.specs.Events.{asks, event_of, events_of, sleep_by, sleeps_of, last_sleep, blocked_at}
 use Rattle.path_walk.specs.Fits.{ending_of}
-use Rattle.path_walk.specs.Marks.{Marks, Marked, unmarked, marks_after, marked_from, marked_steps}
+use Rattle.path_walk.specs.Marks.{Marks, Marked, marks_at_start, marks_after, marked_from, marked_steps}
 use Rattle.path_walk.specs.Paths.{Walk, blocked_after}
 use Rattle.path_walk.specs.Steps.{Onward, onward, places_from, end_from, standing, is_failing, step_at, steps_at}
 use Rattle.path_walk.specs.Steps as path
@@ -160,11 +160,11 @@ module _ (code : Code) (lawful : IsLawful code) (log : Log) (w : Walk) (k : IsWa
   rests_at_wake c m n is = by (ending_of log w.name) refl (standing code w.function k.path) refl (sym k.blocked ∙ is)
     where
       by : (e : Ending) → ending_of log w.name ≡ e → (o : Option Instr) → standing code w.function k.path ≡ o
-          → blocked_after e (marks_after (unmarked code w.function) (steps_at code w.function w.places)) w.sleeps o ≡ Some (blocked.Wake c m n)
+          → blocked_after e (marks_after (marks_at_start code w.function) (steps_at code w.function w.places)) w.sleeps o ≡ Some (blocked.Wake c m n)
           → RestsAtWake c m n
       by Rests e None at b = absurd (none-some (blocked.Wake c m n) b)
       by Rests e (Some i) at b =
-          let is = blocked_wake (marks_after (unmarked code w.function) (steps_at code w.function w.places)) w.sleeps i c m n b in
+          let is = blocked_wake (marks_after (marks_at_start code w.function) (steps_at code w.function w.places)) w.sleeps i c m n b in
           record { rests = ap is_failing e; at = at ∙ ap (λ x. Some x) is.0; last = is.1 }
       by Fails e o at b = absurd (none-some (blocked.Wake c m n) b)
       by Open e o at b = absurd (none-some (blocked.Wake c m n) b)
@@ -185,7 +185,7 @@ module _ (code : Code) (lawful : IsLawful code) (log : Log) (w : Walk) (k : IsWa
           let sleep : l.instr ≡ Sleep c m = sleep_before code g l.place l.to.place c m l.instr lawful l.at wake (leads_by l.place l.instr l.more l.to l.leads) in
           let front = steps_at code g l.front in
           let s = step_at code g l.place in
-          let start = unmarked code g in
+          let start = marks_at_start code g in
           let own : Marked = record { number = 0 + length front; step = s; fails = false; marks = marks_after start front } in
           let ev : Event = record { step = 0 + length front; line = unwrap_or (line_at code g l.place) 0; kind = kind.Sleep c m; bars = (marks_after start front).bars } in
           let is_it : s.instr ≡ Sleep c m = ap (λ o. unwrap_or o Exit) l.at ∙ sleep in

@@ -25,9 +25,9 @@ use Rattle.run_history.specs.Told.{has_exited_in, is_thread_in}
 use Rattle.run_follows.specs.Logged.{path_by}
 use Rattle.path_walk.specs.Events.{blocked_at}
 use Rattle.path_walk.specs.Fits.{ending_by, ending_of}
-use Rattle.path_walk.specs.Marks.{Marks, unmarked, marks_after}
+use Rattle.path_walk.specs.Marks.{Marks, marks_at_start, marks_after}
 use Rattle.path_walk.specs.Paths.{blocked_after}
-use Rattle.path_walk.specs.Steps.{is_failing, can_block, ended, standing, steps_at}
+use Rattle.path_walk.specs.Steps.{is_failing, can_block, places_if_well_ended, standing, steps_at}
 use Rattle.path_walk.specs.declared.ending.Ending.TheVariants.{Rests}
 use Rattle.path_walk.specs.declared.event.Sleep.{Sleep as Wait}
 use Rattle.path_walk.specs.declared.fault.Misfit.{Misfit}
@@ -64,7 +64,7 @@ asks_there t m ss (Join v) marks can = ap (λ hs. Some (Await (child_number (sli
 asks_there t m ss i marks can = absurd (true≢false (sym can))
 
 -- a thread that rests is at an instruction that can block
-can_be_blocked : (code : Code) (f : ℕ) (p : Path) (ps : List ℕ) (i : Instr) → ended code f Rests p (Ok ps) ≡ Ok ps → standing code f p ≡ Some i
+can_be_blocked : (code : Code) (f : ℕ) (p : Path) (ps : List ℕ) (i : Instr) → places_if_well_ended code f Rests p (Ok ps) ≡ Ok ps → standing code f p ≡ Some i
     → can_block i ≡ true
 can_be_blocked code f p ps i told at = by (can_block i) (ap (λ o. cond (option_map_or can_block o true) (the_ok ps) (Err NotBlocked)) (sym at) ∙ told)
   where
@@ -109,10 +109,10 @@ module _ {B : Type 0} (setting : Setting B) (history : HistoryAlong setting) (th
       ap₂ (standing code) (sym k.function) (sym path) ∙ ap (instr_at code t.local.function) stands.end
 
   abbrev marks : Marks
-  marks = marks_after (unmarked code w.function) (steps_at code w.function w.places)
+  marks = marks_after (marks_at_start code w.function) (steps_at code w.function w.places)
 
   has_marks : HasMarks t.local marks
-  has_marks = subst (λ f. HasMarks t.local (marks_after (unmarked code f) (steps_at code f w.places))) k.function stands.marks
+  has_marks = subst (λ f. HasMarks t.local (marks_after (marks_at_start code f) (steps_at code f w.places))) k.function stands.marks
 
   blocked_is : w.blocked ≡ option_and_then (blocked_at marks w.sleeps) (instr_at code t.local.function t.local.instruction)
   blocked_is = k.walk.blocked ∙ ap₂ (λ e o. blocked_after e marks w.sleeps o) rests standing_there
@@ -134,9 +134,9 @@ module _ {B : Type 0} (setting : Setting B) (history : HistoryAlong setting) (th
         | inr going ↦
             let i = has_next ops code r.state lawful (reached machine log h r) w.name t here going in
             let at = at_its_place code t.local i.0 i.1 in
-            let fit : ended code w.function Rests k.walk.path (Ok w.places) ≡ Ok w.places =
-            ap (λ e. ended code w.function e k.walk.path (Ok w.places)) (sym rests)
-            ∙ ap (ended code w.function (ending_of log w.name) k.walk.path) (sym k.walk.places)
+            let fit : places_if_well_ended code w.function Rests k.walk.path (Ok w.places) ≡ Ok w.places =
+            ap (λ e. places_if_well_ended code w.function e k.walk.path (Ok w.places)) (sym rests)
+            ∙ ap (places_if_well_ended code w.function (ending_of log w.name) k.walk.path) (sym k.walk.places)
             ∙ k.walk.fits in
             ap (option_map (request t.local)) i.1
             ∙ asks_there t.local marks w.sleeps i.0 has_marks (can_be_blocked code w.function k.walk.path w.places i.0 fit (standing_there ∙ at))

@@ -6,7 +6,7 @@ use Rattle.std.proofs.lemmas.Option.{none-some, same_Some}
 use Rattle.tc_base.specs.Names.{Name}
 use Rattle.run_history.specs.Told.{owner_in, steps_in}
 use Rattle.run_history.proofs.of_pending.In.{In}
-use Rattle.path_walk.specs.Events.{takes}
+use Rattle.path_walk.specs.Events.{acquired_mutex}
 use Rattle.path_walk.specs.Paths.{Walk, paths_of}
 use Rattle.path_walk.specs.declared.event.EventKind.{EventKind}
 use Rattle.path_walk.specs.declared.event.EventKind.TheVariants as kind
@@ -28,12 +28,12 @@ use Rattle.plan_runs.proofs.of_waits.Worlds.{are_whole, walk, rising, in_turn, w
 use Rattle.plan_runs.proofs.Histories.{history_of}
 
 -- a store acquires no mutex
-no_store : (k : EventKind) (m : ℕ) → takes k ≡ Some m → is_store k ≡ false
+no_store : (k : EventKind) (m : ℕ) → acquired_mutex k ≡ Some m → is_store k ≡ false
 no_store kind.Store m takes_it = absurd (none-some m takes_it)
 no_store k m takes_it = refl
 
 module _ {B : Type 0} (setting : Setting B) (nodes : List Node) (w : World) (lawful : IsLawfulWorld setting nodes w) (at : NextEvent setting nodes w) (m : ℕ)
-    (takes_it : takes at.event.kind ≡ Some m) where
+    (takes_it : acquired_mutex at.event.kind ≡ Some m) where
   open setting use {code, log}
   open at use {position as p, deeds as h, thread, event as x, among}
   open thread use {index as t, walk as q, there as own_there}

@@ -17,7 +17,7 @@ use Rattle.run_history.proofs.of_pending.In.{In}
 use Rattle.run_log.specs.Logs.{is_log}
 use Rattle.path_walk.specs.Events.{asks, kind_with}
 use Rattle.path_walk.specs.Fits.{starts, started, fails_in, places_in, child_function, function_of, Fits}
-use Rattle.path_walk.specs.Marks.{Marks, unmarked, marked, marks_after}
+use Rattle.path_walk.specs.Marks.{Marks, marks_at_start, marks_after_instr, marks_after}
 use Rattle.path_walk.specs.Paths.{Walk}
 use Rattle.path_walk.specs.Steps.{Step, is_site, step_at, steps_at}
 use Rattle.path_walk.specs.declared.event.Event.{Event}
@@ -53,19 +53,19 @@ record StartedAt (m : Marks) (ss : List Step) (j f : ℕ) : Type 0 where
 
 started_at : (m : Marks) (ss : List Step) (j f : ℕ) → slice_get (started ss) j ≡ Some f → StartedAt m ss j f
 started_at m [] j f at = absurd (none-some f at)
-started_at m (s ∷ ss) j f at = by s.instr refl j at (λ k e. started_at (marked m s.instr) ss k f e)
+started_at m (s ∷ ss) j f at = by s.instr refl j at (λ k e. started_at (marks_after_instr m s.instr) ss k f e)
   where
-    further : (a : Instr) (i n : ℕ) → s.instr ≡ a → (marked m a).children + i ≡ m.children + n → StartedAt (marked m a) ss i f → StartedAt m (s ∷ ss) n f
+    further : (a : Instr) (i n : ℕ) → s.instr ≡ a → (marks_after_instr m a).children + i ≡ m.children + n → StartedAt (marks_after_instr m a) ss i f → StartedAt m (s ∷ ss) n f
     further a i n is sum o = record {
       place = suc o.place;
       step = o.step;
       there = o.there;
       creates = o.creates;
-      children = ap (λ b. (marks_after (marked m b) (take o.place ss)).children) is ∙ o.children ∙ sum;
+      children = ap (λ b. (marks_after (marks_after_instr m b) (take o.place ss)).children) is ∙ o.children ∙ sum;
     }
 
     by : (a : Instr) → s.instr ≡ a → (i : ℕ) → slice_get (cons_option (starts a) (started ss)) i ≡ Some f
-        → ((k : ℕ) → slice_get (started ss) k ≡ Some f → StartedAt (marked m a) ss k f) → StartedAt m (s ∷ ss) i f
+        → ((k : ℕ) → slice_get (started ss) k ≡ Some f → StartedAt (marks_after_instr m a) ss k f) → StartedAt m (s ∷ ss) i f
     by (Create h g es) is zero e rest =
         let none : m.children ≡ m.children + 0 = omega arith in
         record { place = 0; step = s; there = refl; creates = ap starts is ∙ e; children = none }
@@ -79,11 +79,11 @@ module _ (code : Code) (log : Log) where
     abbrev steps : List Step
     steps = steps_at code v.function v.places
 
-    abbrev s : StartedAt (unmarked code v.function) steps j f
-    s = started_at (unmarked code v.function) steps j f at
+    abbrev s : StartedAt (marks_at_start code v.function) steps j f
+    s = started_at (marks_at_start code v.function) steps j f at
 
     abbrev marks : Marks
-    marks = marks_after (unmarked code v.function) (take s.place steps)
+    marks = marks_after (marks_at_start code v.function) (take s.place steps)
 
     abbrev fails : Bool
     fails = fails_in log v.name && length (drop (suc s.place) steps) == 0
@@ -112,7 +112,7 @@ module _ (code : Code) (log : Log) where
     create_event = (
       event_at code v.function (fails_in log v.name) (0 + s.place) s.step marks (kind.Create (suc j)),
       subst (In (event_at code v.function (fails_in log v.name) (0 + s.place) s.step marks (kind.Create (suc j)))) (sym k.events)
-          (event_there code v.function (fails_in log v.name) 0 (unmarked code v.function) steps s.place s.step (kind.Create (suc j)) s.there asks_it),
+          (event_there code v.function (fails_in log v.name) 0 (marks_at_start code v.function) steps s.place s.step (kind.Create (suc j)) s.there asks_it),
       refl,
     )
 

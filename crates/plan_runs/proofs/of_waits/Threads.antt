@@ -25,7 +25,7 @@ use Rattle.run_history.specs.Told.{creates, is_thread_in, steps_in, children_in,
 use Rattle.run_history.proofs.Lists.{last_or-push}
 use Rattle.run_history.proofs.of_pending.In.{In, in_at, in_mapped, in_any}
 use Rattle.path_walk.specs.Events.{kind_with}
-use Rattle.path_walk.specs.Marks.{Marks, unmarked, marks_after, handle_in}
+use Rattle.path_walk.specs.Marks.{Marks, marks_at_start, marks_after, handle_in}
 use Rattle.path_walk.specs.Paths.{Walk, Paths, paths_of}
 use Rattle.path_walk.specs.Steps.{Step, steps_at}
 use Rattle.path_walk.specs.Events as events
@@ -170,7 +170,7 @@ module _ {B : Type 0} (setting : Setting B) (nodes : List Node) (w : World) (law
       let a = thread_next setting history thread at.gone.going next in
       let i = walking setting history thread a.0 a.1 in
       let e = at_step code log q i.walk x (in_contains x q.events x_among) in
-      let j = join_is (marks_after (unmarked code q.function) (take e.place steps)) e.step.instr _ k (e.asks ∙ ap (λ b. Some b) joins) in
+      let j = join_is (marks_after (marks_at_start code q.function) (take e.place steps)) e.step.instr _ k (e.asks ∙ ap (λ b. Some b) joins) in
       let place_is : e.place ≡ steps_in h q.name = omega (arith, e.number, at.steps) in
       let step = path_step code q (steps_in h q.name) next.local.instruction next.instr next.place next.at in
       let same = same_Some e.step (record { place = next.local.instruction; instr = next.instr }) (sym e.there ∙ ap (slice_get steps) place_is ∙ step) in
@@ -179,8 +179,8 @@ module _ {B : Type 0} (setting : Setting B) (nodes : List Node) (w : World) (law
       let done = steps_of machine log h r q.name a.0 a.1 in
       let at_place : a.0.local.steps ≡ e.place = done ∙ sym place_is in
       let marks = (thread_marks setting history thread a.0 i).handles in
-      let handle : handle_in (marks_after (unmarked code q.function) (take e.place steps)) j.0 ≡ handle_of a.0.local j.0 =
-      ap (λ n. handle_in (marks_after (unmarked code q.function) (take n steps)) j.0) (sym at_place) ∙ ap (λ hs. slice_index_or hs j.0 Unset) marks in
+      let handle : handle_in (marks_after (marks_at_start code q.function) (take e.place steps)) j.0 ≡ handle_of a.0.local j.0 =
+      ap (λ n. handle_in (marks_after (marks_at_start code q.function) (take n steps)) j.0) (sym at_place) ∙ ap (λ hs. slice_index_or hs j.0 Unset) marks in
       let is_reached = reached machine log h r in
       let can = (reached_has_tested ops code r.state setting.lawful is_reached q.name a.0 a.1).join j.0 now in
       let held = handles_are_children ops code r.state is_reached q.name a.0 a.1 j.0 in

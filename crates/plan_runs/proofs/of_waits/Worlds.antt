@@ -6,7 +6,7 @@ use Rattle.std.proofs.lemmas.Bool.{false≢true}
 use Rattle.run_history.specs.History.{Deed}
 use Rattle.run_history.specs.Told.{steps_in}
 use Rattle.path_walk.specs.Fits.{fails_in}
-use Rattle.path_walk.specs.Marks.{unmarked}
+use Rattle.path_walk.specs.Marks.{marks_at_start}
 use Rattle.path_walk.specs.Paths.{Walk, paths_of}
 use Rattle.path_walk.specs.Steps.{steps_at}
 use Rattle.path_walk.specs.declared.event.Event.{Event}
@@ -37,7 +37,7 @@ module _ {B : Type 0} (setting : Setting B) (nodes : List Node) (w : World) (law
   pub rising : (t : ℕ) (q : Walk) → IsThread code log t q → Rising q.events
   rising t q there =
       subst Rising (sym (walk t q there).events)
-      (events_rise code q.function (fails_in log q.name) 0 (unmarked code q.function) (steps_at code q.function q.places))
+      (events_rise code q.function (fails_in log q.name) 0 (marks_at_start code q.function) (steps_at code q.function q.places))
 
   -- an event other than a store comes before the later ones of its thread
   pub in_turn : (t : ℕ) (q : Walk) (x y : Event) → IsThread code log t q → Contains q.events x → Contains q.events y → is_store x.kind ≡ false

@@ -208,7 +208,7 @@ module _ {B : Type 0} (ops : BufferOps B) (model : Model) (bound : Binding) (law
       let out = laws.drain_stands t.buffer ps form some.older some.store some.newer st some.drains in
       let split = split_at (pending_issues ops.buffered h n) some.older (Store some.store) some.newer some.drains.there in
       subst (λ d. Named (h ++ d ∷ []))
-      (sym (deed_is ops model bound laws code s (machine.drained ops s n t form) h n t form here refl some.older some.store some.newer some.drains.is_free out
+      (sym (deed_is ops model bound laws code s (machine.state_after_drain ops s n t form) h n t form here refl some.older some.store some.newer some.drains.is_free out
       a.buffers split))
       (named_drained h n split.at.number some.store
       (is_issued ops.buffered h n split.at some.store (subst (In split.at) (sym split.there) (in_at split.older split.at split.newer)) split.what) a.named)

@@ -18,7 +18,7 @@ use Rattle.tc_base.specs.declared.request.Request.TheVariants.{Silent, Write, Ba
 use Rattle.tc_code.specs.declared.instr.Instr.{Instr}
 use Rattle.tc_code.specs.declared.instr.Instr.TheVariants.{Signal}
 use Rattle.tc_code.specs.Code.{Code}
-use Rattle.tc_code.specs.Step.{perform, born, woken, opening}
+use Rattle.tc_code.specs.Step.{perform, born, state_after_wake, opening}
 use Rattle.tc_code.specs.Step as machine
 use Rattle.tc_code.specs.Run.{IsReached}
 use Rattle.run_laws.proofs.Names.{same_self, same_other, is_same, same_or_apart, get_put_cases}
@@ -26,7 +26,7 @@ use Rattle.store_buffers.specs.Pending.{Pending, Store, Bar as barred, Binding, 
 use Rattle.store_buffers.specs.Laws.{Laws, TakesOut}
 use Rattle.store_buffers.specs.helpers.Lists.{store_last, bar_last}
 use Rattle.run_history.specs.History.{Deed, Did, Drained, Issue, same, issue_of, drains, has_drained, pending_issues, pending, oldest_to}
-use Rattle.run_history.specs.History.{drained, taken, created_by}
+use Rattle.run_history.specs.History.{drained, value_taken, created_by}
 use Rattle.run_history.specs.Told.{is_step_of, steps_in}
 use Rattle.run_history.proofs.of_pending.Issues.{AllBelow, Rises, below_more, none_below_zero, rises_push, rises_filter}
 use Rattle.run_history.proofs.of_pending.Issues.{filter-twice, isnt, taken_out, whats, SplitAt, split_at, oldest_is}
@@ -328,25 +328,25 @@ module _ {B : Type 0} (ops : BufferOps B) (model : Model) (bound : Binding) (law
 
   drain_keeps : (s : State B) (h : List Deed) (n : Name) (t : Thread B) (form : Option ℕ) → fin.get s.threads n ≡ Some t
       → IsTrue (ops.may_drain t.buffer form) → BuffersAre s h
-      → BuffersAre (machine.drained ops s n t form) (h ++ drained ops code h n (ops.drain t.buffer form).entry ∷ [])
+      → BuffersAre (machine.state_after_drain ops s n t form) (h ++ drained ops code h n (ops.drain t.buffer form).entry ∷ [])
   drain_keeps s h n t form here may a =
       let ps = pending ops.buffered h n in
       let some = laws.may_drain_stands t.buffer ps form (a.stands n t here) may in
       let out = laws.drain_stands t.buffer ps form some.older some.store some.newer (a.stands n t here) some.drains in
-      buffers_flushed s (machine.drained ops s n t form) h n t form here refl some.older some.store some.newer some.drains.is_free out a
+      buffers_flushed s (machine.state_after_drain ops s n t form) h n t form here refl some.older some.store some.newer some.drains.is_free out a
       (split_at (pending_issues ops.buffered h n) some.older (Store some.store) some.newer some.drains.there)
 
   pub keeps_buffers : Keeps ops code BuffersAre
   keeps_buffers = record {
     ran = λ s h n t i r reached _ here _ asks _ a.
         let u = perform ops code s n t i r in
-        let v = taken ops code s t r in
+        let v = value_taken ops code s t r in
         let o = created_by ops code n t.local r in
         let is = performed_threads ops code s n t i r in
         buffers_by s u h n t i r v o reached here is a
         (threads_by ops code s u h n t i r v o reached here asks is (makes_what ops code n t.local t.local.steps r v) a.threads);
     waked = λ s h n w t c reached _ here _ _ _ a.
-        let u = woken ops s n w t c in
+        let u = state_after_wake ops s n w t c in
         buffers_by s u h n t (Signal c) (WakeOne c) (pos 0) (Some w) reached here refl a
         (threads_by ops code s u h n t (Signal c) (WakeOne c) (pos 0) (Some w) reached here refl refl refl a.threads);
     flushed = λ s h n t form _ _ here may a. drain_keeps s h n t form here may a;

@@ -18,7 +18,7 @@ use Rattle.run_history.specs.History.{Deed, Did, pending}
 use Rattle.run_history.specs.Told.{steps_in, owner_in, waiting_in}
 use Rattle.run_follows.specs.Follow.{may_do_in}
 use Rattle.run_history.specs.pending.Deeds.{DeedName, name_of}
-use Rattle.path_walk.specs.Events.{takes, leaves}
+use Rattle.path_walk.specs.Events.{acquired_mutex, released_mutex}
 use Rattle.path_walk.specs.Paths.{Walk, Paths}
 use Rattle.path_walk.specs.declared.event.Event.{Event}
 use Rattle.path_walk.specs.declared.event.EventKind.{EventKind}
@@ -41,11 +41,11 @@ use Rattle.run_lawful.proofs.of_waits.Deeds.{none_pending, regions_are, h, paths
 use Rattle.run_lawful.proofs.of_waits.Parts.{IsRegionOf, region_of_events, Takes, Locks, Wakes, taker_is}
 
 -- an event that acquires or releases a mutex isn't a store
-taker_no_store : (k : EventKind) (m : ℕ) → takes k ≡ Some m → is_store k ≡ false
+taker_no_store : (k : EventKind) (m : ℕ) → acquired_mutex k ≡ Some m → is_store k ≡ false
 taker_no_store kind.Store m t = absurd (none-some m t)
 taker_no_store k m t = refl
 
-leaver_no_store : (k : EventKind) (m : ℕ) → leaves k ≡ Some m → is_store k ≡ false
+leaver_no_store : (k : EventKind) (m : ℕ) → released_mutex k ≡ Some m → is_store k ≡ false
 leaver_no_store kind.Store m t = absurd (none-some m t)
 leaver_no_store k m t = refl
 

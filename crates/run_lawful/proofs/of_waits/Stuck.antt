@@ -21,7 +21,7 @@ use Rattle.run_history.specs.Told.{owner_in, waiting_in, has_exited_in, steps_in
 use Rattle.run_follows.specs.blocked.Stuck.{IsBlockedIn}
 use Rattle.run_log.specs.Logs.{rises_from, is_there, is_log}
 use Rattle.path_walk.specs.Fits.{Fits, ending_by}
-use Rattle.path_walk.specs.Marks.{Marks, unmarked, marks_after}
+use Rattle.path_walk.specs.Marks.{Marks, marks_at_start, marks_after}
 use Rattle.path_walk.specs.Paths.{Walk, Paths, blocked_after}
 use Rattle.path_walk.specs.Steps.{steps_at, standing}
 use Rattle.path_walk.specs.declared.ending.Ending.{Ending}
@@ -72,9 +72,9 @@ deadlock code log is q b k blocked = by log.failing refl
           | inl at ↦
               let failing = ap (λ f. option_and_then (λ i. option_map (λ (x : ThreadPath). x.name) (slice_get log.threads i)) (place_in f)) (e ∙ this)
               ∙ ap (option_map (λ (x : ThreadPath). x.name)) at.2 in
-              unblocked at.0.name q.name (marks_after (unmarked code q.function) (steps_at code q.function q.places)) q.sleeps
+              unblocked at.0.name q.name (marks_after (marks_at_start code q.function) (steps_at code q.function q.places)) q.sleeps
               (standing code q.function k.path) b
-              (ap (λ o. blocked_after (ending_by o q.name) (marks_after (unmarked code q.function) (steps_at code q.function q.places)) q.sleeps
+              (ap (λ o. blocked_after (ending_by o q.name) (marks_after (marks_at_start code q.function) (steps_at code q.function q.places)) q.sleeps
               (standing code q.function k.path)) (sym failing) ∙ sym k.blocked ∙ blocked)
           | inr past ↦
               let less = ltb-true j (length log.threads) (ap (λ f. is_there f (length log.threads)) (sym (e ∙ this)) ∙ inside) in

@@ -8,7 +8,7 @@ use Rattle.tc_code.specs.declared.instr.Instr.{Instr}
 use Rattle.tc_code.specs.declared.instr.Instr.TheVariants.{Branch, Goto}
 use Rattle.list_laws.specs.Lists.{is_nil}
 use Rattle.path_walk.specs.Events.{excludes}
-use Rattle.path_walk.specs.Marks.{Marks, unmarked, marked}
+use Rattle.path_walk.specs.Marks.{Marks, marks_at_start, marks_after_instr}
 use Rattle.path_walk.specs.Steps.{Onward, onward, is_site, can_block}
 use Rattle.thread_marks.specs.Own.{Own, own_of}
 use Rattle.thread_paths.specs.Ends.{is_exit, is_used}
@@ -62,7 +62,7 @@ goes code f aim zero t k outcomes =
     (instr_at code f k) false
 goes code f aim (suc n) t k outcomes =
     option_map_or
-    (λ i. option_map_or (λ (on : Onward). not (excludes t i false) && goes code f aim n (marked t i) on.place on.outcomes) (onward k i outcomes) false)
+    (λ i. option_map_or (λ (on : Onward). not (excludes t i false) && goes code f aim n (marks_after_instr t i) on.place on.outcomes) (onward k i outcomes) false)
     (instr_at code f k) false
 
 -- whether the path of no steps may end this way
@@ -74,7 +74,7 @@ stays code f _ = false
 -- whether a thread may take the path with these outcomes and this number of steps
 abbrev pub takes : Code → Scope → List Bool → ℕ → Bool
 takes code scope outcomes zero = is_nil outcomes && stays code scope.function scope.aim.end
-takes code scope outcomes (suc n) = goes code scope.function scope.aim n (unmarked code scope.function) 0 outcomes
+takes code scope outcomes (suc n) = goes code scope.function scope.aim n (marks_at_start code scope.function) 0 outcomes
 
 -- whether the outcomes differ, and the second ones are true where they first do
 abbrev pub leaves_behind : List Bool → List Bool → Bool
@@ -153,7 +153,7 @@ module _ (code : Code) (scope : Scope) (start : List Bool) (first : ℕ) where
     pub few : length o ≤ scope.most
     pub value : worth scope.most o ≡ worth scope.most start
     pub same : (m : ℕ) (r : List Bool)
-        → goes code scope.function scope.aim (n + m) (unmarked code scope.function) 0 (done ++ r)
+        → goes code scope.function scope.aim (n + m) (marks_at_start code scope.function) 0 (done ++ r)
         ≡ goes code scope.function scope.aim m marks at.place r
     pub back : (r : List Bool) (s : ℕ) → is_from rest at.least r s ≡ true → is_from start first (done ++ r) s ≡ true
     pub behind : (q : List Bool) (s : ℕ) → leaves_behind o q ≡ true → is_from start first q s ≡ true

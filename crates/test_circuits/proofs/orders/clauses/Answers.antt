@@ -9,7 +9,7 @@ use Rattle.order_formula.specs.declared.literal.Atom.{Atom}
 use Rattle.order_formula.specs.declared.literal.Atom.TheVariants.{Before, Ends, Test}
 use Rattle.order_formula.specs.declared.literal.Literal.{Literal}
 use Rattle.order_formula.specs.Formulas.{LiteralIsOf, BodyIsOf, ConjunctIsOf}
-use Rattle.order_formula.specs.Orders.{Order, LiteralIsIn, BodyIsIn, ConjunctIsIn, unasked}
+use Rattle.order_formula.specs.Orders.{Order, LiteralIsIn, BodyIsIn, ConjunctIsIn, order_without_questions}
 use Rattle.bit_terms.specs.Sizes.{terms_size}
 use Rattle.bit_blast.specs.Sizes.{atom_size, literal_size, case_size, body_size, size_of}
 use Rattle.bit_blast.proofs.Completed.{same_size}
@@ -66,7 +66,7 @@ blast-requires-clause-room c =
     let whole : formula ≡ k ∷ [] = c.in_ok-push.ensures.added ∙ ap (λ (cs : List Conjunct). cs ++ k ∷ []) c.empty-formula.ensures in
     omega (
       arith,
-      same_size (unasked 3 0) o 0 c.new.result formula events sleeps,
+      same_size (order_without_questions 3 0) o 0 c.new.result formula events sleeps,
       ap terms_size c.new.ensures,
       ap size_of whole,
       sum_by-cons (λ (d : Conjunct). body_size d.body + 1) k [],
