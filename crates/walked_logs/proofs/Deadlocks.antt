@@ -28,7 +28,7 @@ use Rattle.path_walk.specs.declared.ending.Ending.TheVariants.{Fails, Rests, Ope
 use Rattle.path_walk.specs.declared.event.Sleep.{Sleep}
 use Rattle.path_walk.specs.declared.fault.Misfit.{Misfit}
 use Rattle.path_walk.specs.declared.fault.Misfit.TheVariants.{NotBlocked}
-use Rattle.path_laws.specs.history.Along.{IsThread}
+use Rattle.path_laws.specs.history.Along.{IsThread, path_thread}
 use Rattle.path_laws.proofs.of_history.Walks.{IsWalk, walk_is}
 use Rattle.path_laws.proofs.of_events.Lists.{from_map}
 use Rattle.thread_paths.specs.Ends.{MayTake, has_end, is_exit}
@@ -106,7 +106,7 @@ module _ (code : Code) (log : Log) (lawful : IsLawful code) (normal : IsNormalDe
 
   module _ (j : ℕ) (w : Walk) (there : IsThread code log j w) where
     abbrev k : IsWalk code log w
-    k = walk_is code log normal.paths.is_log normal.paths.fits j w there
+    k = walk_is code log normal.paths.is_log normal.paths.fits (path_thread j w there)
 
     rests : option_map_or can_block (standing code w.function k.path) true ≡ true
     rests =
@@ -133,7 +133,7 @@ module _ (code : Code) (log : Log) (lawful : IsLawful code) (normal : IsNormalDe
     not_left : is_some (instr_at code w.function (says code log w k).place) ≡ false → IsLeftOver w.name → ⊥
     not_left none left =
         let v = left.walk in
-        let own = walk_is code log normal.paths.is_log normal.paths.fits left.place v left.there in
+        let own = walk_is code log normal.paths.is_log normal.paths.fits (path_thread left.place v left.there) in
         let same = same_places code log v w own k left.name in
         let path : own.path ≡ k.path =
         same_Some own.path k.path (sym own.under ∙ ap (λ n. path_under n log.threads) left.name ∙ k.under) in
@@ -146,7 +146,7 @@ module _ (code : Code) (log : Log) (lawful : IsLawful code) (normal : IsNormalDe
 
   module _ (j : ℕ) (w : Walk) (there : IsThread code log j w) where
     abbrev own : IsWalk code log w
-    own = walk_is code log normal.paths.is_log normal.paths.fits j w there
+    own = walk_is code log normal.paths.is_log normal.paths.fits (path_thread j w there)
 
     abbrev at : Option Instr
     at = instr_at code w.function (says code log w own).place

@@ -13,7 +13,7 @@ use Rattle.path_walk.specs.Fits.{fails_in, ending_by}
 use Rattle.path_walk.specs.Paths.{Walk}
 use Rattle.path_walk.specs.Steps.{is_failing}
 use Rattle.path_walk.specs.declared.ending.Ending.TheVariants.{Fails, Open}
-use Rattle.path_laws.specs.history.Along.{IsThread}
+use Rattle.path_laws.specs.history.Along.{IsThread, path_thread}
 use Rattle.path_laws.proofs.of_history.Walks.{IsWalk, walk_is}
 use Rattle.path_laws.proofs.of_events.Lists.{in_place}
 use Rattle.log_walk.specs.Rest.{MakeUp, all}
@@ -44,12 +44,12 @@ who_fails log n e =
 module _ (code : Code) (log : Log) (normal : IsNormal code log) where
   -- the child of a create that ends its creator's path acts
   child_acts : (j : ℕ) (w : Walk) (there : IsThread code log j w)
-      → (says code log w (walk_is code log normal.paths.is_log normal.paths.fits j w there)).at_create ≡ true
-      → Acts code log (child w.name (length (says code log w (walk_is code log normal.paths.is_log normal.paths.fits j w there)).created))
+      → (says code log w (walk_is code log normal.paths.is_log normal.paths.fits (path_thread j w there))).at_create ≡ true
+      → Acts code log (child w.name (length (says code log w (walk_is code log normal.paths.is_log normal.paths.fits (path_thread j w there))).created))
   child_acts j w there at = by (fails_in log w.name) refl
     where
       k : IsWalk code log w
-      k = walk_is code log normal.paths.is_log normal.paths.fits j w there
+      k = walk_is code log normal.paths.is_log normal.paths.fits (path_thread j w there)
 
       by : (b : Bool) → fails_in log w.name ≡ b → Acts code log (child w.name (length (says code log w k).created))
       by true e = absurd (false≢true (sym (create_site code log w k at) ∙ site_fails code log w k e))

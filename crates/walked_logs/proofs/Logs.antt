@@ -23,7 +23,7 @@ use Rattle.path_walk.specs.Marks.{marks_at_start}
 use Rattle.path_walk.specs.Paths.{Walk}
 use Rattle.path_walk.specs.Steps.{steps_at}
 use Rattle.path_walk.proofs.Faults.{function_of_child, missing, fitting}
-use Rattle.path_laws.specs.history.Along.{IsThread}
+use Rattle.path_laws.specs.history.Along.{IsThread, path_thread}
 use Rattle.path_laws.proofs.Logs.{place_of}
 use Rattle.path_laws.proofs.Prefixes.{own_under}
 use Rattle.path_laws.proofs.of_history.Walks.{IsWalk, walk_is, named}
@@ -117,28 +117,28 @@ pub record Facts (code : Code) (log : Log) (kind : Kind) : Type 1 where
   pub Spared : Name → Type 0
   pub EndsIt : Name → Type 0
   pub takes : (j : ℕ) (w : Walk) (there : IsThread code log j w) (e : End) (ends : Bool) → Asked w.name e → (ends ≡ true → Spared w.name)
-      → MayTake code w.function (aim_of kind ends e) (walk_is code log paths.is_log paths.fits j w there).path
+      → MayTake code w.function (aim_of kind ends e) (walk_is code log paths.is_log paths.fits (path_thread j w there)).path
   pub spares : (j : ℕ) (w : Walk) (there : IsThread code log j w) (e : End) (ends : Bool) → Asked w.name e → (ends ≡ true → Spared w.name)
-      → ends_log code kind (may_fail kind ends e) w.function (says code log w (walk_is code log paths.is_log paths.fits j w there)) ≡ true
+      → ends_log code kind (may_fail kind ends e) w.function (says code log w (walk_is code log paths.is_log paths.fits (path_thread j w there))) ≡ true
       → (n : Name) → by_name w.name n ≡ Less → Spared n
   pub ends_it : (j : ℕ) (w : Walk) (there : IsThread code log j w) (e : End) (ends : Bool) → Asked w.name e → (ends ≡ true → Spared w.name)
-      → ends_log code kind (may_fail kind ends e) w.function (says code log w (walk_is code log paths.is_log paths.fits j w there)) ≡ false
+      → ends_log code kind (may_fail kind ends e) w.function (says code log w (walk_is code log paths.is_log paths.fits (path_thread j w there))) ≡ false
       → EndsIt w.name → ⊥
   pub joined : (n : Name) → IsJoined code log n → Asked n end.Exit
   pub free : (n : Name) → (IsJoined code log n → ⊥) → Asked n (open_end kind)
-  pub last : (j : ℕ) (w : Walk) (there : IsThread code log j w) → (says code log w (walk_is code log paths.is_log paths.fits j w there)).at_create ≡ true
-      → (IsJoined code log (child w.name (length (says code log w (walk_is code log paths.is_log paths.fits j w there)).created)) → ⊥)
-      → Asked (child w.name (length (says code log w (walk_is code log paths.is_log paths.fits j w there)).created)) (last_end kind)
+  pub last : (j : ℕ) (w : Walk) (there : IsThread code log j w) → (says code log w (walk_is code log paths.is_log paths.fits (path_thread j w there))).at_create ≡ true
+      → (IsJoined code log (child w.name (length (says code log w (walk_is code log paths.is_log paths.fits (path_thread j w there))).created)) → ⊥)
+      → Asked (child w.name (length (says code log w (walk_is code log paths.is_log paths.fits (path_thread j w there))).created)) (last_end kind)
   -- what holds of a thread that another waits for, and of a mutex that is waited for
   pub Stays : Name → Type 0
   pub Wanted : ℕ → Type 0
   pub stays : (j : ℕ) (w : Walk) (there : IsThread code log j w) → Stays w.name
-      → is_some (instr_at code w.function (says code log w (walk_is code log paths.is_log paths.fits j w there)).place) ≡ true
+      → is_some (instr_at code w.function (says code log w (walk_is code log paths.is_log paths.fits (path_thread j w there))).place) ≡ true
   pub waits_child : (j : ℕ) (w : Walk) (there : IsThread code log j w) (q : ℕ)
-      → waits_for kind (instr_at code w.function (says code log w (walk_is code log paths.is_log paths.fits j w there)).place)
-      (says code log w (walk_is code log paths.is_log paths.fits j w there)) q ≡ true → Stays (child w.name q)
+      → waits_for kind (instr_at code w.function (says code log w (walk_is code log paths.is_log paths.fits (path_thread j w there))).place)
+      (says code log w (walk_is code log paths.is_log paths.fits (path_thread j w there))) q ≡ true → Stays (child w.name q)
   pub waits_mutex : (j : ℕ) (w : Walk) (there : IsThread code log j w) (waited : List Bool) (m : ℕ)
-      → slice_index_or (waits kind (instr_at code w.function (says code log w (walk_is code log paths.is_log paths.fits j w there)).place) waited) m false
+      → slice_index_or (waits kind (instr_at code w.function (says code log w (walk_is code log paths.is_log paths.fits (path_thread j w there))).place) waited) m false
       ≡ true → (slice_index_or waited m false ≡ true) ⊎ Wanted m
   pub wanted : (m : ℕ) → Wanted m → IsHeldAtEnd code log m
   pub some_ends : (t : ThreadPath) × In t log.threads × EndsIt t.name
@@ -154,21 +154,21 @@ module _ (code : Code) (log : Log) (kind : Kind) (facts : Facts code log kind) w
     name : walk.name ≡ t.name
     k : IsWalk code log walk
     path : k.path ≡ t.path
-    is_walk : k ≡ walk_is code log paths.is_log paths.fits place walk there
+    is_walk : k ≡ walk_is code log paths.is_log paths.fits (path_thread place walk there)
 
   of : (t : ThreadPath) → In t log.threads → IsOf t
   of t i =
       let at = in_get t log.threads i in
       let under = own_under log paths.is_log at.0 t at.1 in
       let n = named code log paths.is_log paths.fits t.name t.path under in
-      let k = walk_is code log paths.is_log paths.fits n.place n.walk n.there in
+      let k = walk_is code log paths.is_log paths.fits n.thread in
       record {
-        place = n.place;
+        place = n.index;
         walk = n.walk;
         there = n.there;
-        name = n.name;
+        name = n.name_is;
         k = k;
-        path = same_Some k.path t.path (sym k.under ∙ ap (λ q. path_under q log.threads) n.name ∙ under);
+        path = same_Some k.path t.path (sym k.under ∙ ap (λ q. path_under q log.threads) n.name_is ∙ under);
         is_walk = refl;
       }
 
@@ -246,7 +246,7 @@ module _ (code : Code) (log : Log) (kind : Kind) (facts : Facts code log kind) w
     w = o.walk
 
     abbrev k : IsWalk code log w
-    k = walk_is code log paths.is_log paths.fits o.place o.walk o.there
+    k = walk_is code log paths.is_log paths.fits (path_thread o.place o.walk o.there)
 
     path : k.path ≡ t.path
     path = ap (λ (x : IsWalk code log w). x.path) (sym o.is_walk) ∙ o.path
@@ -433,7 +433,7 @@ module _ (code : Code) (log : Log) (kind : Kind) (facts : Facts code log kind) w
       not_joined : list_any (λ j. j == number) T.joined ≡ false → IsJoined code log d.name → ⊥
       not_joined none j =
           let same = same_child c.name j.walk.name number j.join.child (sym child_is.name ∙ j.name) in
-          let own = walk_is code log paths.is_log paths.fits j.place j.walk j.there in
+          let own = walk_is code log paths.is_log paths.fits (path_thread j.place j.walk j.there) in
           let joins = same_joins code log j.walk w own k (sym (name ∙ same.0)) in
           let i : In j.join w.joins = subst (In j.join) joins (in_contains j.join j.walk.joins j.joins) in
           let does = joins_told code log w k j.join i in
@@ -525,7 +525,7 @@ module _ (code : Code) (log : Log) (kind : Kind) (facts : Facts code log kind) w
     later_holds m few j v there h = by (left.holds m few j v there h)
       where
         own : IsWalk code log v
-        own = walk_is code log paths.is_log paths.fits j v there
+        own = walk_is code log paths.is_log paths.fits (path_thread j v there)
 
         new : t.name ≡ v.name → slice_index_or T.held m false ≡ true
         new same =
@@ -671,7 +671,7 @@ module _ (code : Code) (log : Log) (kind : Kind) (facts : Facts code log kind) w
 
   still_there : (m : ℕ) (j : ℕ) (v : Walk) → IsThread code log j v → (u : ThreadPath) × In u log.threads × (u.name ≡ v.name)
   still_there m j v there =
-      let own = walk_is code log paths.is_log paths.fits j v there in
+      let own = walk_is code log paths.is_log paths.fits (path_thread j v there) in
       let p = place_of v.name own.path log.threads own.under in
       (p.thread, in_place p.thread log.threads p.place p.there, p.name)
 

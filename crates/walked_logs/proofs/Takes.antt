@@ -13,7 +13,7 @@ use Rattle.path_walk.specs.Fits.{fails_in, places_in, function_of}
 use Rattle.path_walk.specs.Marks.{marked_steps}
 use Rattle.path_walk.specs.Paths.{Walk}
 use Rattle.path_walk.specs.Steps.{steps_at, is_site, ends_at_site}
-use Rattle.path_laws.specs.history.Along.{IsThread}
+use Rattle.path_laws.specs.history.Along.{IsThread, path_thread}
 use Rattle.path_laws.proofs.of_history.Walks.{IsWalk, walk_is}
 use Rattle.thread_paths.specs.Ends.{MayTake, has_end, is_exit, is_used}
 use Rattle.thread_paths.specs.declared.aim.End.{End}
@@ -54,7 +54,7 @@ module _ (code : Code) (log : Log) where
   module _ (normal : IsNormal code log) (j : ℕ) (w : Walk) (there : IsThread code log j w) (e : End) (ends : Bool) (asked : Asked w.name e)
       (once : ends ≡ true → fails_in log w.name ≡ false) where
     abbrev k : IsWalk code log w
-    k = walk_is code log normal.paths.is_log normal.paths.fits j w there
+    k = walk_is code log normal.paths.is_log normal.paths.fits (path_thread j w there)
 
     abbrev b : Bool
     b = fails_in log w.name
@@ -142,7 +142,7 @@ module _ (code : Code) (log : Log) where
     resting e' (Acting free is acts) =
         elim (normal.used j w there e') [
           | inl none ↦
-              let own = walk_is code log normal.paths.is_log normal.paths.fits acts.place acts.walk acts.there in
+              let own = walk_is code log normal.paths.is_log normal.paths.fits (path_thread acts.place acts.walk acts.there) in
               let same = same_places code log acts.walk w own k acts.name in
               absurd (omega (arith, acts.steps, ap length (same.1 ∙ none)))
           | inr u ↦
