@@ -12,7 +12,7 @@ ghost use Rattle.clap_debug_show_cli.specs.helpers.Meanings.{help_meaning};
 use crate::asked::Help;
 use crate::limits::program_limit;
 use crate::refusal::program_line;
-use command_frame::{Command, Keep, Status, Whole};
+use command_frame::{Command, Keep, Status, Whole, Work};
 use next_tokens::{Stuck, stuck_of};
 use program_help::{describe, explain};
 use std::alloc::{AllocError, Global};
@@ -63,23 +63,9 @@ impl<'a> Help<'a> {
 }
 
 impl<'a> Command for Help<'a> {
-    type Inputs = Whole<'a>;
-
     type Outcome = Helped;
 
     ghost meaning = { help_meaning };
-
-    fn inputs(&self) -> &Whole<'a> {
-        &self.program
-    }
-
-    fn work(&self, alloc: Global, text: &Vec<u8>) -> Result<Helped, AllocError> {
-        match describe_text(alloc, text) {
-            Ok(described) => Ok(Helped::Described(described)),
-            Err(CompileFault::Refused(fault)) => explain_fault(alloc, text, fault),
-            Err(CompileFault::Memory) => Err(AllocError),
-        }
-    }
 
     fn keeps<'n, 'b>(
         &'n self,
@@ -100,6 +86,22 @@ impl<'a> Command for Help<'a> {
         match outcome {
             Helped::Explained(_) => Status::ProgramRefused,
             Helped::Described(_) => Status::Done,
+        }
+    }
+}
+
+impl<'a> Work for Help<'a> {
+    type Inputs = Whole<'a>;
+
+    fn inputs(&self) -> &Whole<'a> {
+        &self.program
+    }
+
+    fn work(&self, alloc: Global, text: &Vec<u8>) -> Result<Helped, AllocError> {
+        match describe_text(alloc, text) {
+            Ok(described) => Ok(Helped::Described(described)),
+            Err(CompileFault::Refused(fault)) => explain_fault(alloc, text, fault),
+            Err(CompileFault::Memory) => Err(AllocError),
         }
     }
 }

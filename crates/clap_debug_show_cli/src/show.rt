@@ -12,7 +12,7 @@ use crate::limits::{file_limit, program_limit};
 use crate::refusal::{Fault, Refusal};
 use crate::shown::{Shown, read_shown};
 use crate::words::Showing;
-use command_frame::{Command, Keep, Status, Whole};
+use command_frame::{Command, Keep, Status, Whole, Work};
 use std::alloc::{AllocError, Global};
 
 /// What comes of a program and a file.
@@ -61,23 +61,9 @@ impl<'a> Show<'a> {
 }
 
 impl<'a> Command for Show<'a> {
-    type Inputs = (Whole<'a>, Whole<'a>);
-
     type Outcome = Showed<'a>;
 
     ghost meaning = { show_meaning };
-
-    fn inputs(&self) -> &(Whole<'a>, Whole<'a>) {
-        &self.inputs
-    }
-
-    fn work(&self, alloc: Global, bytes: &(Vec<u8>, Vec<u8>)) -> Result<Showed<'a>, AllocError> {
-        match self.showed(alloc, &bytes.0, &bytes.1) {
-            Ok(showed) => Ok(showed),
-            Err(Fault::Refused(refusal)) => Ok(Showed::Refused(refusal)),
-            Err(Fault::Memory) => Err(AllocError),
-        }
-    }
 
     fn keeps<'n, 'b>(
         &'n self,
@@ -103,6 +89,22 @@ impl<'a> Command for Show<'a> {
         match outcome {
             Showed::Refused(refusal) => refusal.status(),
             Showed::Text(_) | Showed::Page(_, _, _) => Status::Done,
+        }
+    }
+}
+
+impl<'a> Work for Show<'a> {
+    type Inputs = (Whole<'a>, Whole<'a>);
+
+    fn inputs(&self) -> &(Whole<'a>, Whole<'a>) {
+        &self.inputs
+    }
+
+    fn work(&self, alloc: Global, bytes: &(Vec<u8>, Vec<u8>)) -> Result<Showed<'a>, AllocError> {
+        match self.showed(alloc, &bytes.0, &bytes.1) {
+            Ok(showed) => Ok(showed),
+            Err(Fault::Refused(refusal)) => Ok(Showed::Refused(refusal)),
+            Err(Fault::Memory) => Err(AllocError),
         }
     }
 }

@@ -148,7 +148,7 @@ module _ {A : Type 0} (m : Meaning A) where
               (lost_status lost.0 status j k (subst (λ b. Says m b status j k) lost.1 says), lost.2)
 
     -- an answer with its cause is one to what the inputs hold, or its status is that of a fault
-    answers_to : (files : Files) → old.held ≡ Some files → (a : Answer A) → IsCause m old new a
+    pub answers_to : (files : Files) → old.held ≡ Some files → (a : Answer A) → IsCause m old new a
         → IsAnswerTo m (texts_under files m.inputs) a ⊎ IsFaultStatus (status_of m a)
     answers_to files told (Gives x) c =
         let same = all_told files m.inputs old c.1 c.0 c.2 told in
@@ -178,7 +178,7 @@ module _ {A : Type 0} (m : Meaning A) where
   only_put t (WriteFault name) b status j k is only puts = absurd is
   only_put t NoMemory b status j k is only puts = absurd is
 
-  same_fault : (a : Answer A) (status : ℕ) → status ≡ status_of m a → IsFaultStatus (status_of m a) → IsFaultStatus status
+  pub same_fault : (a : Answer A) (status : ℕ) → status ≡ status_of m a → IsFaultStatus (status_of m a) → IsFaultStatus status
   same_fault a status same fault = subst IsFaultStatus (sym same) fault
 
   module _ (old new : ShelfTells) (a : Answer A) (status : ℕ) (j k : SinkTells) (cause : IsCause m old new a) (says : Says m a status j k) where

@@ -9,28 +9,12 @@ use crate::keeping::Keep;
 use crate::status::Status;
 use std::alloc::{AllocError, Global};
 
-/// A command: what it reads, works out, keeps and says.
+/// A command: what it means, keeps and says.
 pub trait Command {
-    /// Its inputs, in the order in which they are read.
-    type Inputs: Inputs;
-
-    /// What comes of their bytes: a result, or a refusal.
+    /// What comes of its inputs: a result, or a refusal.
     type Outcome: Drop;
 
     ghost meaning: { Self → Meaning Self.Outcome };
-
-    /// Its inputs.
-    fn inputs(&self) -> &Self::Inputs
-        ensures { Self.Inputs.wanted result.now ≡ (meaning self.now).inputs };
-
-    /// Works out what comes of the bytes. An `Err` is want of memory.
-    fn work(
-        &self,
-        alloc: Global,
-        bytes: &<Self::Inputs as Inputs>::Bytes,
-    ) -> Result<Self::Outcome, AllocError>
-        requires { AreWithin (meaning self.now).inputs (Self.Inputs.texts bytes.now) }
-        ensures { IfOk result (λ outcome. (meaning self.now).ComesOf (Self.Inputs.texts bytes.now) outcome) };
 
     /// What is kept of an outcome, in this order.
     fn keeps<'n, 'b>(
@@ -47,4 +31,23 @@ pub trait Command {
     /// The status with which an outcome ends.
     fn status(&self, outcome: &Self::Outcome) -> Status
         ensures { result ≡ (meaning self.now).status_of outcome.now };
+}
+
+/// A command that works on its inputs as wholes.
+pub trait Work: Command {
+    /// Its inputs, in the order in which they are read.
+    type Inputs: Inputs;
+
+    /// Its inputs.
+    fn inputs(&self) -> &Self::Inputs
+        ensures { Self.Inputs.wanted result.now ≡ (Self.meaning self.now).inputs };
+
+    /// Works out what comes of the bytes. An `Err` is want of memory.
+    fn work(
+        &self,
+        alloc: Global,
+        bytes: &<Self::Inputs as Inputs>::Bytes,
+    ) -> Result<Self::Outcome, AllocError>
+        requires { AreWithin (Self.meaning self.now).inputs (Self.Inputs.texts bytes.now) }
+        ensures { IfOk result (λ outcome. (Self.meaning self.now).ComesOf (Self.Inputs.texts bytes.now) outcome) };
 }

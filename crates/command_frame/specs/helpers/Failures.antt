@@ -1,9 +1,9 @@
 -- Failures in place of an outcome, and which answers they are.
-use Rattle.std.specs.Prelude.{◌≡◌, ◌⊎◌, ℕ, List}
+use Rattle.std.specs.Prelude.{◌≡◌, ◌⊎◌, ℕ, List, Result, Ok, Err}
 use Rattle.tc_io.specs.Outside.{ShelfTells, SinkTells, Wrote, WrotePart}
 use Rattle.command_frame.specs.Inputs.{FailsToRead, Limit, PassesLimit, Wanted, Whole}
 use Rattle.command_frame.specs.Keeps.{FailsToKeep, HoldsFirst, Keep}
-use Rattle.command_frame.specs.Answers.{Answer, ReadFault, TooLong, WriteFault, NoMemory, SaysNoMemory, number_of, limit_line, memory_line, read_line, write_line}
+use Rattle.command_frame.specs.Answers.{Answer, Gives, ReadFault, TooLong, WriteFault, NoMemory, SaysNoMemory, number_of, limit_line, memory_line, read_line, write_line}
 use Rattle.command_frame.specs.declared.status.Status.{Status}
 use Rattle.command_frame.specs.declared.status.Status.TheVariants as status
 use Rattle.command_frame.specs.declared.failure.Failure.{Failure}
@@ -27,6 +27,11 @@ failed_answer (failure.Read name) = ReadFault name.now
 failed_answer (failure.TooLong limit) = TooLong (plain_limit limit)
 failed_answer (failure.Write name) = WriteFault name.now
 failed_answer failure.Memory = NoMemory
+
+-- the answer that an outcome is, or a failure in its place
+abbrev pub answer_of : {A : Type 0} → Result A Failure → Answer A
+answer_of (Ok outcome) = Gives outcome
+answer_of (Err f) = failed_answer f
 
 -- nothing was kept, and no fault was counted
 abbrev pub HeldStill : ShelfTells → ShelfTells → Type 0
