@@ -1,0 +1,14 @@
+-- The lines of the results of `solve`.
+use Rattle.std.specs.Prelude.{ℕ, List, ◌++◌, length, codes}
+use Rattle.std.specs.Fmt.{decimal}
+use Rattle.refute_check.specs.declared.line.Line.{Line}
+use Rattle.tc_base.specs.declared.moves.Move.{Move}
+
+abbrev pub moves_line : List Move → List ℕ
+moves_line moves = codes "schedule " ++ (decimal (length moves) ++ codes " moves\n")
+
+abbrev pub impossible_line : List Line → List ℕ
+impossible_line lines = codes "impossible, " ++ (decimal (length lines) ++ codes " lines\n")
+
+abbrev pub spent_line : (budget : ℕ) → List ℕ
+spent_line budget = codes "spent after " ++ (decimal budget ++ codes " conflicts\n")
