@@ -3,8 +3,7 @@
 
   log_walk.py > ROWS
 
-All products of paths are made, each is judged by what a normal log is (in a deadlock without the causes of blocks), and
-those that are normal are sorted.
+All products of paths are made, each is judged by what a normal log is, and those that are normal are sorted.
 """
 import re
 
@@ -58,9 +57,22 @@ class Way:
                 count += 1
                 handles[i[1]] = count
             elif i[0] == "join":
-                self.joins.add(handles.get(i[1], 0))
+                self.joins.add(handles.pop(i[1], 0))
         self.last = steps[-1][0] if steps else None
-        self.rests = place >= len(instrs) or instrs[place][0] in BLOCKING
+        self.at = instrs[place] if place < len(instrs) else None
+        self.rests = self.at is None or self.at[0] in BLOCKING
+        self.handles = handles
+
+
+def has_cause(threads, name):
+    """Whether what a thread stands before has a cause: the mutex is held at some end, or the child hasn't exited."""
+    way = threads[name]
+    if way.at is None or way.at[0] == "wake":
+        return True
+    if way.at[0] == "lock":
+        return any(way.at[-1] in other.held for other in threads.values())
+    child = threads.get(name + (way.handles.get(way.at[1], 0),))
+    return child is None or child.last != "exit"
 
 
 def is_normal(threads, failing):
@@ -73,7 +85,8 @@ def is_normal(threads, failing):
         if any(way.held & other.held for end, other in threads.items() if end != name):
             return False
     if failing is None:
-        return all(w.rests for w in threads.values()) and any(w.last != "exit" for w in threads.values())
+        rests = all(w.rests for w in threads.values()) and any(w.last != "exit" for w in threads.values())
+        return rests and all(has_cause(threads, name) for name in threads)
     for name, way in threads.items():
         if name == failing or not way.steps and name not in joined:
             continue

@@ -1,4 +1,4 @@
--- What sums, differences and products of words mean.
+-- The meaning of sums, differences and products of words.
 use Rattle.std.proofs.Common.{◌≡◌, ℕ, suc, ◌+◌, ◌-◌, ◌*◌, ◌^◌, ◌<◌, ◌≤◌, List, [], ◌∷◌, ◌++◌, ℤ, neg_ℤ, refl, ap, sym, ◌∙◌, subst, arith, true, false, length, take, drop, replicate}
 use Rattle.std.specs.Prelude.{◌%◌}
 use Rattle.std.specs.Int.{w32, cast_signed}
@@ -14,7 +14,7 @@ use Rattle.bit_gates.specs.Folded.{Made, constant}
 use Rattle.bit_gates.specs.Laws.{IsModel, IsOf}
 use Rattle.bit_gates.proofs.Blocks.{grown_none, grown_more, grown_twice, IsOf-opposite, model_before}
 use Rattle.bit_gates.proofs.Meaning.{constant_of, constant_value}
-use Rattle.bit_words.specs.Words.{Walked, gated_words, added, inverted}
+use Rattle.bit_words.specs.Words.{Walked, gated_words, word_sum, inverted_word}
 use Rattle.bit_words.specs.Laws.{digit, number_of, value, IsWord}
 use Rattle.bit_words.proofs.Meaning.{all_grown, gated_words_mean, words-mean, invert_means}
 use Rattle.bit_arith.specs.Sums.{plus_word, minus_word, zeros, with_row, with_product, times_word}
@@ -34,7 +34,7 @@ true_digit w f m = ap digit (constant_value w true m.one)
 pub sum_means : (f : Formula) (xs ys : List ℤ) → AreOperands f xs ys
     → IsNumber f xs (plus_word f xs ys) (λ w. (value w xs + value w ys) % 2 ^ length xs)
 sum_means f xs ys o =
-    let m : Walked Made = added f xs ys (constant false) in
+    let m : Walked Made = word_sum f xs ys (constant false) in
     let h = words-mean.add f xs ys (constant false) o.first o.second (constant_of f.vars false o.one) o.lengths in
     record {
       word = h.word;
@@ -44,26 +44,26 @@ sum_means f xs ys o =
           remainder_of (2 ^ length xs) (digit (literal_true w m.state.literal)) _ _ (below w xs m.word h.word.same_length) e;
     }
 
-pub all_inverted : (n : ℕ) (ys : List ℤ) → All (IsOf n) ys → All (IsOf n) (inverted ys)
+pub all_inverted : (n : ℕ) (ys : List ℤ) → All (IsOf n) ys → All (IsOf n) (inverted_word ys)
 all_inverted n ys h = All-map (IsOf n) neg_ℤ ys (All-weaker (IsOf n) (λ l. IsOf n (neg_ℤ l)) (λ l o. IsOf-opposite n l o) ys h)
 
 pub difference_means : (f : Formula) (xs ys : List ℤ) → AreOperands f xs ys
     → IsNumber f xs (minus_word f xs ys) (λ w. (value w xs + (2 ^ length xs - value w ys)) % 2 ^ length xs)
 difference_means f xs ys o =
-    let m : Walked Made = added f xs (inverted ys) (constant true) in
-    let h = words-mean.add f xs (inverted ys) (constant true) o.first (all_inverted f.vars ys o.second) (constant_of f.vars true o.one)
+    let m : Walked Made = word_sum f xs (inverted_word ys) (constant true) in
+    let h = words-mean.add f xs (inverted_word ys) (constant true) o.first (all_inverted f.vars ys o.second) (constant_of f.vars true o.one)
     (length-map ys neg_ℤ ∙ o.lengths) in
     record {
       word = h.word;
       number = λ w k.
           let d : digit (literal_true w (constant true)) ≡ 1 = true_digit w m.state.formula k in
-          let i : value w (inverted ys) + value w ys + 1 ≡ 2 ^ length xs = invert_means w f.vars ys o.second ∙ ap (λ n. 2 ^ n) o.lengths in
+          let i : value w (inverted_word ys) + value w ys + 1 ≡ 2 ^ length xs = invert_means w f.vars ys o.second ∙ ap (λ n. 2 ^ n) o.lengths in
           let e : value w m.word + 2 ^ length xs * digit (literal_true w m.state.literal) ≡ value w xs + (2 ^ length xs - value w ys) =
           h.sum w k ∙ omega (arith, d, i) in
           remainder_of (2 ^ length xs) (digit (literal_true w m.state.literal)) _ _ (below w xs m.word h.word.same_length) e;
     }
 
--- a word and a product, but for a multiple of the power of 2 that is the word's length
+-- a word is a product modulo 2 to the power of its length
 pub record IsUpTo (f : Formula) (word : List ℤ) (m : Walked Formula) (meaning : Valuation → ℕ) : Type 0 where
   pub same : IsWord f m.state word m.word
   pub number : (w : Valuation) → IsModel w m.state → (k : ℕ) × (value w m.word + 2 ^ length word * k ≡ meaning w)
@@ -78,7 +78,7 @@ row_means f word xs b p q o le =
     let g = gated_words_mean And f front (replicate n b) (All-take (IsOf f.vars) n xs q) (All-replicate (IsOf f.vars) n b o)
     (length-replicate n b ∙ sym long) in
     let more : f.vars ≤ row.state.vars = grown_more f row.state g.word.grown in
-    let m : Walked Made = added row.state word row.word (constant false) in
+    let m : Walked Made = word_sum row.state word row.word (constant false) in
     let enough : 0 < row.state.vars = omega (arith, o.0, o.1, more) in
     let h = words-mean.add row.state word row.word (constant false) (all_grown f row.state word g.word.grown p) g.word.literals
     (constant_of row.state.vars false enough) (g.word.same_length ∙ long) in

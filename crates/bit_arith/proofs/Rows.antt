@@ -11,14 +11,14 @@ use Rattle.std.proofs.lemmas.List.Elements.{All-map, All-weaker}
 use Rattle.cnf_core.specs.Clauses.{var_of, Formula}
 use Rattle.bit_gates.specs.Folded.{IsLarger}
 use Rattle.bit_gates.proofs.Blocks.{var_of-opposite}
-use Rattle.bit_words.specs.Words.{AreWithin, Walked, inverted}
+use Rattle.bit_words.specs.Words.{AreWithin, Walked, inverted_word}
 use Rattle.bit_arith.specs.Sums.{with_row, with_product}
 
-pub within_inverted : (n : ℕ) (xs : List ℤ) → AreWithin n xs → AreWithin n (inverted xs)
+pub within_inverted : (n : ℕ) (xs : List ℤ) → AreWithin n xs → AreWithin n (inverted_word xs)
 within_inverted n xs h = All-map (λ l. var_of l ≤ n) neg_ℤ xs
     (All-weaker (λ l. var_of l ≤ n) (λ l. var_of (neg_ℤ l) ≤ n) (λ l k. let e : var_of (neg_ℤ l) ≡ var_of l = var_of-opposite l in omega (arith, e, k)) xs h)
 
--- the product's first `i` places are made, and the rest comes from what stands above them
+-- the first `i` places of the product are done, and the rest is the product of the higher places
 pub record IsMultiplied (all : Walked Formula) (i : ℕ) (f : Formula) (ws xs bs : List ℤ) : Type 0 where
   pub state : all.state ≡ (with_product f (drop i ws) xs (drop i bs)).state
   pub word : all.word ≡ take i ws ++ (with_product f (drop i ws) xs (drop i bs)).word
@@ -58,7 +58,7 @@ multiplied_more all i f g word next xs bs b h p q eb eg en =
           ∙ ap (λ k. k ++ made.word) (sym low) ∙ ap (λ (k : Walked _). take (i + 1) next ++ k.word) (sym rest);
     }
 
--- what stands after a write to the end of a list
+-- the list after a write to its end
 pub end_written : (a : ℕ) (xs ys : List ℤ) → a ≤ length xs → length ys ≡ length xs - a → put_mid a (length xs - a) xs ys ≡ take a xs ++ ys
 end_written a xs ys h e = search (rules, overwrites)
 

@@ -52,7 +52,7 @@ row_digit false true u v h = let e : 1 * v ≡ v = one-mul v in let f : 1 * (0 +
 row_digit true false u v h = let e : 0 * v ≡ 0 = zero-mul v in let f : 0 * (1 + 2 * v) ≡ 0 = zero-mul (1 + 2 * v) in omega (arith, h, e, f)
 row_digit false false u v h = let e : 0 * v ≡ 0 = zero-mul v in let f : 0 * (0 + 2 * v) ≡ 0 = zero-mul (0 + 2 * v) in omega (arith, h, e, f)
 
--- a word where a bit is true, and else 0
+-- the number of a word where a bit is true, and 0 otherwise
 pub row_value : (w : Valuation) (xs : List ℤ) (b : ℤ) (n : ℕ) → length xs ≡ n
     → number_of (at_places (λ p q. p && q) (values w xs) (values w (replicate n b))) ≡ digit (literal_true w b) * value w xs
 row_value w [] b n e = sym (mul-zero (digit (literal_true w b)))

@@ -3,7 +3,7 @@ use Rattle.std.specs.Prelude.{ℕ, true, false, List, [], ◌∷◌, ◌++◌, �
 use Rattle.cnf_core.specs.Clauses.{Formula}
 use Rattle.cnf_core.specs.declared.gates.Gate.TheVariants.{And}
 use Rattle.bit_gates.specs.Folded.{Made, constant}
-use Rattle.bit_words.specs.Words.{Walked, gated_words, added, inverted}
+use Rattle.bit_words.specs.Words.{Walked, gated_words, word_sum, inverted_word}
 
 -- a sum without its carry out
 abbrev pub without_carry : Walked Made → Walked Formula
@@ -11,11 +11,11 @@ without_carry m = record { state = m.state.formula; word = m.word }
 
 -- the sum of two words
 abbrev pub plus_word : Formula → List ℤ → List ℤ → Walked Formula
-plus_word f xs ys = without_carry (added f xs ys (constant false))
+plus_word f xs ys = without_carry (word_sum f xs ys (constant false))
 
 -- the difference of two words: the first plus the second's complement plus 1
 abbrev pub minus_word : Formula → List ℤ → List ℤ → Walked Formula
-minus_word f xs ys = without_carry (added f xs (inverted ys) (constant true))
+minus_word f xs ys = without_carry (word_sum f xs (inverted_word ys) (constant true))
 
 -- the word 0 of `n` bits
 abbrev pub zeros : ℕ → List ℤ

@@ -1,4 +1,4 @@
--- What the literals of cases mean.
+-- The meaning of the literals of cases.
 use Rattle.std.proofs.Common.{◌≡◌, ℕ, ◌<◌, ◌≤◌, List, [], ◌∷◌, ℤ, pos, refl, ap, ◌∙◌, arith, Bool, true, false, not}
 use Rattle.std.specs.Prelude.{◌&&◌, ◌||◌, if◌then◌else◌, fold}
 use Rattle.std.specs.Bool.{beq}
@@ -15,7 +15,7 @@ use Rattle.order_formula.specs.Worlds.{World, is_before, is_ended}
 use Rattle.cnf_core.specs.Clauses.{Formula, Valuation, literal_true}
 use Rattle.cnf_core.proofs.GateLaws.{literal_true-neg}
 use Rattle.bit_gates.specs.Extended.{IsExtended}
-use Rattle.bit_gates.specs.Folded.{Made, constant, kept, opposite, both, either}
+use Rattle.bit_gates.specs.Folded.{Made, constant, kept, opposite, conjunction, disjunction}
 use Rattle.bit_gates.specs.Laws.{IsModel, IsOf, IsBit}
 use Rattle.bit_gates.proofs.Blocks.{grown_none, grown_twice, IsOf-grown, IsOf-opposite, model_before}
 use Rattle.bit_gates.proofs.Extended.{gates-extend}
@@ -28,7 +28,7 @@ use Rattle.bit_terms.proofs.Meaning.{at_operand, nonzero-means}
 use Rattle.bit_blast.specs.Cases.{Parts, atom_made, literal_made, with_literal, case_made, with_case}
 use Rattle.bit_blast.specs.Laws.{Tells, CasesMean}
 
--- a literal stays what it is while definitions are added
+-- a literal keeps its meaning while definitions are added
 pub bit_stays : (f g : Formula) (l : ℤ) (meaning : Valuation → Bool) → IsExtended f g → IsBit f (kept f l) meaning → IsBit g (kept g l) meaning
 bit_stays f g l meaning e h = record {
   grown = grown_none g;
@@ -40,7 +40,7 @@ pub operand_stays : (f g : Formula) (xs : List ℤ) → f.vars ≤ g.vars → Is
 operand_stays f g xs more o =
     record { literals = All-weaker (IsOf f.vars) (IsOf g.vars) (λ l k. (k.0, omega (arith, k.1, more))) xs o.literals; width = o.width }
 
--- a literal with another meaning that is the same wherever the formula is satisfied
+-- a literal has any other meaning that agrees wherever the formula is satisfied
 pub bit_for : (f : Formula) (m : Made) (meaning other : Valuation → Bool) → ((w : Valuation) → IsModel w f → meaning w ≡ other w) → IsBit f m meaning → IsBit f m other
 bit_for f m meaning other e h =
     record { grown = h.grown; literal = h.literal; value = λ w k. h.value w k ∙ e w (model_before w f m.formula h.grown k) }
@@ -55,14 +55,14 @@ bit_opposite f m meaning h = record {
   value = λ w k. literal_true-neg w m.literal h.literal.0 ∙ ap not (h.value w k);
 }
 
--- a literal, and another that is made after it
+-- a literal, and another that is made after it, keep their meanings
 pub bit_both : (f : Formula) (m x : Made) (first second : Valuation → Bool) → IsBit f m first → IsBit m.formula x second
-    → IsBit f (both x.formula m.literal x.literal) (λ w. first w && second w)
+    → IsBit f (conjunction x.formula m.literal x.literal) (λ w. first w && second w)
 bit_both f m x first second a b =
     let g : Formula = m.formula in
     let k : Formula = x.formula in
     let h = both_bit k m.literal x.literal (IsOf-grown g k m.literal b.grown a.literal) b.literal in
-    let out : Formula = (both k m.literal x.literal).formula in
+    let out : Formula = (conjunction k m.literal x.literal).formula in
     record {
       grown = grown_twice f k out (grown_twice f g k a.grown b.grown) h.grown;
       literal = h.literal;
@@ -72,12 +72,12 @@ bit_both f m x first second a b =
     }
 
 pub bit_either : (f : Formula) (m x : Made) (first second : Valuation → Bool) → IsBit f m first → IsBit m.formula x second
-    → IsBit f (either x.formula m.literal x.literal) (λ w. first w || second w)
+    → IsBit f (disjunction x.formula m.literal x.literal) (λ w. first w || second w)
 bit_either f m x first second a b =
     let g : Formula = m.formula in
     let k : Formula = x.formula in
     let h = either_bit k m.literal x.literal (IsOf-grown g k m.literal b.grown a.literal) b.literal in
-    let out : Formula = (either k m.literal x.literal).formula in
+    let out : Formula = (disjunction k m.literal x.literal).formula in
     record {
       grown = grown_twice f k out (grown_twice f g k a.grown b.grown) h.grown;
       literal = h.literal;
@@ -109,7 +109,7 @@ as_wanted false true = refl
 as_wanted false false = refl
 
 module _ (o : Order) (nodes : List Node) (world : Valuation → World) (parts : Parts) where
-  -- a formula tells the same world while definitions are added
+  -- a formula describes the same world while definitions are added
   pub tells_more : (f g : Formula) → IsExtended f g → Tells o nodes world parts f → Tells o nodes world parts g
   tells_more f g e t = record {
     one = omega (arith, t.one, e.more);

@@ -1,4 +1,4 @@
--- Formulas with clauses of any literals.
+-- Formulas with clauses of arbitrary literals.
 use Rattle.std.proofs.Common.{◌≡◌, ℕ, ◌≤◌, List, [], ◌∷◌, ℤ, refl, ap, ◌∙◌, true}
 use Rattle.std.specs.Prelude.{◌&&◌}
 use Rattle.std.specs.List.{All, flat_map, list_all}

@@ -1,4 +1,4 @@
--- Orders that were asked of every two contended events.
+-- Orders that ask about every two contended events.
 use Rattle.std.proofs.Common.{◌≡◌, ℕ, ◌<◌, Bool, true, false, List, [], ◌∷◌, ◌++◌, refl, ap, ◌∙◌}
 use Rattle.std.specs.Prelude.{fold, if◌then◌else◌, nat_eq}
 use Rattle.std.specs.List.{All, list_any}
@@ -12,12 +12,12 @@ use Rattle.order_formula.specs.declared.literal.Atom.TheVariants.{Before, Ends, 
 use Rattle.order_formula.specs.declared.literal.Literal.{Literal}
 use Rattle.order_formula.specs.declared.order.Pair.{Pair}
 use Rattle.order_formula.specs.declared.read.Candidate.{Candidate}
-use Rattle.order_formula.specs.Orders.{Order, AtomIsIn, LiteralIsIn, BodyIsIn, ConjunctIsIn, unasked, with_pair}
+use Rattle.order_formula.specs.Orders.{Order, AtomIsIn, LiteralIsIn, BodyIsIn, ConjunctIsIn, order_without_questions, with_pair}
 use Rattle.bit_order.specs.Comparators.{completed, pairs_among}
 use Rattle.bit_blast.specs.Sizes.{whole_size}
 use Rattle.bit_blast.specs.Contended.{contended, is_literal, with_atom, with_body, with_candidate, with_case, with_event}
 
--- more pairs leave the rest of an order as it is
+-- more pairs keep the other parts of an order
 module _ {A : Type 0} (part : Order → A) (still : (o : Order) (p : Pair) → part (with_pair o p) ≡ part o) where
   pub same_part : (o : Order) (ps : List Pair) → part (fold with_pair o ps) ≡ part o
   same_part o [] = refl
@@ -29,14 +29,14 @@ completed_events o events = same_part (λ (k : Order). k.events) (λ k p. refl) 
 pub completed_sleeps : (o : Order) (events : List ℕ) → (completed o events).sleeps ≡ o.sleeps
 completed_sleeps o events = same_part (λ (k : Order). k.sleeps) (λ k p. refl) o (pairs_among events)
 
--- and its size, whatever stands over it
+-- the size depends only on the order's number of events and of sleeps
 pub same_size : (o p : Order) (loads : ℕ) (nodes : List Node) (formula : List Conjunct) → p.events ≡ o.events → p.sleeps ≡ o.sleeps
     → whole_size (record { order = p; loads = loads }) nodes formula ≡ whole_size (record { order = o; loads = loads }) nodes formula
 same_size o p loads nodes formula events sleeps =
-    ap (λ e. whole_size (record { order = unasked e p.sleeps; loads = loads }) nodes formula) events
-    ∙ ap (λ s. whole_size (record { order = unasked o.events s; loads = loads }) nodes formula) sleeps
+    ap (λ e. whole_size (record { order = order_without_questions e p.sleeps; loads = loads }) nodes formula) events
+    ∙ ap (λ s. whole_size (record { order = order_without_questions o.events s; loads = loads }) nodes formula) sleeps
 
--- contended events are the order's
+-- contended events belong to the order
 module _ (o : Order) where
   abbrev IsThere : ℕ → Type 0
   IsThere e = e < o.events

@@ -1,4 +1,4 @@
--- Lists, and what their elements are.
+-- Lists and their elements.
 use Rattle.std.proofs.Common.{◌≡◌, ℕ, ◌<◌, List, [], ◌∷◌, ◌++◌, Some, refl, ap, sym, ◌∙◌, subst, arith, Bool, true, false, length, get_or, map, inl, inr, eq-eqb}
 use Rattle.std.specs.Prelude.{◌&&◌, ◌||◌, ◌==◌, ◌⊎◌}
 use Rattle.std.specs.List.{All, Contains, IsDistinct, flat_map, list_all, list_any}
@@ -31,13 +31,13 @@ contains_map f xs x h = (
   get_or-map f xs h.0 x (f x) h.1 ∙ ap f h.2,
 )
 
--- an element that stands before some others
+-- an element at a place within the first of two lists is in the first list
 pub contains_start : {X : Type 0} (xs ys : List X) (d : X) (n : ℕ) → n < length xs → Contains xs (get_or (xs ++ ys) n d)
 contains_start xs ys d n below =
     let x = get_or (xs ++ ys) n d in
     (n, below, get_or_from_slice_get xs n x x (slice_get-get_or xs n d below ∙ ap Some (sym (get_or_append_left xs ys d n below))))
 
--- what is so of each element
+-- what holds for each element holds for all
 pub all_of : {X : Type 0} (P : X → Type 0) (xs : List X) → ((x : X) → Contains xs x → P x) → All P xs
 all_of P [] h = All-nil P
 all_of P (x ∷ xs) h = All-cons P x xs (h x (contains_first x xs)) (all_of P xs (λ y there. h y (contains_later x y xs there)))
@@ -113,7 +113,7 @@ pub any_map : {X Y : Type 0} (p : Y → Bool) (f : X → Y) (xs : List X) → li
 any_map p f [] = refl
 any_map p f (x ∷ xs) = ap (λ b. p (f x) || b) (any_map p f xs)
 
--- numbers that are distinct are at one place only
+-- distinct numbers occur at only one place
 pub one_place : (xs : List ℕ) (i j : ℕ) → IsDistinct (λ e d. e == d) xs → i < length xs → j < length xs → get_or xs i 0 ≡ get_or xs j 0 → i ≡ j
 one_place xs i j h p q same = elim (cases_order i j) [
   | inl one ↦ one
@@ -124,7 +124,7 @@ one_place xs i j h p q same = elim (cases_order i j) [
     differs : (i j : ℕ) → i < j → j < length xs → get_or xs i 0 ≡ get_or xs j 0 → ⊥
     differs i j less inside e = false≢true (sym (apart_from_distinct (λ e d. e == d) xs i j 0 h less inside) ∙ eq-eqb (get_or xs i 0) (get_or xs j 0) e)
 
--- elements whose keys are distinct are one where their keys are
+-- elements with distinct keys are equal if their keys are
 pub one_element : {X : Type 0} (key : X → ℕ) (xs : List X) (x y : X) → IsDistinct (λ e d. e == d) (map key xs) → Contains xs x → Contains xs y
     → key x ≡ key y → x ≡ y
 one_element key xs x y h p q same =

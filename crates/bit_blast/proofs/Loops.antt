@@ -1,4 +1,4 @@
--- Literals and clauses that are made one after another.
+-- Literals and clauses, made one after another.
 use Rattle.std.proofs.Common.{◌≡◌, ℕ, suc, zero, ◌+◌, ◌<◌, ◌≤◌, List, [], ◌∷◌, ◌++◌, ℤ, pos, neg_ℤ, refl, ap, sym, ◌∙◌, subst, arith, length, map, get_or, take, append_assoc}
 use Rattle.std.specs.Prelude.{sum_by}
 use Rattle.std.specs.List.{flat_map}
@@ -39,7 +39,7 @@ pub next_clause : (f g h : Formula) (lists next : List (List ℤ)) (ls : List �
     → h ≡ with_clauses f next
 next_clause f g h lists next ls known step is = next_clauses f g h lists next (ls ∷ []) known (step ∙ with_one g ls) is
 
--- the clauses of two words, a place on
+-- the clauses of two words, with one more place
 abbrev pub place_clauses : (holds taken a b : ℤ) → List (List ℤ)
 place_clauses holds taken a b = (neg_ℤ holds ∷ neg_ℤ taken ∷ neg_ℤ a ∷ b ∷ []) ∷ (neg_ℤ holds ∷ neg_ℤ taken ∷ a ∷ neg_ℤ b ∷ []) ∷ []
 
@@ -61,7 +61,7 @@ value_next holds taken xs ys i a b p q is same =
     subst (λ k. value_clauses holds taken (take k xs) (take k ys) ≡ value_clauses holds taken (take i xs) (take i ys) ++ place_clauses holds taken a b) n
     (value_more holds taken xs ys i a b p q is same)
 
--- the sources of candidates, one on
+-- the sources of candidates, with one more candidate
 abbrev pub source_of : (words : List (List ℤ)) → ℕ → Candidate → (seen : ℤ) → Source
 source_of words n c l = record { event = c.event; seen = l; taken = pos (n + 1); value = word_at words c.value }
 
@@ -87,11 +87,11 @@ sources_next words n cs ls i c l p q is same =
     subst (λ k. sources_of words n (take k cs) (take k ls) ≡ sources_of words n (take i cs) (take i ls) ++ source_of words (n + i) c l ∷ []) e
     (sources_and words n cs ls i c l p q is same)
 
--- a word is what stands at its place
+-- a word that is read at its place is `word_at` that place
 pub word_is : (words : List (List ℤ)) (place : ℕ) (word : List ℤ) → place < length words → word ≡ get_or words place word → word ≡ word_at words place
 word_is words place word within is = is ∙ get_or_default words place word (zeros 32) within
 
--- a formula of these variables and clauses
+-- the formula with these variables and clauses
 pub formula_of : (f : Formula) (n : ℕ) (cs : List (List ℤ)) → f.vars ≡ n → f.clauses ≡ cs → f ≡ record { vars = n; clauses = cs }
 formula_of f n cs p q =
     ap (λ k. let g : Formula = record { vars = k; clauses = f.clauses } in g) p ∙ ap (λ k. let g : Formula = record { vars = n; clauses = k } in g) q
@@ -111,7 +111,7 @@ whole_read wide w a b c d before holds start takes first sources base one two th
     (next_clauses wide b c (some ++ none) (some ++ none ++ value) value
     (next_clauses wide a b some (some ++ none) none (one ∙ ap (λ k. with_clauses k some) base) two refl) three refl) four refl
 
--- with the same literals, words and writes
+-- equal literals, words and writes give equal clauses
 pub same_read : (wide : Formula) (before : ℕ → ℕ → ℤ) (holds start : ℤ) (takes first : List ℤ) (sources : List Source) (h s : ℤ) (t f : List ℤ) (xs : List Source)
     → holds ≡ h → start ≡ s → takes ≡ t → first ≡ f → sources ≡ xs
     → with_clauses wide (read_clauses before holds start takes first sources) ≡ with_clauses wide (read_clauses before h s t f xs)

@@ -1,4 +1,5 @@
--- A formula over the events of an order: the order that was asked of every two contended events tells all that its clauses rest on.
+-- A formula over the events of an order that asks about every two contended events has all answers
+-- that its clauses need.
 use Rattle.std.proofs.Common.{◌≡◌, ℕ, ◌<◌, Bool, true, false, List, [], ◌∷◌, ◌++◌, inl, inr, refl, sym, ◌∙◌, subst, arith, map}
 use Rattle.std.specs.Prelude.{fold, if◌then◌else◌, nat_eq}
 use Rattle.std.specs.List.{All, Contains, list_any}
@@ -29,14 +30,14 @@ use Rattle.bit_order.proofs.Asking.{completed-asked, grows-completed}
 use Rattle.bit_blast.specs.Blasted.{BlastMeans, IsApart, IsPosed, RootsTell, blast, layout_of}
 use Rattle.bit_blast.specs.Contended.{contended, is_literal, with_atom, with_body, with_candidate, with_case, with_event}
 use Rattle.bit_blast.specs.Laws.{BodyIsTold}
-use Rattle.bit_blast.specs.Whole.{IsReady, rooted}
+use Rattle.bit_blast.specs.Whole.{IsReady, clauses_with_roots}
 use Rattle.bit_blast.proofs.Completed.{same_part}
 use Rattle.bit_blast.proofs.Lists.{all_of, contains_cases, contains_none}
 use Rattle.bit_blast.proofs.Prefixes.{first_part}
 use Rattle.bit_blast.proofs.Rooted.{roots_over}
 use Rattle.bit_blast.proofs.WholeLaws.{first_true, whole_means}
 
--- what keeps events, and what has one
+-- adding an element keeps the events
 abbrev Keeps : {X : Type 0} → (List ℕ → X → List ℕ) → Type 0
 Keeps with = (events : List ℕ) (x : _) (e : ℕ) → Contains events e → Contains (with events x) e
 
@@ -186,7 +187,7 @@ module _ (nodes : List Node) (formula : List Conjunct) (o : Order) (loads : ℕ)
   same_as w x k = record { before = λ a b p q. k.before a b (omega (arith, p, events)) (omega (arith, q, events)); loads = k.loads; enders = k.enders }
 
   abbrev made : Walked Formula
-  made = rooted y nodes formula
+  made = clauses_with_roots y nodes formula
 
   pub blast_means : BlastMeans nodes formula o loads
   blast_means = record {

@@ -1,4 +1,4 @@
--- What satisfies all clauses satisfies the first of them.
+-- Values that satisfy all clauses satisfy the first ones.
 use Rattle.std.proofs.Common.{◌≡◌, List, [], ◌∷◌, ◌++◌, ℤ, sym, ◌∙◌, subst, true}
 use Rattle.std.proofs.lemmas.Bool.{and_parts}
 use Rattle.std.proofs.lemmas.List.Folds.{list_all-append}

@@ -1,4 +1,4 @@
--- What the roots of a formula mean.
+-- The meaning of the roots of a formula.
 use Rattle.std.proofs.Common.{◌≡◌, ℕ, suc, zero, ◌+◌, ◌<◌, List, [], ◌∷◌, ◌++◌, ℤ, refl, ap, sym, ◌∙◌, subst, arith, Bool, true, false, length, get_or, map}
 use Rattle.std.specs.Prelude.{◌&&◌, ◌||◌, fold}
 use Rattle.std.specs.List.{All, list_all, list_any}
@@ -24,7 +24,7 @@ use Rattle.bit_words.specs.Laws.{values}
 use Rattle.bit_words.specs.Words.{Walked}
 use Rattle.bit_blast.specs.Cases.{Parts, cases_made}
 use Rattle.bit_blast.specs.Laws.{Tells, IsRoot, BodyIsTold, AreRoots, RootsMean}
-use Rattle.bit_blast.specs.Roots.{body_made, with_root, roots, blasted}
+use Rattle.bit_blast.specs.Roots.{body_made, with_root, roots, with_root_clauses}
 use Rattle.bit_blast.proofs.CaseLaws.{cases-mean, or_false, tells_more}
 use Rattle.bit_blast.proofs.Prefixes.{before_grown}
 use Rattle.bit_blast.proofs.Taken.{before_read, reads-mean}
@@ -81,7 +81,7 @@ module _ (o : Order) (nodes : List Node) (world : Valuation → World) (parts : 
       (λ v w agree. ap (λ x. list_any (case_at nodes x) cases) (t.same v w agree)) (cases-mean o nodes world parts f cases t h)
   body_root f (body.Read r) t h = reads-mean o nodes world parts f r t h
 
-  -- what satisfies the clauses with a conjunct's literal satisfies those before it
+  -- values that satisfy the clauses with a conjunct's literal satisfy those before it
   before_body : (f : Formula) (b : Body) → Tells o nodes world parts f → BodyIsTold o b
       → (w : Valuation) → satisfies w (body_made parts f b).formula.clauses ≡ true → satisfies w f.clauses ≡ true
   before_body f (body.Any cases) t h w s = before_grown w f (cases_made parts f cases).formula (cases-mean o nodes world parts f cases t h).grown s
@@ -176,7 +176,7 @@ module _ (o : Order) (nodes : List Node) (world : Valuation → World) (parts : 
       })
 
   pub to : (f : Formula) (formula : List Conjunct) → Tells o nodes world parts f → All (λ c. BodyIsTold o c.body) formula
-      → (w : Valuation) → IsModel w (blasted parts f formula) → IsModel w f × (holds_at nodes (world w) formula ≡ true)
+      → (w : Valuation) → IsModel w (with_root_clauses parts f formula) → IsModel w f × (holds_at nodes (world w) formula ≡ true)
   to f formula t a w p =
       let m : Walked Formula = roots parts f formula in
       let h = are_roots f formula t a in
@@ -192,7 +192,7 @@ module _ (o : Order) (nodes : List Node) (world : Valuation → World) (parts : 
 
   pub back : (f : Formula) (formula : List Conjunct) → Tells o nodes world parts f → All (λ c. BodyIsTold o c.body) formula
       → (v : Valuation) → IsOver f → IsModel v f → holds_at nodes (world v) formula ≡ true
-      → (w : Valuation) × IsModel w (blasted parts f formula) × Agree f.vars v w
+      → (w : Valuation) × IsModel w (with_root_clauses parts f formula) × Agree f.vars v w
   back f formula t a v over p true_there =
       let m : Walked Formula = roots parts f formula in
       let x = (are_roots f formula t a).extends v over p in

@@ -1,4 +1,4 @@
--- The clauses of a formula by their numbers: what the roots tell.
+-- The clauses of a formula by number, and what the roots mean.
 use Rattle.std.proofs.Common.{◌≡◌, ℕ, ◌+◌, ◌-◌, ◌<◌, List, [], ◌∷◌, ℤ, pos, inl, inr, refl, ap, sym, ◌∙◌, subst, arith, Bool, true, false, length, get_or, map}
 use Rattle.std.specs.Prelude.{Some, slice_get}
 use Rattle.std.specs.List.{All, Contains, list_all}
@@ -23,7 +23,7 @@ use Rattle.bit_order.specs.Readings.{world_of}
 use Rattle.bit_order.proofs.Meaning.{values-say-worlds}
 use Rattle.bit_blast.specs.Blasted.{Blasted, RootsTell, background, blast_over, clause_at, impossible, root_of}
 use Rattle.bit_blast.specs.Laws.{AreRoots}
-use Rattle.bit_blast.specs.Whole.{IsReady, rooted, termed}
+use Rattle.bit_blast.specs.Whole.{IsReady, clauses_with_roots, clauses_with_terms}
 use Rattle.bit_blast.proofs.CaseLaws.{or_false}
 use Rattle.bit_blast.proofs.Lists.{all_pass, contains_start, some_fails}
 use Rattle.bit_blast.proofs.Same.{body_same}
@@ -34,7 +34,7 @@ module _ (y : Layout) (nodes : List Node) (formula : List Conjunct) (h : IsReady
   b = blast_over nodes formula y
 
   abbrev m : Walked Formula
-  m = rooted y nodes formula
+  m = clauses_with_roots y nodes formula
 
   abbrev first : List (List ℤ)
   first = m.state.clauses
@@ -42,7 +42,7 @@ module _ (y : Layout) (nodes : List Node) (formula : List Conjunct) (h : IsReady
   abbrev units : List (List ℤ)
   units = map (λ l. l ∷ []) m.word
 
-  roots : AreRoots nodes (world_of y) (termed y nodes).formula m formula
+  roots : AreRoots nodes (world_of y) (clauses_with_terms y nodes).formula m formula
   roots = all_roots y nodes formula h
 
   long : length b.clauses.clauses ≡ length first + length formula
@@ -66,7 +66,7 @@ module _ (y : Layout) (nodes : List Node) (formula : List Conjunct) (h : IsReady
       ap (clause_true v) (root_is k below) ∙ sym (or_false (literal_true v (literal k)))
       ∙ sym (get_or-map (literal_true v) m.word k (pos 0) false (omega (arith, below, roots.count)))
 
-  -- what a conjunct is in a world
+  -- the truth of a conjunct in a world
   told : (w : World) (k : ℕ) (c : Conjunct) → slice_get formula k ≡ Some c
       → get_or (map (λ (d : Conjunct). body_at nodes w d.body) formula) k false ≡ body_at nodes w c.body
   told w k c is =
@@ -100,7 +100,7 @@ module _ (y : Layout) (nodes : List Node) (formula : List Conjunct) (h : IsReady
             ∙ sym (body_same nodes y.order w (world_of y v.0) s.before s.loads s.enders c.body (there k c at)),
       )
 
-  -- the clause of a number that isn't true where all but roots are: the root of a conjunct
+  -- if all clauses except roots are true, a clause that isn't is the root of a conjunct
   root_at : (v : Valuation) (n : ℕ) → satisfies v (background b) ≡ true → n < length b.clauses.clauses → clause_true v (clause_at b n) ≡ false
       → (k : ℕ) × (c : Conjunct) × (root_of b k ≡ n) × (slice_get formula k ≡ Some c)
   root_at v n s below f = elim (cases_lt n (length first)) [

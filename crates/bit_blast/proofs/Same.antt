@@ -1,4 +1,4 @@
--- Formulas are true in both of two worlds that have one order of the events, the same loads and the same enders.
+-- Formulas are equally true in two worlds with the same order of events, loads and enders.
 use Rattle.std.proofs.Common.{◌≡◌, ℕ, ◌<◌, List, [], ◌∷◌, pos, refl, ap, ◌∙◌, Bool, true, false, not}
 use Rattle.std.specs.Prelude.{◌&&◌, ◌||◌, if◌then◌else◌, filter, fold, get_or, nat_eq, Option, Some, None}
 use Rattle.std.specs.Bool.{beq}

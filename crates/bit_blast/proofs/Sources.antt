@@ -1,4 +1,4 @@
--- The writes that a load may take, and the literals that say so.
+-- The writes that a load may take, with their literals.
 use Rattle.std.proofs.Common.{◌≡◌, ◌≢◌, ℕ, suc, ◌+◌, ◌<◌, ◌≤◌, List, [], ◌∷◌, ◌++◌, ℤ, pos, neg_ℤ, refl, ap, sym, ◌∙◌, subst, arith, Bool, true, false, length, get_or, map, IsTrue}
 use Rattle.std.specs.Prelude.{◌||◌, ◌==◌, if◌then◌else◌, fold, Option, Some, None}
 use Rattle.std.specs.List.{All, Contains, flat_map, list_any}
@@ -29,11 +29,11 @@ use Rattle.bit_blast.proofs.CaseLaws.{bit_both, bit_constant, test_bit, tells_mo
 use Rattle.bit_blast.proofs.Lists.{AreTied, all_flat_map, contains_first, contains_later}
 use Rattle.bit_blast.proofs.Values.{value_literals}
 
--- it was asked which of two events comes first
+-- the order asks which of two events comes first
 abbrev pub IsPairAsked : Order → (first second : ℕ) → Type 0
 IsPairAsked o first second = IsTrue (list_any (same_pair (pair_of first second)) o.pairs)
 
--- a source's literals are of the first `n` variables
+-- a source's literals are over the first `n` variables
 pub record IsSourceOf (n : ℕ) (s : Source) : Type 0 where
   pub seen : IsOf n s.seen
   pub taken : IsOf n s.taken
@@ -60,7 +60,7 @@ module _ (o : Order) (nodes : List Node) (world : Valuation → World) (parts : 
       (λ v. c.earlier || is_before (world v) c.event r.event) (λ v. option_map_or (passes_at nodes (world v)) c.same_cell true)
       (event_seen f c.event c.earlier t a) (cell_seen f c.same_cell t)
 
-  -- of each of some writes
+  -- whether the load sees each of some writes
   pub record AreSeen (f : Formula) (m : Walked Formula) (cs : List Candidate) : Type 0 where
     pub grown : IsGrown f m.state
     pub literals : All (IsOf m.state.vars) m.word
@@ -100,7 +100,7 @@ module _ (o : Order) (nodes : List Node) (world : Valuation → World) (parts : 
       (record { grown = grown_none f; literals = All-nil (IsOf f.vars); count = refl; each = λ v o. refl })
 
 module _ (nodes : List Node) (parts : Parts) (r : Read) where
-  -- a source is that of a write, where the load sees it as it does in a world, and something is so of its variable
+  -- a source belongs to a write: it is seen as in a world, and its variable has a property
   pub record IsSourceFor (w : Valuation) (at : World) (Taken : Candidate → ℤ → Type 0) (c : Candidate) (s : Source) : Type 0 where
     pub event : s.event ≡ c.event
     pub value : s.value ≡ word_at parts.words c.value
@@ -150,7 +150,7 @@ are_sources parts high n (c ∷ cs) (l ∷ ls) h a p q =
     (record { seen = All-head (IsOf high) l ls a; taken = (omega arith, omega (arith, h)); value = p c.value; width = q c.value })
     (are_sources parts high (n + 1) cs ls (omega (arith, h)) (All-tail (IsOf high) l ls a) p q)
 
--- the literals of what is said of them
+-- the literals of the sources' clauses
 module _ (parts : Parts) (high : ℕ) (sources : List Source) (are : All (IsSourceOf high) sources)
     (before : (s t : Source) → Contains sources s → Contains sources t → t.event ≢ s.event → IsOf high (parts.before t.event s.event))
   where

@@ -1,4 +1,4 @@
--- What the literal of a read means.
+-- The meaning of the literal of a read.
 use Rattle.std.proofs.Common.{◌≡◌, ◌≢◌, ℕ, suc, ◌+◌, ◌<◌, ◌≤◌, List, [], ◌∷◌, ℤ, pos, refl, ap, sym, ◌∙◌, arith, Bool, true, false, length, get_or, map}
 use Rattle.std.specs.Prelude.{◌==◌}
 use Rattle.std.specs.List.{All, Contains, flat_map, list_all}
@@ -54,7 +54,7 @@ module _ (o : Order) (nodes : List Node) (world : Valuation → World) (parts : 
   named c there =
       contains_later r.event c.event (map (λ (k : Candidate). k.event) r.candidates) (contains_map (λ (k : Candidate). k.event) r.candidates c there)
 
-  -- a candidate is another event than the load
+  -- a candidate is a different event from the load
   other : (c : Candidate) → Contains r.candidates c → c.event ≢ r.event
   other c there same =
       let k : ℕ = there.0 in
@@ -92,7 +92,7 @@ module _ (o : Order) (nodes : List Node) (world : Valuation → World) (parts : 
   more : f.vars ≤ wide.vars
   more = let m : f.vars ≤ n = e.more in omega (arith, m)
 
-  -- all literals are of the formula's variables
+  -- all literals are over the formula's variables
   words : (term : ℕ) → All (IsOf wide.vars) (word_at parts.words term)
   words term = of_wider f.vars wide.vars (word_at parts.words term) more (at_operand f parts.words term t.one t.words).literals
 
@@ -126,7 +126,7 @@ module _ (o : Order) (nodes : List Node) (world : Valuation → World) (parts : 
   raw = read_literals parts wide.vars sources all_sources before_of (pos (n + 1)) (pos (n + 2)) (word_at parts.words r.takes) (word_at parts.words r.start)
       holds_of start_of (words r.takes) (words r.start)
 
-  -- in values that satisfy all clauses
+  -- what holds for values that satisfy all clauses
   satisfied : (w : Valuation) → IsModel w (read_made parts f r).formula → (satisfies w wide.clauses ≡ true) × (satisfies w clauses ≡ true)
   satisfied w m = and_parts (satisfies w wide.clauses) (satisfies w clauses) (sym (with_satisfied w wide clauses m.one raw) ∙ m.all)
 

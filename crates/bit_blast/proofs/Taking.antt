@@ -1,4 +1,4 @@
--- What a load takes: in a world, and where the clauses of its literals are satisfied.
+-- What a load takes, in a world and in values that satisfy its clauses.
 use Rattle.std.proofs.Common.{◌≡◌, ◌≢◌, ℕ, ◌<◌, ◌≤◌, List, [], ◌∷◌, ◌++◌, ℤ, neg_ℤ, refl, ap, sym, ◌∙◌, subst, arith, Bool, true, false, not, length, map, eq-eqb}
 use Rattle.std.specs.Prelude.{◌||◌, ◌==◌, if◌then◌else◌, nat_lt, Option, Some, None}
 use Rattle.std.specs.List.{All, Contains, IsDistinct, flat_map, list_all, list_any}
@@ -43,7 +43,7 @@ module _ (nodes : List Node) (at : World) (r : Read) where
   pub no_source : ((c : Candidate) → Contains r.candidates c → is_read nodes at r c ≡ false) → source_at nodes at r ≡ None
   no_source h = is_none (source_at nodes at r) picked h
 
-  -- events are different, and there, and so have different positions
+  -- the events are different and exist, so they have different positions
   pub record AreApart : Type 0 where
     pub world : IsWorld at
     pub distinct : IsDistinct (λ e d. e == d) (map (λ (c : Candidate). c.event) r.candidates)
@@ -64,7 +64,7 @@ module _ (nodes : List Node) (at : World) (r : Read) where
       → ((d : Candidate) → Contains r.candidates d → is_read nodes at r d ≡ true → position at d.event ≤ position at c.event) → source_at nodes at r ≡ Some c
   the_source apart c there seen last = is_some apart c (source_at nodes at r) picked there seen last
 
-  -- the load takes what it is to take
+  -- the load takes its right value
   pub takes_from : (o : Option Candidate) → source_at nodes at r ≡ o
       → value_at nodes at r.takes ≡ option_map_or (λ (c : Candidate). value_at nodes at c.value) o (value_at nodes at r.start) → read_at nodes at r ≡ true
   takes_from o e h =
@@ -176,7 +176,7 @@ module _ (nodes : List Node) (parts : Parts) (r : Read) (w : Valuation) (at : Wo
     abbrev first : List ℤ
     first = word_at parts.words r.start
 
-    -- where the clauses are satisfied and the start is taken, no write is seen
+    -- if the clauses are satisfied and the start is taken, no write is seen
     none_read : literal_true w start ≡ true → satisfies w (none_clauses start sources) ≡ true → (c : Candidate) → Contains r.candidates c
         → is_read nodes at r c ≡ false
     none_read t met c there =
@@ -187,7 +187,7 @@ module _ (nodes : List Node) (parts : Parts) (r : Read) (w : Valuation) (at : Wo
         (sym (list_all-map (clause_true w) (λ (x : Source). neg_ℤ start ∷ neg_ℤ x.seen ∷ []) sources) ∙ met) k.1 in
         sym k.2.seen ∙ second_false (literal_true w start) _ _ (literal_true w s.seen) not_start (not_seen s k.1) t clause
 
-    -- where a write is taken, it is seen, and no other that is seen comes after it
+    -- if a write is taken, it is seen, and no other seen write comes after it
     module _ (s : Source) (there : Contains sources s) (c : Candidate) (among : Contains r.candidates c) (is : IsSourceFor nodes parts r w at Taken c s)
         (taken : literal_true w s.taken ≡ true) (met : list_all (clause_true w) (last_clauses parts.before sources s) ≡ true)
       where
@@ -225,7 +225,8 @@ module _ (nodes : List Node) (parts : Parts) (r : Read) (w : Valuation) (at : Wo
         pub is_taken : source_at nodes at r ≡ Some c
         is_taken = the_source nodes at r apart c among is_seen none_after
 
-    -- so where they are satisfied and the conjunct's literal is true, the load takes what it is to take
+    -- if the clauses are satisfied and the conjunct's literal is true, the load takes its right
+    -- value
     from_source : literal_true w holds ≡ true → (s : Source) → Contains sources s → literal_true w s.taken ≡ true
         → satisfies w (flat_map (each_clauses parts holds takes sources) sources) ≡ true → read_at nodes at r ≡ true
     from_source t s there taken met =
@@ -261,13 +262,13 @@ module _ (nodes : List Node) (parts : Parts) (r : Read) (w : Valuation) (at : Wo
             (sym (any_map (literal_true w) (λ (x : Source). x.taken) sources) ∙ some) in
             from_source t s.0 s.1 s.2 met.each
 
-    -- and where the variables are as the world says, they are satisfied
+    -- if the variables are as in the world, the clauses are satisfied
     module _ (said : (c : Candidate) (l : ℤ) → Taken c l
         → literal_true w l ≡ option_map_or (λ (d : Candidate). c.event == d.event) (source_at nodes at r) false)
         (holding : literal_true w holds ≡ read_at nodes at r)
         (starting : literal_true w start ≡ option_map_or (λ (d : Candidate). false) (source_at nodes at r) true)
       where
-        -- a write is taken where it is the source
+        -- a write is taken if it is the source
         source_is : (c : Candidate) → Contains r.candidates c → (o : Option Candidate) → Picked nodes at r o
             → option_map_or (λ (d : Candidate). c.event == d.event) o false ≡ true → o ≡ Some c
         source_is c there None p e = absurd (false≢true e)
@@ -306,7 +307,7 @@ module _ (nodes : List Node) (parts : Parts) (r : Read) (w : Valuation) (at : Wo
         off : (t : ℤ) → literal_true w (neg_ℤ t) ≡ true → (xs : List ℤ) → satisfies w (value_clauses holds t takes xs) ≡ true
         off t e xs = values_off w holds t takes xs (or_right (literal_true w (neg_ℤ holds)) (literal_true w (neg_ℤ t)) e)
 
-        -- the values are equal where the load takes one, and what it is to take
+        -- the values are equal if the load takes the one that it should
         value_met : (t : ℤ) (term : ℕ) (o : Option Candidate) → literal_true w (neg_ℤ t) ≡ not (literal_true w t)
             → (literal_true w t ≡ true → source_at nodes at r ≡ o) → option_map_or (λ (c : Candidate). value_at nodes at c.value) o (value_at nodes at r.start) ≡ value_at nodes at term
             → satisfies w (value_clauses holds t takes (word_at parts.words term)) ≡ true
@@ -332,7 +333,7 @@ module _ (nodes : List Node) (parts : Parts) (r : Read) (w : Valuation) (at : Wo
             from None e = refl
             from (Some d) e = absurd (false≢true e)
 
-        -- no write that is seen comes after the source
+        -- no seen write comes after the source
         module _ (s : Source) (there : Contains sources s) (c : Candidate) (among : Contains r.candidates c) (is : IsSourceFor nodes parts r w at Taken c s) where
           seen_met : literal_true w s.taken ≡ true → literal_true w s.seen ≡ true
           seen_met t = is.seen ∙ from (source_at nodes at r) (picked nodes at r) (the_taken s c among is t)

@@ -1,4 +1,4 @@
--- Clauses by which two words have one value.
+-- Clauses that give two words the same value.
 use Rattle.std.proofs.Common.{◌≡◌, ℕ, ◌^◌, ◌<◌, List, [], ◌∷◌, ℤ, neg_ℤ, refl, ap, sym, ◌∙◌, subst, arith, Bool, true, false, not, length}
 use Rattle.std.specs.Prelude.{◌&&◌, ◌||◌}
 use Rattle.std.specs.Int.{w32, cast_signed, cast_unsigned}
@@ -19,7 +19,7 @@ use Rattle.bit_blast.specs.Reads.{value_clauses}
 below_32 : (w : Valuation) (xs : List ℤ) → length xs ≡ 32 → value w xs < 2 ^ 32
 below_32 w xs e = subst (λ n. value w xs < 2 ^ n) e (value_below w xs)
 
--- numbers of as many bits are equal where the bits are
+-- numbers with equally many bits are equal if their bits are
 number_same : (ps qs : List Bool) → length ps ≡ length qs → number_of ps ≡ number_of qs → ps ≡ qs
 number_same [] [] e h = refl
 number_same [] (q ∷ qs) e h = absurd (omega (arith, e))
@@ -58,7 +58,7 @@ value_literals n holds taken (x ∷ xs) (y ∷ ys) h t p q =
     four a b c d p q r s =
         All-cons (IsOf n) a (b ∷ c ∷ d ∷ []) p (All-cons (IsOf n) b (c ∷ d ∷ []) q (All-cons (IsOf n) c (d ∷ []) r (All-cons (IsOf n) d [] s (All-nil (IsOf n)))))
 
--- where both variables are true the bits are equal
+-- if both variables are true, the bits are equal
 bit_forced : (h t a b nh nt na nb : Bool) → h ≡ true → t ≡ true → nh ≡ not h → nt ≡ not t → na ≡ not a → nb ≡ not b
     → (nh || (nt || (na || (b || false)))) ≡ true → (nh || (nt || (a || (nb || false)))) ≡ true → a ≡ b
 bit_forced h t true true nh nt na nb p q r s u v x y = refl
@@ -85,7 +85,7 @@ values_forced w n holds taken (x ∷ xs) (y ∷ ys) h t p q e i j s =
     ∙ ap (λ k. literal_true w y ∷ k)
     (values_forced w n holds taken xs ys h t (All-tail (IsOf n) x xs p) (All-tail (IsOf n) y ys q) (omega (arith, e)) i j two.1)
 
--- where one of them is false, or the bits are equal, the clauses are true
+-- if one variable is false or the bits are equal, the clauses are true
 off_one : (nh nt p : Bool) → (nh || nt) ≡ true → (nh || (nt || p)) ≡ true
 off_one true nt p h = refl
 off_one false true p h = refl

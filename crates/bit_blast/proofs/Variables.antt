@@ -1,4 +1,4 @@
--- Values of variables that were added.
+-- Values of added variables.
 use Rattle.std.proofs.Common.{◌≡◌, ℕ, suc, zero, ◌+◌, ◌-◌, ◌<◌, List, pos, refl, ◌∙◌, arith, Bool, true, false, get_or}
 use Rattle.std.specs.Prelude.{if◌then◌else◌, nat_le}
 use borrow.Author.Tests.{le-leb}

@@ -1,4 +1,4 @@
--- What all clauses of an order, its terms and a formula mean.
+-- The meaning of all clauses of an order, its terms and a formula.
 use Rattle.std.proofs.Common.{◌≡◌, ℕ, suc, zero, ◌+◌, ◌<◌, List, [], ◌∷◌, ℤ, refl, ap, sym, ◌∙◌, subst, arith, Bool, true, false, map}
 use Rattle.std.specs.Prelude.{◌&&◌, ◌||◌}
 use Rattle.std.specs.List.{All, range_with_len}
@@ -30,7 +30,7 @@ use Rattle.bit_terms.proofs.Meaning.{terms-mean}
 use Rattle.bit_blast.specs.Cases.{Parts}
 use Rattle.bit_blast.specs.Layered.{parts_of}
 use Rattle.bit_blast.specs.Laws.{AreRoots, Tells}
-use Rattle.bit_blast.specs.Whole.{load_words, rooted, termed, IsReady, WholeMeans}
+use Rattle.bit_blast.specs.Whole.{load_words, clauses_with_roots, clauses_with_terms, IsReady, WholeMeans}
 use Rattle.bit_blast.proofs.Prefixes.{first_part, before_grown}
 use Rattle.bit_blast.proofs.RootLaws.{are_roots, before_all, to, back}
 use Rattle.bit_blast.proofs.Same.{holds_same}
@@ -39,7 +39,7 @@ map_twice : {X Y Z : Type 0} (f : X → Y) (g : Y → Z) (xs : List X) → map g
 map_twice f g [] = refl
 map_twice f g (x ∷ xs) = ap (λ ys. g (f x) ∷ ys) (map_twice f g xs)
 
--- the loads' words are of the order's variables
+-- the loads' words are over the order's variables
 pub all_range : (P : ℕ → Type 0) (a n : ℕ) → ((k : ℕ) → k < a + n → P k) → All P (range_with_len a n)
 all_range P a zero h = All-nil P
 all_range P a (suc n) h =
@@ -64,14 +64,14 @@ module _ (y : Layout) (nodes : List Node) (formula : List Conjunct) (h : IsReady
       (all_range (λ k. IsOperand (ordered y) (load_word y k)) 0 y.loads
       (λ k below. record { literals = literals.load_there k (omega (arith, below)); width = literals.load_wide k }))
 
-  terms : HaveInts nodes (load_words y) (ordered y) (termed y nodes)
+  terms : HaveInts nodes (load_words y) (ordered y) (clauses_with_terms y nodes)
   terms = terms-mean nodes (load_words y) (ordered y) some h.ints loads
 
   abbrev g : Formula
-  g = (termed y nodes).formula
+  g = (clauses_with_terms y nodes).formula
 
   abbrev parts : Parts
-  parts = parts_of y (termed y nodes).words
+  parts = parts_of y (clauses_with_terms y nodes).words
 
   grown : IsExtended (ordered y) g
   grown = gates-extend (ordered y) g some terms.grown
@@ -115,11 +115,11 @@ module _ (y : Layout) (nodes : List Node) (formula : List Conjunct) (h : IsReady
   still : (v u : Valuation) → Agree g.vars v u → world_of y v ≡ world_of y u
   still v u agree = same-world y v u (λ k below. agree k (omega (arith, below, order.more, grown.more)))
 
-  pub all_roots : AreRoots nodes (world_of y) (termed y nodes).formula (rooted y nodes formula) formula
+  pub all_roots : AreRoots nodes (world_of y) (clauses_with_terms y nodes).formula (clauses_with_roots y nodes formula) formula
   all_roots = are_roots y.order nodes (world_of y) parts g formula tells h.told
 
-  -- the first clause says that the variable 1 is true
-  pub first_true : (v : Valuation) → satisfies v (rooted y nodes formula).state.clauses ≡ true → v 1 ≡ true
+  -- the first clause makes variable 1 true
+  pub first_true : (v : Valuation) → satisfies v (clauses_with_roots y nodes formula).state.clauses ≡ true → v 1 ≡ true
   first_true v s =
       let c : Formula = (comparators y).state in
       let here : satisfies v (ordered y).clauses ≡ true =

@@ -1,4 +1,4 @@
--- Which variables the literals of an order and of its loads have.
+-- The variables of the literals of an order and its loads.
 use Rattle.std.proofs.Common.{◌≡◌, ℕ, ◌+◌, ◌≤◌, List, [], ◌∷◌, ℤ, ◌∙◌, arith, length}
 use Rattle.std.specs.Prelude.{fold}
 use Rattle.std.specs.List.{All, range_with_len}

@@ -5,7 +5,7 @@ use Rattle.sym_terms.specs.declared.node.Node.{Node}
 use Rattle.order_formula.specs.declared.formula.Body.{Body}
 use Rattle.order_formula.specs.declared.formula.Body.TheVariants as body
 use Rattle.order_formula.specs.declared.formula.Conjunct.{Conjunct}
-use Rattle.order_formula.specs.Orders.{Order, ConjunctIsIn, IsAsked, unasked}
+use Rattle.order_formula.specs.Orders.{Order, ConjunctIsIn, IsAsked, order_without_questions}
 use Rattle.order_formula.specs.Truth.{body_at, holds_at}
 use Rattle.order_formula.specs.Worlds.{World}
 use Rattle.cnf_core.specs.Clauses.{Formula, IsUnsatisfiable, Valuation, clause_true, satisfies}
@@ -15,7 +15,7 @@ use Rattle.bit_order.specs.Layouts.{Layout}
 use Rattle.bit_order.specs.Readings.{world_of}
 use Rattle.bit_terms.specs.Laws.{IsIntNode}
 use Rattle.bit_blast.specs.Contended.{contended}
-use Rattle.bit_blast.specs.Whole.{whole}
+use Rattle.bit_blast.specs.Whole.{all_clauses}
 
 pub record Blasted : Type 0 where
   pub layout : Layout
@@ -33,7 +33,7 @@ layout_of order loads formula = record { order = completed order (contended form
 
 -- the clauses of a formula over a layout and terms
 abbrev pub blast_over : List Node → List Conjunct → Layout → Blasted
-blast_over nodes formula y = record { layout = y; clauses = whole y nodes formula; conjuncts = length formula }
+blast_over nodes formula y = record { layout = y; clauses = all_clauses y nodes formula; conjuncts = length formula }
 
 -- the clauses of a formula over an order, with `loads` loads
 abbrev pub blast : List Node → List Conjunct → Order → ℕ → Blasted
@@ -42,7 +42,7 @@ blast nodes formula order loads = blast_over nodes formula (layout_of order load
 -- the clauses of an impossible formula: only the empty clause, over no variables
 abbrev pub impossible : Blasted
 impossible = record {
-  layout = record { order = unasked 0 0; loads = 0 };
+  layout = record { order = order_without_questions 0 0; loads = 0 };
   clauses = record { vars = 0; clauses = [] ∷ [] };
   conjuncts = 0;
 }

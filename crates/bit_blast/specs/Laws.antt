@@ -21,7 +21,7 @@ use Rattle.bit_ops.specs.Laws.{IsOperand}
 use Rattle.bit_terms.specs.Terms.{word_at}
 use Rattle.bit_blast.specs.Cases.{Parts, cases_made}
 use Rattle.bit_blast.specs.Reads.{read_made}
-use Rattle.bit_blast.specs.Roots.{roots, blasted}
+use Rattle.bit_blast.specs.Roots.{roots, with_root_clauses}
 
 -- each valuation has a world, and in each model of `f` the parts say what is true in that world
 pub record Tells (o : Order) (nodes : List Node) (world : Valuation → World) (parts : Parts) (f : Formula) : Type 0 where
@@ -90,8 +90,8 @@ pub record RootsMean : Type 0 where
       → Tells o nodes world parts f → All (λ c. BodyIsTold o c.body) formula → AreRoots nodes world f (roots parts f formula) formula
   pub to : (o : Order) (nodes : List Node) (world : Valuation → World) (parts : Parts) (f : Formula) (formula : List Conjunct)
       → Tells o nodes world parts f → All (λ c. BodyIsTold o c.body) formula
-      → (w : Valuation) → IsModel w (blasted parts f formula) → IsModel w f × (holds_at nodes (world w) formula ≡ true)
+      → (w : Valuation) → IsModel w (with_root_clauses parts f formula) → IsModel w f × (holds_at nodes (world w) formula ≡ true)
   pub back : (o : Order) (nodes : List Node) (world : Valuation → World) (parts : Parts) (f : Formula) (formula : List Conjunct)
       → Tells o nodes world parts f → All (λ c. BodyIsTold o c.body) formula
       → (v : Valuation) → IsOver f → IsModel v f → holds_at nodes (world v) formula ≡ true
-      → (w : Valuation) × IsModel w (blasted parts f formula) × Agree f.vars v w
+      → (w : Valuation) × IsModel w (with_root_clauses parts f formula) × Agree f.vars v w

@@ -5,7 +5,7 @@ use Rattle.std.specs.Option.{option_map_or}
 use Rattle.order_formula.specs.declared.read.Candidate.{Candidate}
 use Rattle.order_formula.specs.Reads.{Read}
 use Rattle.cnf_core.specs.Clauses.{Formula}
-use Rattle.bit_gates.specs.Folded.{Made, constant, kept, both}
+use Rattle.bit_gates.specs.Folded.{Made, constant, kept, conjunction}
 use Rattle.bit_words.specs.Words.{Walked}
 use Rattle.bit_order.specs.Clauses.{folded_clause}
 use Rattle.bit_ops.specs.Ops.{some_of}
@@ -59,7 +59,7 @@ module _ (parts : Parts) where
   abbrev pub seen_made : Read → Formula → Candidate → Made
   seen_made r f c =
       let cell : Made = option_map_or (λ test. some_of f (word_at parts.words test)) c.same_cell (kept f (constant true)) in
-      both cell.formula (if c.earlier then constant true else parts.before c.event r.event) cell.literal
+      conjunction cell.formula (if c.earlier then constant true else parts.before c.event r.event) cell.literal
 
   abbrev pub with_seen : Read → Walked Formula → Candidate → Walked Formula
   with_seen r m c = let here : Made = seen_made r m.state c in record { state = here.formula; word = m.word ++ here.literal ∷ [] }

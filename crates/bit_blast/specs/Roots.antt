@@ -23,6 +23,6 @@ module _ (parts : Parts) where
   roots f formula = fold with_root (record { state = f; word = [] }) formula
 
   -- adds a clause for each root at the end, in order
-  abbrev pub blasted : Formula → List Conjunct → Formula
-  blasted f formula =
+  abbrev pub with_root_clauses : Formula → List Conjunct → Formula
+  with_root_clauses f formula =
       let m : Walked Formula = roots f formula in record { vars = m.state.vars; clauses = m.state.clauses ++ map (λ l. l ∷ []) m.word }

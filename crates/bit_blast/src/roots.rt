@@ -6,7 +6,7 @@ ghost use Rattle.bit_gates.specs.Folded.{HasRoom, IsLarger};
 ghost use Rattle.bit_words.specs.Words.{AreWithin};
 ghost use Rattle.order_formula.specs.Formulas.{BodyIsOf, IsOf};
 ghost use Rattle.bit_blast.specs.Layered.{parts_of};
-ghost use Rattle.bit_blast.specs.Roots.{body_made, roots, blasted};
+ghost use Rattle.bit_blast.specs.Roots.{body_made, roots, with_root_clauses};
 ghost use Rattle.bit_blast.specs.Sizes.{body_size, bodies_size, size_of};
 ghost use Rattle.bit_blast.specs.helpers.Within.{ArePartsWithin};
 
@@ -31,7 +31,7 @@ pub(crate) fn add_formula(
     requires parts { ArePartsWithin circuit.old.vars (parts_of layout.now words.now) }
     requires terms { IsOf (length words.now) formula.now }
     requires room { HasRoom (size_of formula.now) circuit.old }
-    ensures formula { OnOk result (circuit.new ≡ blasted (parts_of layout.now words.now) circuit.old formula.now) }
+    ensures formula { OnOk result (circuit.new ≡ with_root_clauses (parts_of layout.now words.now) circuit.old formula.now) }
     ensures roots { OnOk result (length formula.now ≤ length circuit.new.clauses) }
     ensures larger { OnOk result (IsLarger (size_of formula.now) circuit.old circuit.new) }
 {

@@ -8,7 +8,7 @@ ghost use Rattle.bit_order.specs.Comparators.{ordered};
 ghost use Rattle.bit_order.specs.Layouts.{base};
 ghost use Rattle.bit_terms.specs.Sizes.{terms_size};
 ghost use Rattle.bit_blast.specs.Sizes.{IsUpTo, size_of, whole_size};
-ghost use Rattle.bit_blast.specs.Whole.{load_words, whole};
+ghost use Rattle.bit_blast.specs.Whole.{load_words, all_clauses};
 
 use crate::roots::add_formula;
 use bit_gates::Circuit;
@@ -32,7 +32,7 @@ pub(crate) fn clauses(
     requires terms { IsOf (length terms.now) formula.now }
     requires room { whole_size (record { order = order; loads = loads }) terms.now formula.now < LIMIT }
     ensures layout { IfOk result (λ made. made.0 ≡ record { order = order; loads = loads }) }
-    ensures clauses { IfOk result (λ made. made.1 ≡ whole (record { order = order; loads = loads }) terms.now formula.now) }
+    ensures clauses { IfOk result (λ made. made.1 ≡ all_clauses (record { order = order; loads = loads }) terms.now formula.now) }
     ensures lawful { IfOk result (λ made. IsOrder made.0.order) }
     ensures variables { IfOk result (λ made. (base made.0).vars ≤ made.1.vars) }
     ensures roots { IfOk result (λ made. length formula.now ≤ length made.1.clauses) }
@@ -55,7 +55,7 @@ fn add_system(
     requires lawful { IsOrder layout.now.order }
     requires terms { IsOf (length terms.now) formula.now }
     requires room { HasRoom (terms_size terms.now + size_of formula.now) circuit.old }
-    ensures formula { OnOk result (circuit.new ≡ whole layout.now terms.now formula.now) }
+    ensures formula { OnOk result (circuit.new ≡ all_clauses layout.now terms.now formula.now) }
     ensures variables { OnOk result ((base layout.now).vars ≤ circuit.new.vars) }
     ensures roots { OnOk result (length formula.now ≤ length circuit.new.clauses) }
     ensures larger { OnOk result (IsLarger (terms_size terms.now + size_of formula.now) circuit.old circuit.new) }

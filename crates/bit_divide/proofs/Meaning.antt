@@ -1,4 +1,4 @@
--- What a division means.
+-- The meaning of a division.
 use Rattle.std.proofs.Common.{◌≡◌, ℕ, suc, zero, ◌+◌, ◌*◌, ◌^◌, ◌<◌, ◌≤◌, List, [], ◌∷◌, ℤ, neg_ℤ, refl, ap, sym, ◌∙◌, subst, arith, Bool, true, false, length, drop}
 use Rattle.std.specs.Prelude.{if◌then◌else◌}
 use Rattle.std.specs.List.{All}
@@ -10,7 +10,7 @@ use Rattle.bit_gates.specs.Folded.{Made, constant}
 use Rattle.bit_gates.specs.Laws.{IsGrown, IsModel, IsOf}
 use Rattle.bit_gates.proofs.Blocks.{grown_none, grown_twice, IsOf-grown, model_before}
 use Rattle.bit_gates.proofs.Meaning.{constant_of, constant_value}
-use Rattle.bit_words.specs.Words.{Walked, added, chosen_words, inverted}
+use Rattle.bit_words.specs.Words.{Walked, word_sum, chosen_words, inverted_word}
 use Rattle.bit_words.specs.Laws.{values, digit, number_of, value, at_places}
 use Rattle.bit_words.proofs.Meaning.{all_grown, chosen_words_mean, words-mean, invert_means}
 use Rattle.bit_arith.specs.Sums.{zeros}
@@ -26,7 +26,7 @@ chosen_value : (c : Bool) (ps qs : List Bool) → length qs ≡ length ps
 chosen_value true ps qs e = ap number_of (chosen_values true ps qs e)
 chosen_value false ps qs e = ap number_of (chosen_values false ps qs e)
 
--- nothing is lost where the remainder doubles
+-- doubling the remainder loses no bit
 no_top : (p next t low : ℕ) → next + p * t ≡ low → low < p → next ≡ low
 no_top p next zero low e h = let z : p * 0 ≡ 0 = mul-zero p in omega (arith, e, z)
 no_top p next (suc t) low e h = let z : p * suc t ≡ p * t + p = mul-suc p t in absurd (omega (arith, e, z, h))
@@ -61,7 +61,7 @@ place_means f rest bit opposite r b o e =
     let next : List ℤ = shifted_in bit rest in
     let next_of : All (IsOf f.vars) next = All-take (IsOf f.vars) n (bit ∷ rest) (All-cons (IsOf f.vars) bit rest b r) in
     let long : length next ≡ n = length-take n (bit ∷ rest) ∙ omega arith in
-    let less : Walked Made = added f next opposite (constant true) in
+    let less : Walked Made = word_sum f next opposite (constant true) in
     let g : Formula = less.state.formula in
     let c : ℤ = less.state.literal in
     let h = words-mean.add f next opposite (constant true) next_of o (constant_of f.vars true one) (e ∙ sym long) in
@@ -140,7 +140,7 @@ pub division-means : DivisionMeans
 division-means f xs ds one p q =
     let rest : List ℤ = zeros (length ds) in
     let long : length rest ≡ length ds = length-replicate (length ds) (constant false) in
-    let h = divided_means f rest (inverted ds) xs (All-replicate (IsOf f.vars) (length ds) (constant false) (constant_of f.vars false one))
+    let h = divided_means f rest (inverted_word ds) xs (All-replicate (IsOf f.vars) (length ds) (constant false) (constant_of f.vars false one))
     (all_inverted f.vars ds q) p (length-map ds neg_ℤ ∙ sym long)
     (λ w o. value_zeros w (length ds) (constant_value w false o)) in
     record {

@@ -16,7 +16,7 @@ take_less j xs = ap (λ k. take j (take k xs)) (let n : j + 1 ≡ suc j = omega 
     less (suc k) [] = refl
     less (suc k) (z ∷ zs) = ap (λ r. z ∷ r) (less k zs)
 
--- what a division has made of the places from `i` on
+-- the state of a division after the places from `i` on
 pub record IsDividedTo (f : Formula) (rest opposite old : List ℤ) (i : ℕ) (g : Formula) (now word : List ℤ) : Type 0 where
   pub formula : g ≡ (divided f rest opposite (drop i old)).formula
   pub remainder : now ≡ (divided f rest opposite (drop i old)).remainder

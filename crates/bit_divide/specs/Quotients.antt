@@ -2,7 +2,7 @@
 use Rattle.std.specs.Prelude.{true, List, [], ◌∷◌, ℤ, length}
 use Rattle.cnf_core.specs.Clauses.{Formula}
 use Rattle.bit_gates.specs.Folded.{Made, constant}
-use Rattle.bit_words.specs.Words.{Walked, added, chosen_words, inverted}
+use Rattle.bit_words.specs.Words.{Walked, word_sum, chosen_words, inverted_word}
 use Rattle.bit_arith.specs.Sums.{zeros}
 use Rattle.bit_shift.specs.Shifts.{shifted_in}
 
@@ -16,7 +16,7 @@ pub record Divided : Type 0 where
 abbrev pub divided_place : Formula → List ℤ → ℤ → List ℤ → Walked Made
 divided_place f rest bit opposite =
     let next : List ℤ = shifted_in bit rest in
-    let less : Walked Made = added f next opposite (constant true) in
+    let less : Walked Made = word_sum f next opposite (constant true) in
     let kept : Walked Formula = chosen_words less.state.literal less.state.formula less.word next in
     record { state = record { formula = kept.state; literal = less.state.literal }; word = kept.word }
 
@@ -30,4 +30,4 @@ divided f rest opposite (x ∷ xs) =
 
 -- the division of a word by another
 abbrev pub division : Formula → List ℤ → List ℤ → Divided
-division f xs ds = divided f (zeros (length ds)) (inverted ds) xs
+division f xs ds = divided f (zeros (length ds)) (inverted_word ds) xs

@@ -1,4 +1,4 @@
--- Formulas with blocks of gates more.
+-- Formulas with more blocks of gates.
 use Rattle.std.proofs.Common.{◌≡◌, ℕ, suc, zero, ◌≤◌, ◌+◌, List, [], ◌∷◌, ◌++◌, ℤ, pos, negsuc, neg_ℤ, refl, ap, sym, ◌∙◌, subst, arith, true, length}
 use Rattle.std.specs.Prelude.{nat_lt, nat_le}
 use borrow.Author.Tests.{lt-ltb, le-leb}
@@ -61,7 +61,7 @@ before_gates w f (g ∷ gs) s =
     let all : satisfies w (f.clauses ++ gate_clauses f.vars g) ≡ true = before_gates w (after_gate f g) gs s in
     (and_parts _ _ (sym (list_all-append (clause_true w) f.clauses (gate_clauses f.vars g)) ∙ all)).0
 
--- what satisfies a formula satisfied it before
+-- a model of a formula is a model of what it has grown from
 pub model_before : (w : Valuation) (f g : Formula) → IsGrown f g → IsModel w g → IsModel w f
 model_before w f g h m = record {
   one = m.one;

@@ -1,4 +1,4 @@
--- What each gate means.
+-- The meaning of each gate.
 use Rattle.std.proofs.Common.{◌≡◌, ℕ, ◌<◌, [], ◌∷◌, ℤ, neg_ℤ, refl, ap, sym, ◌∙◌, arith, Bool, true, false, not}
 use Rattle.std.specs.Prelude.{◌&&◌, ◌||◌, if◌then◌else◌}
 use Rattle.std.specs.Ordering.{int_eq}
@@ -9,7 +9,7 @@ use Rattle.cnf_core.specs.Gates.{gate_value, Wired, is_over}
 use Rattle.cnf_core.specs.declared.gates.Gate.{Gate}
 use Rattle.cnf_core.specs.declared.gates.Gate.TheVariants.{And, Or, Xor}
 use Rattle.cnf_core.proofs.GateLaws.{literal_true-neg, gate-decides}
-use Rattle.bit_gates.specs.Folded.{Made, constant, kept, gated, both, either, differing, folded, chosen}
+use Rattle.bit_gates.specs.Folded.{Made, constant, kept, new_gate, conjunction, disjunction, differing, folded_gate, conditional}
 use Rattle.bit_gates.specs.Laws.{IsModel, IsOf, IsBit, GatesMean}
 use Rattle.bit_gates.proofs.Blocks.{IsOf-opposite, is_over-of, grown_none, grown_twice, IsOf-grown, model_before}
 
@@ -22,7 +22,7 @@ kept_bit : (f : Formula) (l : ℤ) (meaning : Valuation → Bool) → IsOf f.var
 kept_bit f l meaning o v = record { grown = grown_none f; literal = o; value = v }
 
 gated_bit : (f : Formula) (g : Gate) (a b : ℤ) → IsOf f.vars a → IsOf f.vars b
-    → IsBit f (gated f g a b) (λ w. gate_value g (literal_true w a) (literal_true w b))
+    → IsBit f (new_gate f g a b) (λ w. gate_value g (literal_true w a) (literal_true w b))
 gated_bit f g a b p q =
     let wired : Wired = record { gate = g; first = a; second = b } in
     let first : is_over f.vars a ≡ true = is_over-of f.vars a p in
@@ -86,7 +86,7 @@ first_alone : (p q : Bool) → q ≡ true → p ≡ (p && q)
 first_alone true q h = sym h
 first_alone false q h = refl
 
-pub both_bit : (f : Formula) (a b : ℤ) → IsOf f.vars a → IsOf f.vars b → IsBit f (both f a b) (λ w. literal_true w a && literal_true w b)
+pub both_bit : (f : Formula) (a b : ℤ) → IsOf f.vars a → IsOf f.vars b → IsBit f (conjunction f a b) (λ w. literal_true w a && literal_true w b)
 both_bit f a b p q =
     let n : 0 < f.vars = omega (arith, p.0, p.1) in
     let meaning : Valuation → Bool = λ w. literal_true w a && literal_true w b in
@@ -110,9 +110,9 @@ not_and true q = refl
 not_and false true = refl
 not_and false false = refl
 
-pub either_bit : (f : Formula) (a b : ℤ) → IsOf f.vars a → IsOf f.vars b → IsBit f (either f a b) (λ w. literal_true w a || literal_true w b)
+pub either_bit : (f : Formula) (a b : ℤ) → IsOf f.vars a → IsOf f.vars b → IsBit f (disjunction f a b) (λ w. literal_true w a || literal_true w b)
 either_bit f a b p q =
-    let made : Made = both f (neg_ℤ a) (neg_ℤ b) in
+    let made : Made = conjunction f (neg_ℤ a) (neg_ℤ b) in
     let h = both_bit f (neg_ℤ a) (neg_ℤ b) (IsOf-opposite f.vars a p) (IsOf-opposite f.vars b q) in
     record {
       grown = h.grown;
@@ -187,17 +187,17 @@ if_same true p q h = refl
 if_same false p q h = h
 
 pub chosen_bit : (f : Formula) (c a b : ℤ) → IsOf f.vars c → IsOf f.vars a → IsOf f.vars b
-    → IsBit f (chosen f c a b) (λ w. if literal_true w c then literal_true w a else literal_true w b)
+    → IsBit f (conditional f c a b) (λ w. if literal_true w c then literal_true w a else literal_true w b)
 chosen_bit f c a b o p q =
     let meaning : Valuation → Bool = λ w. if literal_true w c then literal_true w a else literal_true w b in
     let P : Made → Type 0 = λ m. IsBit f m meaning in
-    let x : Made = both f c a in
-    let y : Made = both x.formula (neg_ℤ c) b in
+    let x : Made = conjunction f c a in
+    let y : Made = conjunction x.formula (neg_ℤ c) b in
     let hx = both_bit f c a o p in
     let hy = both_bit x.formula (neg_ℤ c) b (IsOf-opposite x.formula.vars c (IsOf-grown f x.formula c hx.grown o))
     (IsOf-grown f x.formula b hx.grown q) in
     let hz = either_bit y.formula x.literal y.literal (IsOf-grown x.formula y.formula x.literal hy.grown hx.literal) hy.literal in
-    let z : Made = either y.formula x.literal y.literal in
+    let z : Made = disjunction y.formula x.literal y.literal in
     choose_case P (int_eq a b) _ _
     (λ e. kept_bit f a meaning p (λ w m. if_same (literal_true w c) _ _ (is_same w a b e)))
     (λ _. record {
@@ -213,7 +213,7 @@ chosen_bit f c a b o p q =
     })
 
 pub folded_bit : (g : Gate) (f : Formula) (a b : ℤ) → IsOf f.vars a → IsOf f.vars b
-    → IsBit f (folded g f a b) (λ w. gate_value g (literal_true w a) (literal_true w b))
+    → IsBit f (folded_gate g f a b) (λ w. gate_value g (literal_true w a) (literal_true w b))
 folded_bit And f a b p q = both_bit f a b p q
 folded_bit Or f a b p q = either_bit f a b p q
 folded_bit Xor f a b p q = differing_bit f a b p q

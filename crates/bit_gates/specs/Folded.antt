@@ -22,24 +22,24 @@ abbrev pub kept : Formula → ℤ → Made
 kept f l = record { formula = f; literal = l }
 
 -- a new gate, with the literal of its variable
-abbrev pub gated : Formula → Gate → ℤ → ℤ → Made
-gated f g a b = record { formula = after_gate f (record { gate = g; first = a; second = b }); literal = pos (suc f.vars) }
+abbrev pub new_gate : Formula → Gate → ℤ → ℤ → Made
+new_gate f g a b = record { formula = after_gate f (record { gate = g; first = a; second = b }); literal = pos (suc f.vars) }
 
 -- the conjunction of two literals
-abbrev pub both : Formula → ℤ → ℤ → Made
-both f a b =
+abbrev pub conjunction : Formula → ℤ → ℤ → Made
+conjunction f a b =
     if int_eq a (constant false) || int_eq b (constant false) || int_eq a (neg_ℤ b) then kept f (constant false)
     else if int_eq a (constant true) || int_eq a b then kept f b
     else if int_eq b (constant true) then kept f a
-    else gated f And a b
+    else new_gate f And a b
 
 -- the negation of a result
 abbrev pub opposite : Made → Made
 opposite m = kept m.formula (neg_ℤ m.literal)
 
 -- the disjunction of two literals
-abbrev pub either : Formula → ℤ → ℤ → Made
-either f a b = opposite (both f (neg_ℤ a) (neg_ℤ b))
+abbrev pub disjunction : Formula → ℤ → ℤ → Made
+disjunction f a b = opposite (conjunction f (neg_ℤ a) (neg_ℤ b))
 
 -- true where one of the literals is and the other isn't
 abbrev pub differing : Formula → ℤ → ℤ → Made
@@ -50,19 +50,19 @@ differing f a b =
     else if int_eq a (constant true) then kept f (neg_ℤ b)
     else if int_eq b (constant false) then kept f a
     else if int_eq b (constant true) then kept f (neg_ℤ a)
-    else gated f Xor a b
+    else new_gate f Xor a b
 
 -- a gate over two literals, with known values folded
-abbrev pub folded : Gate → Formula → ℤ → ℤ → Made
-folded And f a b = both f a b
-folded Or f a b = either f a b
-folded Xor f a b = differing f a b
+abbrev pub folded_gate : Gate → Formula → ℤ → ℤ → Made
+folded_gate And f a b = conjunction f a b
+folded_gate Or f a b = disjunction f a b
+folded_gate Xor f a b = differing f a b
 
 -- the value of `a` if `c` is true, else of `b`
-abbrev pub chosen : Formula → ℤ → ℤ → ℤ → Made
-chosen f c a b =
+abbrev pub conditional : Formula → ℤ → ℤ → ℤ → Made
+conditional f c a b =
     if int_eq a b then kept f a
-    else let x : Made = both f c a in let y : Made = both x.formula (neg_ℤ c) b in either y.formula x.literal y.literal
+    else let x : Made = conjunction f c a in let y : Made = conjunction x.formula (neg_ℤ c) b in disjunction y.formula x.literal y.literal
 
 -- a formula has room for `most` more variables and `most` more clauses
 abbrev pub HasRoom : ℕ → Formula → Type 0

@@ -3,7 +3,7 @@ use Rattle.std.specs.Prelude.{◌≡◌, ℕ, ◌<◌, ◌≤◌, Bool, true, if
 use Rattle.cnf_core.specs.Clauses.{var_of, Formula, Valuation, literal_true, satisfies}
 use Rattle.cnf_core.specs.Gates.{gate_value, Wired, is_block, after_gates}
 use Rattle.cnf_core.specs.declared.gates.Gate.{Gate}
-use Rattle.bit_gates.specs.Folded.{Made, folded, chosen}
+use Rattle.bit_gates.specs.Folded.{Made, folded_gate, conditional}
 
 -- `g` is `f` with a block of gates added
 pub record IsGrown (f g : Formula) : Type 0 where
@@ -29,6 +29,6 @@ pub record IsBit (f : Formula) (m : Made) (meaning : Valuation → Bool) : Type 
 -- each gate, and each choice, has the right value
 pub record GatesMean : Type 0 where
   pub gate : (g : Gate) (f : Formula) (a b : ℤ) → IsOf f.vars a → IsOf f.vars b
-      → IsBit f (folded g f a b) (λ w. gate_value g (literal_true w a) (literal_true w b))
+      → IsBit f (folded_gate g f a b) (λ w. gate_value g (literal_true w a) (literal_true w b))
   pub choose : (f : Formula) (c a b : ℤ) → IsOf f.vars c → IsOf f.vars a → IsOf f.vars b
-      → IsBit f (chosen f c a b) (λ w. if literal_true w c then literal_true w a else literal_true w b)
+      → IsBit f (conditional f c a b) (λ w. if literal_true w c then literal_true w a else literal_true w b)

@@ -2,7 +2,7 @@
 ghost use Rattle.std.specs.Prelude.{◌≡◌, ◌<◌, ◌≤◌, ◌+◌, ◌++◌, [], ◌∷◌, true, pos, length, IfOk, OnOk, OnErr, IsTrue};
 ghost use Rattle.cnf_core.specs.Clauses.{var_of, is_clause, is_within};
 ghost use Rattle.cnf_core.specs.declared.cnf.TheConstants.{LIMIT};
-ghost use Rattle.bit_gates.specs.Folded.{constant, both, either, differing, folded, chosen, HasRoom, IsLarger};
+ghost use Rattle.bit_gates.specs.Folded.{constant, conjunction, disjunction, differing, folded_gate, conditional, HasRoom, IsLarger};
 
 use crate::constant;
 use cnf_core::{Cnf, Gate, Lit};
@@ -92,8 +92,8 @@ impl Circuit {
         requires first { var_of a ≤ self.old.vars }
         requires second { var_of b ≤ self.old.vars }
         requires room { HasRoom 3 self.old }
-        ensures literal { IfOk result (λ lit. lit ≡ (both self.old a b).literal) }
-        ensures formula { OnOk result (self.new ≡ (both self.old a b).formula) }
+        ensures literal { IfOk result (λ lit. lit ≡ (conjunction self.old a b).literal) }
+        ensures formula { OnOk result (self.new ≡ (conjunction self.old a b).formula) }
         ensures within { IfOk result (λ lit. var_of lit ≤ self.new.vars) }
         ensures larger { OnOk result (IsLarger 3 self.old self.new) }
     {
@@ -113,8 +113,8 @@ impl Circuit {
         requires first { var_of a ≤ self.old.vars }
         requires second { var_of b ≤ self.old.vars }
         requires room { HasRoom 3 self.old }
-        ensures literal { IfOk result (λ lit. lit ≡ (either self.old a b).literal) }
-        ensures formula { OnOk result (self.new ≡ (either self.old a b).formula) }
+        ensures literal { IfOk result (λ lit. lit ≡ (disjunction self.old a b).literal) }
+        ensures formula { OnOk result (self.new ≡ (disjunction self.old a b).formula) }
         ensures within { IfOk result (λ lit. var_of lit ≤ self.new.vars) }
         ensures larger { OnOk result (IsLarger 3 self.old self.new) }
     {
@@ -153,8 +153,8 @@ impl Circuit {
         requires first { var_of a ≤ self.old.vars }
         requires second { var_of b ≤ self.old.vars }
         requires room { HasRoom 4 self.old }
-        ensures literal { IfOk result (λ lit. lit ≡ (folded gate self.old a b).literal) }
-        ensures formula { OnOk result (self.new ≡ (folded gate self.old a b).formula) }
+        ensures literal { IfOk result (λ lit. lit ≡ (folded_gate gate self.old a b).literal) }
+        ensures formula { OnOk result (self.new ≡ (folded_gate gate self.old a b).formula) }
         ensures within { IfOk result (λ lit. var_of lit ≤ self.new.vars) }
         ensures larger { OnOk result (IsLarger 4 self.old self.new) }
     {
@@ -171,8 +171,8 @@ impl Circuit {
         requires first { var_of a ≤ self.old.vars }
         requires second { var_of b ≤ self.old.vars }
         requires room { HasRoom 9 self.old }
-        ensures literal { IfOk result (λ lit. lit ≡ (chosen self.old condition a b).literal) }
-        ensures formula { OnOk result (self.new ≡ (chosen self.old condition a b).formula) }
+        ensures literal { IfOk result (λ lit. lit ≡ (conditional self.old condition a b).literal) }
+        ensures formula { OnOk result (self.new ≡ (conditional self.old condition a b).formula) }
         ensures within { IfOk result (λ lit. var_of lit ≤ self.new.vars) }
         ensures larger { OnOk result (IsLarger 9 self.old self.new) }
     {

@@ -1,4 +1,4 @@
--- What the circuits of operators mean.
+-- The meaning of the circuits of operators.
 use Rattle.std.proofs.Common.{◌≡◌, ℕ, suc, zero, ◌+◌, ◌-◌, ◌*◌, ◌^◌, ◌<◌, ◌≤◌, List, ℤ, pos, negsuc, neg_ℤ, refl, ap, sym, ◌∙◌, subst, arith, Bool, true, false, not, length, take, drop, replicate, FitsSigned}
 use Rattle.std.specs.Prelude.{◌%◌, if◌then◌else◌, ◌==◌, ◌||◌, int_lt, int_le}
 use Rattle.std.specs.Int.{w32, cast_signed, cast_unsigned, bit_not}
@@ -23,7 +23,7 @@ use Rattle.bit_gates.specs.Folded.{Made, constant, kept, opposite}
 use Rattle.bit_gates.specs.Laws.{IsGrown, IsModel, IsOf, IsBit}
 use Rattle.bit_gates.proofs.Blocks.{grown_none, grown_more, grown_twice, IsOf-opposite, model_before}
 use Rattle.bit_gates.proofs.Meaning.{constant_of, constant_value}
-use Rattle.bit_words.specs.Words.{Walked, gated_words, inverted}
+use Rattle.bit_words.specs.Words.{Walked, gated_words, inverted_word}
 use Rattle.bit_words.specs.Laws.{values, digit, number_of, value, IsWord}
 use Rattle.bit_words.proofs.Meaning.{all_grown, gated_words_mean, any_bit, invert_means}
 use Rattle.bit_arith.specs.Sums.{plus_word, minus_word, times_word, zeros}
@@ -40,7 +40,7 @@ use Rattle.bit_ops.specs.Ops.{some_of, differ, truth_word, kept_where, where_som
 use Rattle.bit_ops.specs.Laws.{IsOperand, HasInt, OpsMean}
 use Rattle.bit_ops.proofs.Bits.{gate_number, gate_places, some_number, apart_values}
 
--- what has grown, and has a word with an int
+-- a formula that has grown has a word with an int
 has_int : (f : Formula) (m : Walked Formula) (meaning : Valuation → ℤ) → IsGrown f m.state → All (IsOf m.state.vars) m.word → length m.word ≡ 32
     → ((w : Valuation) → IsModel w m.state → int_value w m.word ≡ meaning w) → HasInt f m meaning
 has_int f m meaning h a e i = record { grown = h; word = record { literals = a; width = e }; int = i }
@@ -52,7 +52,7 @@ of_word f m xs meaning h e i = has_int f m meaning h.grown h.literals (h.same_le
 operands : (f : Formula) (xs ys : List ℤ) → 0 < f.vars → IsOperand f xs → IsOperand f ys → AreOperands f xs ys
 operands f xs ys one p q = record { one = one; first = p.literals; second = q.literals; lengths = q.width ∙ sym p.width }
 
--- words of 1 or 0
+-- words with the value 1 or 0
 truth_int : (p : Bool) → cast_signed w32 (digit p + 2 * 0) ≡ truth p
 truth_int true = refl
 truth_int false = refl
@@ -100,7 +100,7 @@ differ_bit f xs ys o =
           (g.places w (model_before w apart.state last.formula h.grown m));
     }
 
--- two numbers of 32 bits are equal where their ints are
+-- two 32-bit numbers are equal if their ints are
 pub same_int : (n m : ℕ) → n < 2 ^ 32 → m < 2 ^ 32 → (n == m) ≡ int_eq (cast_signed w32 n) (cast_signed w32 m)
 same_int n m p q =
     same_from_decides (n == m) (int_eq (cast_signed w32 n) (cast_signed w32 m))
@@ -114,7 +114,7 @@ not_not false = refl
 pub bit_with : (f : Formula) (m : Made) (meaning other : Valuation → Bool) → ((w : Valuation) → meaning w ≡ other w) → IsBit f m meaning → IsBit f m other
 bit_with f m meaning other e h = record { grown = h.grown; literal = h.literal; value = λ w k. h.value w k ∙ e w }
 
--- a word where a literal is true, and else 0
+-- the number of a word where a literal is true, and 0 otherwise
 where_int : (p : Bool) (n : ℕ) → cast_signed w32 (digit p * n) ≡ (if p then cast_signed w32 n else pos 0)
 where_int true n = ap (cast_signed w32) (one-mul n)
 where_int false n = ap (cast_signed w32) (zero-mul n)
@@ -301,10 +301,10 @@ binary_means bin.Shr f xs ys one p q =
     has_shifted shifted_right Down (top xs) f xs ys (operands f xs ys one p q) b p.width not_right
     (shifts-mean.right f xs (take 5 ys) (record { comes_in = b; word = p.literals; distance = near }) p.width)
 
-inverted_int : (w : Valuation) (n : ℕ) (xs : List ℤ) → All (IsOf n) xs → length xs ≡ 32 → int_value w (inverted xs) ≡ bits_inverted (int_value w xs)
+inverted_int : (w : Valuation) (n : ℕ) (xs : List ℤ) → All (IsOf n) xs → length xs ≡ 32 → int_value w (inverted_word xs) ≡ bits_inverted (int_value w xs)
 inverted_int w n xs p e =
-    let i : value w (inverted xs) + value w xs + 1 ≡ 2 ^ 32 = invert_means w n xs p ∙ ap (λ k. 2 ^ k) e in
-    let v : value w (inverted xs) ≡ bit_not w32 (cast_unsigned w32 (int_value w xs)) = omega (arith, i, bits_32 w xs e) in
+    let i : value w (inverted_word xs) + value w xs + 1 ≡ 2 ^ 32 = invert_means w n xs p ∙ ap (λ k. 2 ^ k) e in
+    let v : value w (inverted_word xs) ≡ bit_not w32 (cast_unsigned w32 (int_value w xs)) = omega (arith, i, bits_32 w xs e) in
     ap (cast_signed w32) v ∙ int_bit_not-is (int_value w xs) (fits_32 w xs e)
 
 pub unary_means : (op : UnOp) (f : Formula) (xs : List ℤ) → 0 < f.vars → IsOperand f xs → HasInt f (unary_word op f xs) (λ w. unary op (int_value w xs))

@@ -7,7 +7,7 @@ use Rattle.int_ops.specs.declared.arith.BinOp.TheVariants as bin
 use Rattle.cnf_core.specs.Clauses.{Formula}
 use Rattle.cnf_core.specs.declared.gates.Gate.TheVariants.{And, Or, Xor}
 use Rattle.bit_gates.specs.Folded.{Made, constant, kept, opposite}
-use Rattle.bit_words.specs.Words.{Walked, gated_words, any_of, inverted}
+use Rattle.bit_words.specs.Words.{Walked, gated_words, any_of, inverted_word}
 use Rattle.bit_arith.specs.Sums.{plus_word, minus_word, times_word, zeros}
 use Rattle.bit_shift.specs.Shifts.{top, shifted}
 use Rattle.bit_shift.specs.declared.Direction.TheVariants.{Up, Down}
@@ -41,7 +41,7 @@ where_near m ys = kept_where m.word (opposite (some_of m.state (drop 5 ys)))
 abbrev pub unary_word : UnOp → Formula → List ℤ → Walked Formula
 unary_word un.Neg f xs = minus_word f (zeros 32) xs
 unary_word un.Not f xs = truth_word (opposite (some_of f xs))
-unary_word un.Inv f xs = record { state = f; word = inverted xs }
+unary_word un.Inv f xs = record { state = f; word = inverted_word xs }
 
 -- the circuit of a binary operator
 abbrev pub binary_word : BinOp → Formula → List ℤ → List ℤ → Walked Formula

@@ -1,4 +1,5 @@
--- Orders that were asked of every two of some events: they were asked all that a conjunct asks that names them.
+-- An order that asks about every two of some events asks all that a conjunct with these events
+-- needs.
 use Rattle.std.proofs.Common.{◌≡◌, ◌≢◌, ◌⊎◌, ℕ, zero, suc, true, List, [], ◌∷◌, ◌++◌, inl, inr, refl, ap, sym, ◌∙◌, subst, arith, map, min, max}
 use Rattle.std.specs.Prelude.{fold}
 use Rattle.std.specs.List.{All, Contains, list_any}
@@ -16,7 +17,7 @@ use Rattle.order_formula.specs.declared.group.Group.TheVariants.{Mutex}
 use Rattle.order_formula.proofs.Asked.{formula_asked, grows_formula}
 use Rattle.bit_order.specs.Comparators.{pairs_among, completed}
 
--- that an event comes before another
+-- the literal that an event comes before another
 abbrev before : ℕ → ℕ → Literal
 before first second = record { atom = Before first second; wanted = true }
 
@@ -48,7 +49,7 @@ head_or_tail x xs y (suc k, within, is) = inr (k, omega (arith, within), is)
 Contains-map : {A B : Type 0} (f : A → B) (xs : List A) (x : A) → Contains xs x → Contains (map f xs) (f x)
 Contains-map f xs x (k, within, is) = (k, omega (arith, within, length-map xs f), get_or-map f xs k x (f x) within ∙ ap f is)
 
--- two of the events stand there in one order or the other
+-- two of the events are a pair, in one order or the other
 both_named : (events : List ℕ) (first second : ℕ) → Contains events first → Contains events second → first ≢ second
     → Contains (literals_among events) (before first second) ⊎ Contains (literals_among events) (before second first)
 both_named [] first second p q apart = absurd (omega (arith, p.1))

@@ -1,4 +1,4 @@
--- Choices: those of one sleep exclude each other, and the one that is made is the sleep's ender.
+-- Choices of one sleep exclude each other, and the one that is made gives the sleep's ender.
 use Rattle.std.proofs.Common.{◌≡◌, ℕ, ◌+◌, ◌<◌, ◌≤◌, Bool, true, false, not, List, [], ◌∷◌, ℤ, pos, negsuc, neg_ℤ, ◌<ℤ◌, Option, Some, None, inl, inr, refl, ap, sym, ◌∙◌, arith, length, get_or, cond}
 use Rattle.std.specs.Prelude.{◌&&◌, ◌||◌, ◌==◌, if◌then◌else◌, nat_eq, position}
 use Rattle.std.specs.List.{Contains, list_any, position_or_len, flat_map, range_with_len, find}
@@ -25,13 +25,13 @@ use Rattle.bit_order.specs.Readings.{is_made, ender_in, world_of}
 use Rattle.bit_order.proofs.Compared.{first_there}
 use Rattle.bit_order.proofs.Ranges.{list_all-flat_map, range_all, range_at, IsFound, searched, found_at, found_none}
 
--- no two made choices are of one sleep
+-- no two choices of one sleep are made
 abbrev pub AreApart : Valuation → ℕ → List Choice → Type 0
 AreApart v start choices =
     (earlier later : ℕ) → earlier < later → later < length choices → (choice_at choices earlier).sleep ≡ (choice_at choices later).sleep
     → literal_true v (pos (start + earlier)) ≡ true → literal_true v (pos (start + later)) ≡ true → ⊥
 
--- a sleep that is ended by an event has it as its ender
+-- a sleep that an event ends has it as its ender
 pub ended_some : (o : Option ℕ) (by : ℕ) → option_eq nat_eq o (Some by) ≡ true → o ≡ Some by
 ended_some None by h = absurd (false≢true h)
 ended_some (Some x) by h = ap Some (eqb-true x by h)
@@ -96,7 +96,7 @@ module _ (y : Layout) (v : Valuation) where
   abbrev Finds : ℕ → Option ℕ → Type 0
   Finds sleep o = MatchOption o ((k : ℕ) → 0 ≤ k → k < 0 + count → is_made y v sleep k ≡ false) (IsFound (is_made y v sleep) 0 count)
 
-  -- it is by a choice that is made
+  -- the ender comes from a choice that is made
   pub record IsBy (sleep by number : ℕ) : Type 0 where
     pub within : number < count
     pub sleep_is : (among number).sleep ≡ sleep
@@ -127,7 +127,7 @@ module _ (y : Layout) (v : Valuation) where
       let second : ℕ → Choice = λ e. record { sleep = sleep; by = e } in
       (h.0, h.1.within, get_or_default y.order.choices h.0 c (record { sleep = 0; by = 0 }) h.1.within ∙ ap first h.1.sleep_is ∙ ap second h.1.by_is)
 
-  -- of choices of which no two of one sleep are made, the one that is made is the ender
+  -- if no two choices of a sleep are made, the one that is made gives the ender
   pub made_is_ender : AreApart v (choice_start y) y.order.choices → (number : ℕ) → number < count → literal_true v (choice_literal y number) ≡ true
       → ender_in y v (among number).sleep ≡ Some (among number).by
   made_is_ender apart number within made =
@@ -159,7 +159,7 @@ module _ (y : Layout) (v : Valuation) where
   ]
 
   module _ (lawful : IsOrder y.order) where
-    -- no choice stands there twice
+    -- no choice occurs twice
     pub once : (j k : ℕ) → j < count → k < count → (among j).sleep ≡ (among k).sleep → (among j).by ≡ (among k).by → j ≡ k
     once j k p q sleeps bys = elim (cases_order j k) [
       | inl same ↦ same
@@ -233,7 +233,7 @@ exclusion_none start choices earlier later apart =
     sym (cond-false _ ((neg_ℤ (pos (start + earlier)) ∷ neg_ℤ (pos (start + later)) ∷ []) ∷ []) []
     (ne_eqb (choice_at choices earlier).sleep (choice_at choices later).sleep apart))
 
--- what a search along the choices finds
+-- the result of a search along the choices
 module _ (y : Layout) (v : Valuation) (sleep number : ℕ) (choices : List Choice) (same : choices ≡ y.order.choices)
     (before : (k : ℕ) → k < number → is_made y v sleep k ≡ false)
   where

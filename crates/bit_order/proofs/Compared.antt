@@ -1,4 +1,4 @@
--- What the comparators of pairs mean.
+-- The meaning of the comparators of pairs.
 use Rattle.std.proofs.Common.{◌≡◌, ℕ, ◌+◌, ◌<◌, ◌≤◌, Bool, true, false, not, List, [], ◌∷◌, ◌++◌, ℤ, neg_ℤ, Option, Some, None, refl, ap, sym, ◌∙◌, subst, arith, length, map, get_or, min, max}
 use Rattle.std.specs.Prelude.{◌&&◌, ◌||◌, ◌==◌, if◌then◌else◌, nat_lt, nat_le, fold, position, is_some, IfSome}
 use Rattle.std.specs.List.{All, list_any, position_or_len}
@@ -106,7 +106,7 @@ length-compared m (p ∷ ps) =
     let here : Made = compared_pair m.state p in
     length-compared (with_comparator m p) ps ∙ omega (arith, length-append m.word (here.literal ∷ []))
 
--- where some element passes there is a first one
+-- if some element passes, there is a first one
 pub first_there : {A : Type 0} (q : A → Bool) (xs : List A) → list_any q xs ≡ true → position_or_len q xs < length xs
 first_there q [] any = absurd (false≢true any)
 first_there q (x ∷ xs) any = grind (arith, first_there q xs)
@@ -162,7 +162,7 @@ module _ (y : Layout) (lawful : IsOrder y.order) where
   turned true l h = h
   turned false l h = IsOf-opposite (comparators y).state.vars l h
 
-  -- an event before another, whichever has the lower number
+  -- one event before another, in either order of their numbers
   pub before_is_there : (first second : ℕ) → IsOf (comparators y).state.vars (before_literal y first second)
   before_is_there first second = by (comparator y first second) (comparator_is first second)
     where
@@ -200,7 +200,7 @@ module _ (y : Layout) (lawful : IsOrder y.order) where
       by None lacks h = absurd (false≢true lacks)
       by (Some l) has h = by_order (nat_le first second) refl l h
 
--- the literal that is kept for a pair
+-- the literal stored for a pair
 module _ (y : Layout) (first second number : ℕ) (is : position (same_pair (pair_of first second)) y.order.pairs ≡ Some number) where
   pub comparator_place : number < length (comparators y).word
   comparator_place =

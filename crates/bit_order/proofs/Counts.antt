@@ -1,4 +1,4 @@
--- How many questions an order has at most: none is asked twice.
+-- The greatest number of questions of an order: it asks none twice.
 use Rattle.std.proofs.Common.{◌≡◌, ℕ, suc, zero, ◌+◌, ◌*◌, ◌/◌, ◌<◌, ◌≤◌, Bool, true, false, cond, List, [], ◌∷◌, ℤ, pos, neg_ℤ, refl, ap, sym, ◌∙◌, subst, arith, length, map, take}
 use Rattle.std.specs.Prelude.{◌&&◌, ◌||◌, ◌==◌, filter, if◌then◌else◌}
 use Rattle.std.specs.List.{All, AllByRecursion, IsDistinct, list_any, flat_map, range_with_len}
@@ -83,13 +83,13 @@ choices_few o is =
     (All-weaker (ChoiceIsOf o.sleeps o.events) (λ c. (c.sleep < o.sleeps) × (c.by < o.events)) (λ c w. (w.sleep, w.by)) o.choices is.choices_within)
     is.choices
 
--- so few of few events that each has a number
+-- an order of at most 256 events has at most 65,536 pairs
 pub few_pairs : (o : Order) → IsOrder o → o.events ≤ 256 → length o.pairs ≤ 65_536
 few_pairs o is few =
     let most : o.events * o.events ≤ 256 * 256 = mul-le-mul {n₁ = o.events} {m₁ = o.events} {n₂ = 256} {m₂ = 256} few few in
     omega (arith, most, pairs_few o is)
 
--- the size of a layout by what was asked is below that by its events and sleeps
+-- a layout's size by its questions is at most its size by events and sleeps
 pub asked_few : (y : Layout) → IsOrder y.order → asked_size y ≤ size_of y
 asked_few y is =
     let e : ℕ = y.order.events in
@@ -154,7 +154,7 @@ module _ (start : ℕ) (choices : List Choice) (later : ℕ) where
       by true is rest = (enders_apart x xs is h.0, rest)
       by false is rest = rest
 
--- a choice excludes no more than there are events
+-- a choice excludes at most as many others as there are events
 pub excluded_few : (start : ℕ) (o : Order) (later : ℕ) → IsOrder o → later ≤ length o.choices
     → length (flat_map (λ earlier. exclusion start o.choices earlier later) (range_with_len 0 later)) ≤ o.events
 excluded_few start o later is within =

@@ -1,4 +1,4 @@
--- Values of the variables and worlds tell each other.
+-- Values of the variables and worlds determine each other.
 use Rattle.std.proofs.Common.{◌≡◌, ℕ, ◌+◌, ◌<◌, ◌≤◌, Bool, true, false, List, [], ◌∷◌, ℤ, pos, neg_ℤ, Option, Some, None, refl, ap, sym, ◌∙◌, subst, arith, length, map, min, max, get_or}
 use Rattle.std.specs.Prelude.{◌&&◌, ◌||◌, ◌==◌, if◌then◌else◌, nat_lt, position}
 use Rattle.std.specs.Int.{w32, cast_signed}
@@ -69,7 +69,7 @@ base-over y =
     (and_from _ true (le-leb 1 (base y).vars (omega arith)) refl)
     (exclusions_within (choice_start y) y.order.choices (base y).vars (omega arith))
 
--- all values say a world
+-- any values give a world
 pub values-say-worlds : (y : Layout) (v : Valuation) → y.order.events ≤ 256 → IsWorldFor y (world_of y v)
 values-say-worlds y v few =
     let bits : List ℕ = bits_in y v in
@@ -104,7 +104,7 @@ world_order y v first second p q =
     ranks-order bits first second (omega (arith, p, many)) (omega (arith, q, many))
     ∙ ap (λ m. by_bits first second m (get_or bits second 0)) one ∙ ap (by_bits first second (number first)) two
 
--- a pair that was asked is of events that are there
+-- a pair that the order asks about has existing events
 asked_within : (y : Layout) → IsOrder y.order → (first second : ℕ) → list_any (same_pair (pair_of first second)) y.order.pairs ≡ true
     → max first second < y.order.events
 asked_within y lawful first second asked =
@@ -154,7 +154,7 @@ module _ (y : Layout) (lawful : IsOrder y.order) where
     load = λ v load there. sym (get_or-map-range_with_len (λ k. int_value v (load_word y k)) 0 y.loads load load (pos 0) there (omega arith));
   }
 
--- values that agree on the variables before any gate say one world
+-- values that agree on the variables before any gate give the same world
 range_same : {A : Type 0} (f g : ℕ → A) (n : ℕ) (d : A) → ((k : ℕ) → k < n → f k ≡ g k) → map f (range_with_len 0 n) ≡ map g (range_with_len 0 n)
 range_same f g n d same =
     fill_by_all g (map f (range_with_len 0 n)) n d (length-map-range_with_len f 0 n)
@@ -187,7 +187,7 @@ module _ (y : Layout) (v w : Valuation) (agree : Agree (base y).vars v w) where
       let third : List (Option ℕ) → World = λ enders. record { positions = (world_of y w).positions; loads = (world_of y w).loads; enders = enders } in
       ap first same_bits ∙ ap second same_loads ∙ ap third same_enders
 
--- each world is said by some values
+-- each world is given by some values
 pub worlds-have-values : (y : Layout) (w : World) → IsOrder y.order → IsWorldFor y w → (v : Valuation) × IsModel v (ordered y) × SaysSame y w (world_of y v)
 worlds-have-values y w lawful h =
     let v : Valuation = saying y w in

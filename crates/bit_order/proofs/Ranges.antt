@@ -8,7 +8,7 @@ use Rattle.std.proofs.Math.Nat.{eq-or-lt_of_le}
 use Rattle.std.proofs.lemmas.List.{append-nil, append_assoc, length-append}
 use Rattle.std.proofs.lemmas.List.Folds.{list_all-append}
 
--- one number more, at the end
+-- one more number, at the end
 pub pieces_suc : {A : Type 0} (f : ℕ → List A) (a n : ℕ) → flat_map f (range_with_len a (suc n)) ≡ flat_map f (range_with_len a n) ++ f (a + n)
 pieces_suc f a zero = let e : a ≡ a + 0 = omega arith in append-nil (f a) ∙ ap f e
 pieces_suc f a (suc n) =
@@ -20,7 +20,7 @@ pub pieces_more : {A : Type 0} (f : ℕ → List A) (a n k : ℕ) → a + n ≡ 
 pieces_more f a n k e =
     let s : n + 1 ≡ suc n = omega arith in ap (λ m. flat_map f (range_with_len a m)) s ∙ pieces_suc f a n ∙ ap (λ m. flat_map f (range_with_len a n) ++ f m) e
 
--- all of the pieces pass where each piece does
+-- all pieces together pass if each piece does
 pub list_all-flat_map : {A X : Type 0} (p : A → Bool) (f : X → List A) (xs : List X) → list_all p (flat_map f xs) ≡ list_all (λ x. list_all p (f x)) xs
 list_all-flat_map p f [] = refl
 list_all-flat_map p f (x ∷ xs) = list_all-append p (f x) (flat_map f xs) ∙ ap (λ b. list_all p (f x) && b) (list_all-flat_map p f xs)
@@ -40,7 +40,7 @@ range_at p a (suc n) k h low high =
       | inr later ↦ range_at p (a + 1) n k parts.1 (omega (arith, low, later)) (omega (arith, high))
     ]
 
--- what a search along a range finds
+-- the result of a search along a range
 pub record IsFound (p : ℕ → Bool) (a n k : ℕ) : Type 0 where
   pub low : a ≤ k
   pub high : k < a + n
@@ -69,14 +69,14 @@ searched p a (suc n) = by (p a) refl (searched p (a + 1) n)
     by true passes rest = record { low = omega arith; high = omega arith; passes = passes }
     by false fails rest = later (find p (range_with_len (a + 1) n)) fails rest
 
--- searches by tests that agree along the range find the same
+-- two searches with tests that agree along the range have the same result
 pub find_same : (p q : ℕ → Bool) (a n : ℕ) → ((k : ℕ) → a ≤ k → k < a + n → p k ≡ q k) → find p (range_with_len a n) ≡ find q (range_with_len a n)
 find_same p q a zero same = refl
 find_same p q a (suc n) same =
     ap (λ b. cond b (Some a) (find p (range_with_len (a + 1) n))) (same a (omega arith) (omega arith))
     ∙ ap (cond (q a) (Some a)) (find_same p q (a + 1) n (λ k low high. same k (omega (arith, low)) (omega (arith, high))))
 
--- the first that passes is found
+-- a search finds the first number that passes
 pub found_at : (p : ℕ → Bool) (a n k : ℕ) → a ≤ k → k < a + n → ((j : ℕ) → a ≤ j → j < k → p j ≡ false) → p k ≡ true → find p (range_with_len a n) ≡ Some k
 found_at p a zero k low high before passes = absurd (omega (arith, low, high))
 found_at p a (suc n) k low high before passes =
@@ -92,14 +92,14 @@ found_none p a (suc n) none =
     cond-false (p a) (Some a) (find p (range_with_len (a + 1) n)) (none a (omega arith) (omega arith))
     ∙ found_none p (a + 1) n (λ j low high. none j (omega (arith, low)) (omega (arith, high)))
 
--- a list to which one piece more was added
+-- a list with one more piece
 pub pieces_step : {A : Type 0} (f : ℕ → List A) (a n k : ℕ) (old now next piece : List A) → now ≡ old ++ flat_map f (range_with_len a n) → next ≡ now ++ piece
     → piece ≡ f k → a + n ≡ k → next ≡ old ++ flat_map f (range_with_len a (n + 1))
 pieces_step f a n k old now next piece before added is place =
     added ∙ ap (λ xs. xs ++ piece) before ∙ append_assoc old (flat_map f (range_with_len a n)) piece
     ∙ ap (λ xs. old ++ (flat_map f (range_with_len a n) ++ xs)) is ∙ ap (λ xs. old ++ xs) (sym (pieces_more f a n k place))
 
--- the pieces up to a number, with that of the number, aren't more than those up to a greater one
+-- the pieces up to a number and its own piece are at most those up to a greater number
 pub pieces_within : {A : Type 0} (f : ℕ → List A) (k n : ℕ) → k < n
     → length (flat_map f (range_with_len 0 k)) + length (f k) ≤ length (flat_map f (range_with_len 0 n))
 pieces_within f k zero below = absurd (omega (arith, below))

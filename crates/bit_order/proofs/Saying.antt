@@ -1,4 +1,4 @@
--- Values of the variables that say a world.
+-- Values of the variables for a given world.
 use Rattle.std.proofs.Common.{◌≡◌, ℕ, ◌+◌, ◌-◌, ◌*◌, ◌/◌, ◌<◌, Bool, true, false, cond, pos, Option, Some, None, inl, inr, refl, ap, sym, ◌∙◌, subst, arith, length, map, get_or}
 use Rattle.std.specs.Prelude.{◌==◌, ◌%◌, nat_lt, nat_eq}
 use Rattle.std.specs.Int.{w32, bit_at, cast_signed, cast_unsigned}
@@ -28,7 +28,7 @@ use Rattle.bit_order.specs.Laws.{IsWorldFor, SaysSame}
 use Rattle.bit_order.proofs.Chosen.{AreApart, apart_to, ended_some, ender_is, made_is_ender, once}
 use Rattle.bit_order.proofs.WordLaws.{value_of_bits, variable_value}
 
--- a number's bit
+-- a bit of a number
 abbrev bit : ℕ → ℕ → Bool
 bit number place = bit_at number place == 1
 
@@ -42,7 +42,8 @@ digit_bit number place = by (bit_at number place) (bit_at-lt number place)
     ]
 
 module _ (y : Layout) (w : World) where
-  -- the bits of positions and loads, the highest first, and whether the sleep of a choice is ended by its event
+  -- the bits of positions and loads, the highest first, and whether the event of a choice ends its
+  -- sleep
   abbrev position_bit : (event place : ℕ) → Bool
   position_bit event place = bit (position w event) (7 - place)
 
@@ -105,7 +106,7 @@ module _ (y : Layout) (w : World) where
       ∙ ap choice_bit rest
 
   module _ (lawful : IsOrder y.order) (h : IsWorldFor y w) where
-    -- words say the positions and the loads
+    -- the words have the positions and the loads of the world
     says_event : (event : ℕ) → event < y.order.events → value saying (position_word event) ≡ position w event
     says_event event there =
         value_of_bits saying (position_start event) 8 (position w event) (omega arith)
@@ -119,7 +120,7 @@ module _ (y : Layout) (w : World) where
         (λ place narrow. ap digit (says_load load place there narrow) ∙ digit_bit (load_number load) (31 - place)))
         ∙ to_z-of_z w32 (get_or w.loads load (pos 0)) fits
 
-    -- the choices of one sleep that are made are one
+    -- only one choice of a sleep is made
     says_apart : AreApart saying (choice_start y) y.order.choices
     says_apart earlier later less within same p q =
         let first : Choice = choice_at y.order.choices earlier in

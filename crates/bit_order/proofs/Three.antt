@@ -1,4 +1,4 @@
--- Transitivity holds of comparators, and so binds nothing.
+-- Comparators imply transitivity, so its clauses exclude nothing.
 use Rattle.std.proofs.Common.{◌≡◌, ℕ, ◌+◌, ◌-◌, ◌<◌, ◌≤◌, Bool, true, false, not, List, [], ◌∷◌, ◌++◌, ℤ, neg_ℤ, Option, Some, None, refl, ap, sym, ◌∙◌, arith, get_or, min, max}
 use Rattle.std.specs.Prelude.{◌&&◌, ◌||◌, IfSome}
 use Rattle.std.specs.List.{All, list_all, list_any, flat_map, range_with_len}
@@ -60,14 +60,14 @@ module _ (n : ℕ) (a b c : ℤ) (p : IsOf n a) (q : IsOf n b) (r : IsOf n c) wh
       ∙ and_from _ _ (folded_within n (neg_ℤ a ∷ neg_ℤ b ∷ c ∷ []) (All-weaker (IsOf n) (λ l. var_of l ≤ n) (λ l o. o.1) (neg_ℤ a ∷ neg_ℤ b ∷ c ∷ []) forth))
       (folded_within n (a ∷ b ∷ neg_ℤ c ∷ []) (All-weaker (IsOf n) (λ l. var_of l ≤ n) (λ l o. o.1) (a ∷ b ∷ neg_ℤ c ∷ []) back))
 
--- a test that the clauses of any three literals pass, which are asked, is passed by where_asked
+-- if the clauses of any three literals pass a test, those for literals that are asked about do
 where_passes : (test : List ℤ → Bool) (P Q : ℤ → Type 0) (a : ℤ) (b c : Option ℤ) → IfSome b P → IfSome c Q
     → ((k l : ℤ) → P k → Q l → list_all test (clauses_of_three a k l) ≡ true) → list_all test (where_asked a b c) ≡ true
 where_passes test P Q a None c p q h = refl
 where_passes test P Q a (Some k) None p q h = refl
 where_passes test P Q a (Some k) (Some l) p q h = h k l p q
 
--- clauses that follow bind nothing
+-- implied clauses exclude nothing
 implied_extended : (f : Formula) (cs : List (List ℤ)) → list_all (is_within f.vars) cs ≡ true → ((w : Valuation) → IsModel w f → satisfies w cs ≡ true)
     → IsExtended f (record { vars = f.vars; clauses = f.clauses ++ cs })
 implied_extended f cs within follow = record {
@@ -87,7 +87,7 @@ implied_extended f cs within follow = record {
   );
 }
 
--- what satisfies all clauses satisfies those of the comparators
+-- values that satisfy all clauses satisfy those of the comparators
 pub comparators-before : (y : Layout) (w : Valuation) → IsModel w (ordered y) → IsModel w (comparators y).state
 comparators-before y w m = record {
   one = m.one;
@@ -96,7 +96,7 @@ comparators-before y w m = record {
 }
 
 module _ (y : Layout) (lawful : IsOrder y.order) where
-  -- a test that is passed by the clauses of each pair and each event after it
+  -- the clauses of each pair and each event after it pass a test
   all_pass : (test : List ℤ → Bool)
       → ((p : Pair) (third : ℕ) → PairIsOf y.order.events p → list_any (same_pair (pair_of p.lesser p.greater)) y.order.pairs ≡ true → p.greater < third
       → list_all test (transitive y p third) ≡ true)
@@ -115,7 +115,7 @@ module _ (y : Layout) (lawful : IsOrder y.order) where
       ∙ range_all (λ third. list_all test (transitive y p third)) (p.greater + 1) (y.order.events - (p.greater + 1))
       (λ third above _. each p third within asked (omega (arith, above))))
 
-  -- where comparators are, transitivity holds
+  -- comparators make their order transitive
   transitive_here : (test : List ℤ → Bool) (p : Pair) (third : ℕ) → PairIsOf y.order.events p → p.greater < third
       → ((k l : ℤ) → IsComparator y lawful p.greater third k → IsComparator y lawful p.lesser third l
       → list_all test (clauses_of_three (before_literal y p.lesser p.greater) k l) ≡ true)

@@ -39,7 +39,7 @@ word_filled xs first n d long each =
     let f : ℕ → ℤ = λ k. pos (first + (n - 1 - k)) in
     fill_by_all f xs n d long each ∙ sym (fill_by_all f (word_from first n) n d (length_word first n) (λ k h. word_at first n k d h))
 
--- they are variables from the first on
+-- the literals are variables from the first on
 pub word_within : (first n vars : ℕ) → 0 < first → first + n ≤ vars + 1 → All (IsOf vars) (word_from first n)
 word_within first zero vars h k = subst (All (IsOf vars)) (sym (word_none first)) (All-nil (IsOf vars))
 word_within first (suc n) vars h k =
@@ -53,7 +53,7 @@ variable_value w (suc k) h = refl
 pub value_none : (w : Valuation) (first : ℕ) → value w (word_from first 0) ≡ 0
 value_none w first = ap (value w) (word_none first)
 
--- one bit more, below the others
+-- one more bit, below the others
 pub value_suc : (w : Valuation) (first n : ℕ) → 0 < first → value w (word_from first (suc n)) ≡ digit (w (first + n)) + 2 * value w (word_from first n)
 value_suc w first n h =
     ap (value w) (word_suc first n) ∙ ap (λ b. digit b + 2 * value w (word_from first n)) (variable_value w (first + n) (omega (arith, h)))
@@ -64,7 +64,7 @@ value_more w first n h = let s : n + 1 ≡ suc n = omega arith in ap (λ k. valu
 pub word_below : (w : Valuation) (first n : ℕ) → value w (word_from first n) < 2 ^ n
 word_below w first n = subst (λ k. value w (word_from first n) < 2 ^ k) (length_word first n) (value_below w (word_from first n))
 
--- values that agree on its variables give a word one number
+-- a word has the same number in values that agree on its variables
 pub value_agrees : (v w : Valuation) (first n vars : ℕ) → Agree vars v w → 0 < first → first + n ≤ vars + 1
     → value v (word_from first n) ≡ value w (word_from first n)
 value_agrees v w first zero vars a h k = value_none v first ∙ sym (value_none w first)
@@ -72,7 +72,7 @@ value_agrees v w first (suc n) vars a h k =
     value_suc v first n h ∙ ap (λ b. digit b + 2 * value v (word_from first n)) (a (first + n) (omega (arith, k)))
     ∙ ap (λ m. digit (w (first + n)) + 2 * m) (value_agrees v w first n vars a h (omega (arith, k))) ∙ sym (value_suc w first n h)
 
--- variables that have a number's bits, the highest first, make a word of that number
+-- variables with a number's bits, the highest first, form a word of that number
 pub value_of_bits : (w : Valuation) (first n m : ℕ) → 0 < first → m < 2 ^ n → ((k : ℕ) → k < n → digit (w (first + k)) ≡ bit_at m (n - 1 - k))
     → value w (word_from first n) ≡ m
 value_of_bits w first zero m h small bits = value_none w first ∙ omega (arith, small)

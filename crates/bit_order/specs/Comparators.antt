@@ -4,7 +4,7 @@ use Rattle.std.specs.List.{flat_map, range_with_len}
 use Rattle.std.specs.Option.{option_map, option_map_or}
 use Rattle.cnf_core.specs.Clauses.{Formula}
 use Rattle.bit_gates.specs.Folded.{Made, constant, kept}
-use Rattle.bit_words.specs.Words.{Walked, compared}
+use Rattle.bit_words.specs.Words.{Walked, less_literal}
 use Rattle.order_formula.specs.Orders.{Order, same_pair, pair_of, with_pair}
 use Rattle.order_formula.specs.declared.order.Pair.{Pair}
 use Rattle.bit_order.specs.Clauses.{folded_clause}
@@ -20,7 +20,7 @@ completed o events = fold with_pair o (pairs_among events)
 
 -- whether the lesser event of a pair comes before the greater
 unfoldable pub compared_pair : Formula → Pair → Made
-compared_pair f p = compared (kept f (constant (nat_lt p.lesser p.greater))) (position_word p.lesser) (position_word p.greater)
+compared_pair f p = less_literal (kept f (constant (nat_lt p.lesser p.greater))) (position_word p.lesser) (position_word p.greater)
 
 -- appends the literal of one more pair
 abbrev pub with_comparator : Walked Formula → Pair → Walked Formula

@@ -1,4 +1,4 @@
--- What shifts mean.
+-- The meaning of shifts.
 use Rattle.std.proofs.Common.{◌≡◌, ℕ, suc, zero, ◌+◌, ◌-◌, ◌*◌, ◌/◌, ◌^◌, ◌<◌, ◌≤◌, List, [], ◌∷◌, ◌++◌, ℤ, pos, negsuc, ◌*ℤ◌, refl, ap, sym, ◌∙◌, subst, arith, Bool, true, false, not, length, take, drop, get_or, FitsSigned}
 use Rattle.std.specs.Prelude.{◌%◌, if◌then◌else◌, map}
 use Rattle.std.specs.Fn.{iterate}
@@ -72,7 +72,7 @@ distance_sum by c v =
     let d : by * (2 * v) ≡ 2 * (by * v) = sym (mul_assoc by 2 v) ∙ ap (λ k. k * v) (mul_comm by 2) ∙ mul_assoc 2 by v in
     omega (arith, a, b, d)
 
--- a number that each move changes alike, by how far all stages move
+-- a number that each stage changes alike, by the total distance of all stages
 module _ (to : Direction) (bit : ℤ) (w : Valuation) (n : ℕ) (measure : List Bool → ℕ) (act : ℕ → ℕ → ℕ)
     (none : (xs : List ℤ) → length xs ≡ n → act 0 (measure (values w xs)) ≡ measure (values w xs))
     (more : (a b m : ℕ) → act a (act b m) ≡ act (a + b) m)
@@ -198,7 +198,7 @@ top_split w xs n e =
     value_split w n xs (omega (arith, e)) ∙ ap (λ k. value w (take n xs) + 2 ^ n * value w k) last
     ∙ ap (λ k. value w (take n xs) + 2 ^ n * k) (omega arith)
 
--- the number of the opposite values
+-- the number of the opposite bits
 opposite_step : (p : Bool) (u v m : ℕ) → u + v + 1 ≡ 2 ^ m → (digit (not p) + 2 * u) + (digit p + 2 * v) + 1 ≡ 2 ^ suc m
 opposite_step true u v m h = let e : 2 ^ suc m ≡ 2 ^ m * 2 = pow-suc 2 m in omega (arith, h, e)
 opposite_step false u v m h = let e : 2 ^ suc m ≡ 2 ^ m * 2 = pow-suc 2 m in omega (arith, h, e)
@@ -207,7 +207,7 @@ pub opposite_number : (ps : List Bool) → number_of (map not ps) + number_of ps
 opposite_number [] = refl
 opposite_number (p ∷ ps) = opposite_step p (number_of (map not ps)) (number_of ps) (length ps) (opposite_number ps)
 
--- an int, its 32 bits, and what these are moved down
+-- an int, its 32 bits, and the bits shifted down
 right_of : (z : ℤ) → FitsSigned w32 z → (t : Bool) (low d : ℕ) (ps qs : List Bool) → length ps ≡ 32 → length qs ≡ 32 → number_of ps ≡ cast_unsigned w32 z
     → number_of ps ≡ low + 2 ^ 31 * digit t → low < 2 ^ 31 → number_from t qs ≡ number_from t ps / 2 ^ d
     → cast_signed w32 (number_of qs) ≡ int_div_euclid z (pos (2 ^ d))

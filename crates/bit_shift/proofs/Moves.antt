@@ -1,4 +1,4 @@
--- Words whose places move.
+-- Words with their places moved.
 use Rattle.std.proofs.Common.{◌≡◌, ℕ, suc, zero, ◌+◌, ◌-◌, ◌*◌, ◌<◌, ◌≤◌, List, [], ◌∷◌, ◌++◌, ℤ, refl, ap, sym, ◌∙◌, arith, length, take, drop, set, get_or}
 use Rattle.std.specs.Fn.{iterate}
 use Rattle.std.specs.List.{All}
@@ -25,7 +25,7 @@ shifted_all old xs i bit next h p e =
     h ∙ ap (λ k. take i xs ++ (next ∷ k)) (drop_all i xs p) ∙ ap (λ k. k ++ (next ∷ [])) (take_all i xs p) in
     sym (ap (λ k. take k (bit ∷ old)) (sym e) ∙ ap (take (length xs)) whole ∙ take-append_seam xs (next ∷ []))
 
--- the lowest literal is turned to the top, and replaced
+-- rotating a word by one place, and replacing the top literal
 pub rotated : (xs : List ℤ) (bit : ℤ) → 0 < length xs → set (drop 1 xs ++ take 1 xs) (length (drop 1 xs ++ take 1 xs) - 1) bit ≡ shifted_out bit xs
 rotated [] bit h = absurd (omega (arith, h))
 rotated (x ∷ xs) bit h =

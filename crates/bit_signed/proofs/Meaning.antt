@@ -1,4 +1,4 @@
--- What quotients, remainders and order of words with a sign mean.
+-- The meaning of signed quotients, remainders and comparisons of words.
 use Rattle.std.proofs.Common.{◌≡◌, ℕ, suc, zero, ◌+◌, ◌-◌, ◌*◌, ◌/◌, ◌^◌, ◌<◌, ◌≤◌, List, [], ◌∷◌, ◌++◌, ℤ, pos, negsuc, neg_ℤ, refl, ap, sym, ◌∙◌, subst, arith, Bool, true, false, not, length, take, replicate, FitsSigned}
 use Rattle.std.specs.Prelude.{◌%◌, if◌then◌else◌, map, unsigned_abs, nat_lt, nat_le, int_lt, int_le}
 use Rattle.std.specs.Int.{w32, cast_signed, cast_unsigned, int_wrap, is_negative}
@@ -20,7 +20,7 @@ use Rattle.bit_gates.specs.Folded.{Made, kept, constant, differing}
 use Rattle.bit_gates.specs.Laws.{IsGrown, IsModel, IsOf, IsBit}
 use Rattle.bit_gates.proofs.Blocks.{grown_more, grown_twice, IsOf-grown, IsOf-opposite, model_before}
 use Rattle.bit_gates.proofs.Meaning.{constant_of, constant_value, differing_bit}
-use Rattle.bit_words.specs.Words.{Walked, gated_words, added}
+use Rattle.bit_words.specs.Words.{Walked, gated_words, word_sum}
 use Rattle.bit_words.specs.Laws.{values, digit, number_of, value, at_places, IsWord}
 use Rattle.bit_words.proofs.Meaning.{all_grown, gated_words_mean, words-mean, compared_bit}
 use Rattle.bit_arith.specs.Sums.{zeros}
@@ -32,11 +32,11 @@ use Rattle.bit_shift.proofs.Meaning.{top_split, opposite_number, fits_32, bits_3
 use Rattle.bit_divide.specs.Quotients.{Divided, division}
 use Rattle.bit_divide.specs.Laws.{IsDivision}
 use Rattle.bit_divide.proofs.Meaning.{division-means}
-use Rattle.bit_signed.specs.Signed.{negated_where, magnitudes_divided, quotient_word, remainder_word, biased, compared_signed}
+use Rattle.bit_signed.specs.Signed.{negated_where, magnitudes_divided, quotient_word, remainder_word, with_sign_inverted, compared_signed}
 use Rattle.bit_signed.specs.Laws.{SignedMean}
 use Rattle.bit_signed.proofs.Moves.{biased_length, biased_are}
 
--- a word's values, each exclusive-or one and the same
+-- a word's values, each exclusive-or the same value
 number_flipped : (c : Bool) (ps : List Bool) → number_of (map (λ p. gate_value Xor p c) ps) ≡ number_from c ps
 number_flipped true [] = refl
 number_flipped false [] = refl
@@ -67,7 +67,7 @@ negated_means f xs sign p s =
     let more : f.vars ≤ row.state.vars = grown_more f row.state g.word.grown in
     let enough : 0 < row.state.vars = omega (arith, s.0, s.1, more) in
     let none : List ℤ = zeros n in
-    let m : Walked Made = added row.state row.word none sign in
+    let m : Walked Made = word_sum row.state row.word none sign in
     let h = words-mean.add row.state row.word none sign g.word.literals
     (All-replicate (IsOf row.state.vars) n (constant false) (constant_of row.state.vars false enough)) (IsOf-grown f row.state sign g.word.grown s)
     (length-replicate n (constant false) ∙ sym g.word.same_length) in
@@ -230,7 +230,7 @@ sign_made f xs ys o e =
     (IsOf-grown f m.formula (top xs) h.grown (top_of f.vars xs o.first (omega (arith, e))))
     (IsOf-grown f m.formula (top ys) h.grown (top_of f.vars ys o.second (omega (arith, e, o.lengths))))
 
--- the word that comes of a magnitude and a sign
+-- the word of a magnitude and a sign
 signed_number : (f g : Formula) (word xs : List ℤ) (sign : ℤ) → IsGrown f g → All (IsOf g.vars) word → IsOf g.vars sign
     → length word ≡ 32 → length xs ≡ 32 → IsNumber f xs (negated_where g word sign)
     (λ w. if literal_true w sign then (2 ^ 32 - value w word) % 2 ^ 32 else value w word)
@@ -312,7 +312,7 @@ remainder_32 f xs ys o e w i some =
     ∙ ap (λ p. with_sign p (value w m.remainder)) (is_sign _ _ _ _ sx ∙ below_is a) ∙ ap (with_sign (is_negative a)) n.1
     ∙ where_some b _ n.2
 
--- an int, moved up by 2 ^ 31
+-- an int plus 2 ^ 31
 abbrev offset : ℤ → ℕ
 offset (pos n) = n + 2 ^ 31
 offset (negsuc n) = 2 ^ 31 - suc n
@@ -323,7 +323,7 @@ biased_number (pos n) v low false s = omega (arith, s.bits, s.split)
 biased_number (negsuc n) v low false s = absurd (omega (arith, s.fits, s.bits, s.split, s.below))
 biased_number (negsuc n) v low true s = omega (arith, s.fits, s.bits, s.split)
 
-biased_value : (w : Valuation) (xs : List ℤ) (n : ℕ) → All (IsOf n) xs → length xs ≡ 32 → value w (biased xs) ≡ offset (int_value w xs)
+biased_value : (w : Valuation) (xs : List ℤ) (n : ℕ) → All (IsOf n) xs → length xs ≡ 32 → value w (with_sign_inverted xs) ≡ offset (int_value w xs)
 biased_value w xs n h e =
     let front : List ℤ = take (length xs - 1) xs in
     let j : length xs - 1 ≡ 31 = omega (arith, e) in
@@ -352,7 +352,7 @@ by_offsets : (l : Bool) (a b : ℤ) → FitsSigned w32 a → FitsSigned w32 b
 by_offsets true a b f g = offset_le a b f g
 by_offsets false a b f g = offset_lt a b f g
 
-biased_of : (n : ℕ) (xs : List ℤ) → All (IsOf n) xs → 0 < length xs → All (IsOf n) (biased xs)
+biased_of : (n : ℕ) (xs : List ℤ) → All (IsOf n) xs → 0 < length xs → All (IsOf n) (with_sign_inverted xs)
 biased_of n xs h some = biased_are (IsOf n) xs (IsOf-opposite n (top xs) (top_of n xs h some)) h
 
 pub order_32 : (f : Formula) (low : ℤ) (xs ys : List ℤ) → AreOperands f xs ys → IsOf f.vars low → length xs ≡ 32 → IsBit f (compared_signed f low xs ys)
@@ -361,13 +361,13 @@ order_32 f low xs ys o l e =
     let long : length ys ≡ 32 = o.lengths ∙ e in
     let sx : 0 < length xs = omega (arith, e) in
     let sy : 0 < length ys = omega (arith, long) in
-    let h = compared_bit (kept f low) (biased xs) (biased ys) l (biased_of f.vars xs o.first sx) (biased_of f.vars ys o.second sy)
+    let h = compared_bit (kept f low) (with_sign_inverted xs) (with_sign_inverted ys) l (biased_of f.vars xs o.first sx) (biased_of f.vars ys o.second sy)
     (biased_length ys sy ∙ o.lengths ∙ sym (biased_length xs sx)) in
     record {
       grown = h.grown;
       literal = h.literal;
       value = λ w m. h.value w m
-          ∙ ap (λ k. if literal_true w low then nat_le k (value w (biased ys)) else nat_lt k (value w (biased ys))) (biased_value w xs f.vars o.first e)
+          ∙ ap (λ k. if literal_true w low then nat_le k (value w (with_sign_inverted ys)) else nat_lt k (value w (with_sign_inverted ys))) (biased_value w xs f.vars o.first e)
           ∙ ap (λ k. if literal_true w low then nat_le (offset (int_value w xs)) k else nat_lt (offset (int_value w xs)) k) (biased_value w ys f.vars o.second long)
           ∙ by_offsets (literal_true w low) (int_value w xs) (int_value w ys) (split_of w xs e).fits (split_of w ys long).fits;
     }

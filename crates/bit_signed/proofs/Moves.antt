@@ -8,7 +8,7 @@ use Rattle.bit_gates.specs.Folded.{constant}
 use Rattle.bit_gates.proofs.Blocks.{var_of-opposite}
 use Rattle.bit_words.specs.Words.{AreWithin}
 use Rattle.bit_shift.specs.Shifts.{top}
-use Rattle.bit_signed.specs.Signed.{biased}
+use Rattle.bit_signed.specs.Signed.{with_sign_inverted}
 
 pub top_is : (xs : List ℤ) (n : ℕ) (x : ℤ) → 0 < n → length xs ≡ n → x ≡ get_or xs (n - 1) x → x ≡ top xs
 top_is xs n x some e h =
@@ -17,7 +17,7 @@ top_is xs n x some e h =
 pub top_within : (n : ℕ) (xs : List ℤ) → 0 < length xs → AreWithin n xs → var_of (top xs) ≤ n
 top_within n xs some h = All-get_or (λ l. var_of l ≤ n) xs (length xs - 1) (constant false) (omega (arith, some)) h
 
-pub biased_is : (xs : List ℤ) (n : ℕ) (x : ℤ) → 0 < n → length xs ≡ n → x ≡ get_or xs (n - 1) x → set xs (n - 1) (neg_ℤ x) ≡ biased xs
+pub biased_is : (xs : List ℤ) (n : ℕ) (x : ℤ) → 0 < n → length xs ≡ n → x ≡ get_or xs (n - 1) x → set xs (n - 1) (neg_ℤ x) ≡ with_sign_inverted xs
 biased_is xs n x some e h =
     let i : ℕ = n - 1 in
     let short : i < length xs = omega (arith, some, e) in
@@ -26,14 +26,14 @@ biased_is xs n x some e h =
     sym all ∙ take_more_set xs i (neg_ℤ x) short ∙ ap (λ k. take i xs ++ neg_ℤ k ∷ []) (top_is xs n x some e h)
     ∙ ap (λ k. take (k - 1) xs ++ neg_ℤ (top xs) ∷ []) (sym e)
 
-pub biased_length : (xs : List ℤ) → 0 < length xs → length (biased xs) ≡ length xs
+pub biased_length : (xs : List ℤ) → 0 < length xs → length (with_sign_inverted xs) ≡ length xs
 biased_length xs some = length-append (take (length xs - 1) xs) (neg_ℤ (top xs) ∷ []) ∙ omega (arith, some, length-take (length xs - 1) xs)
 
-pub biased_are : (P : ℤ → Type 0) (xs : List ℤ) → P (neg_ℤ (top xs)) → All P xs → All P (biased xs)
+pub biased_are : (P : ℤ → Type 0) (xs : List ℤ) → P (neg_ℤ (top xs)) → All P xs → All P (with_sign_inverted xs)
 biased_are P xs t h =
     All-append P (take (length xs - 1) xs) (neg_ℤ (top xs) ∷ []) (All-take P (length xs - 1) xs h) (All-cons P (neg_ℤ (top xs)) [] t (All-nil P))
 
-pub biased_within : (n : ℕ) (xs : List ℤ) → 0 < length xs → AreWithin n xs → AreWithin n (biased xs)
+pub biased_within : (n : ℕ) (xs : List ℤ) → 0 < length xs → AreWithin n xs → AreWithin n (with_sign_inverted xs)
 biased_within n xs some h =
     let e : var_of (neg_ℤ (top xs)) ≡ var_of (top xs) = var_of-opposite (top xs) in
     biased_are (λ l. var_of l ≤ n) xs (omega (arith, e, top_within n xs some h)) h

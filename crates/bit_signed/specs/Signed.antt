@@ -3,7 +3,7 @@ use Rattle.std.specs.Prelude.{◌-◌, List, [], ◌∷◌, ◌++◌, ℤ, neg_�
 use Rattle.cnf_core.specs.Clauses.{Formula}
 use Rattle.cnf_core.specs.declared.gates.Gate.TheVariants.{Xor}
 use Rattle.bit_gates.specs.Folded.{Made, kept, differing}
-use Rattle.bit_words.specs.Words.{Walked, gated_words, added, compared}
+use Rattle.bit_words.specs.Words.{Walked, gated_words, word_sum, less_literal}
 use Rattle.bit_arith.specs.Sums.{without_carry, zeros}
 use Rattle.bit_shift.specs.Shifts.{top}
 use Rattle.bit_divide.specs.Quotients.{Divided, division}
@@ -12,7 +12,7 @@ use Rattle.bit_divide.specs.Quotients.{Divided, division}
 abbrev pub negated_where : Formula → List ℤ → ℤ → Walked Formula
 negated_where f xs sign =
     let flipped : Walked Formula = gated_words Xor f xs (replicate (length xs) sign) in
-    without_carry (added flipped.state flipped.word (zeros (length xs)) sign)
+    without_carry (word_sum flipped.state flipped.word (zeros (length xs)) sign)
 
 -- the division of one word's magnitude by another's
 abbrev pub magnitudes_divided : Formula → List ℤ → List ℤ → Divided
@@ -33,9 +33,9 @@ abbrev pub remainder_word : Formula → List ℤ → List ℤ → Walked Formula
 remainder_word f xs ys = let m : Divided = magnitudes_divided f xs ys in negated_where m.formula m.remainder (top xs)
 
 -- a word with its sign bit inverted
-abbrev pub biased : List ℤ → List ℤ
-biased ls = take (length ls - 1) ls ++ neg_ℤ (top ls) ∷ []
+abbrev pub with_sign_inverted : List ℤ → List ℤ
+with_sign_inverted ls = take (length ls - 1) ls ++ neg_ℤ (top ls) ∷ []
 
 -- whether the first signed number is smaller; `low` if they are equal
 abbrev pub compared_signed : Formula → ℤ → List ℤ → List ℤ → Made
-compared_signed f low xs ys = compared (kept f low) (biased xs) (biased ys)
+compared_signed f low xs ys = less_literal (kept f low) (with_sign_inverted xs) (with_sign_inverted ys)

@@ -7,7 +7,7 @@ ghost use Rattle.bit_gates.specs.Folded.{HasRoom, IsLarger};
 ghost use Rattle.bit_words.specs.Words.{AreWithin};
 ghost use Rattle.bit_shift.specs.Shifts.{top};
 ghost use Rattle.bit_signed.specs.Laws.{SignedMean};
-ghost use Rattle.bit_signed.specs.Signed.{negated_where, magnitudes_divided, quotient_word, remainder_word, biased, compared_signed};
+ghost use Rattle.bit_signed.specs.Signed.{negated_where, magnitudes_divided, quotient_word, remainder_word, with_sign_inverted, compared_signed};
 
 use bit_divide::divide;
 use bit_gates::Circuit;
@@ -116,7 +116,7 @@ pub fn remainder<const W: usize>(
 /// Inverts the sign bit: words in this form compare, unsigned, like their signed numbers.
 fn bias<const W: usize>(word: &mut [Lit; W])
     requires { 0 < W }
-    ensures { word.new ≡ biased word.old }
+    ensures { word.new ≡ with_sign_inverted word.old }
 {
     word[W - 1] = word[W - 1].opposite();
 }

@@ -1,4 +1,4 @@
--- Words that are made one after another.
+-- Words, made one after another.
 use Rattle.std.proofs.Common.{◌≡◌, ℕ, suc, zero, ◌+◌, ◌<◌, ◌≤◌, List, [], ◌∷◌, ◌++◌, ℤ, ap, sym, ◌∙◌, arith, false, length, get_or, take}
 use Rattle.std.specs.List.{All}
 use Rattle.std.proofs.lemmas.List.Elements.{All-head, All-replicate, All-tail, All-weaker}
@@ -23,7 +23,7 @@ at_within n (x ∷ xs) (suc place) one h = at_within n xs place one (All-tail (A
 pub words_more : (n m : ℕ) (words : List (List ℤ)) → n ≤ m → All (AreWithin n) words → All (AreWithin m) words
 words_more n m words h a = All-weaker (AreWithin n) (AreWithin m) (λ xs k. within_more n m xs h k) words a
 
--- the words of the first nodes, with that of the next
+-- the words of the first nodes and the next one
 pub next_words : (nodes : List Node) (symbols : List (List ℤ)) (f : Formula) (i : ℕ) (node : Node) → i < length nodes → node ≡ get_or nodes i node
     → term_words (take (i + 1) nodes) symbols f ≡ with_word symbols (term_words (take i nodes) symbols f) node
 next_words nodes symbols f i node within is =
@@ -33,7 +33,7 @@ next_words nodes symbols f i node within is =
 whole : (m : Words) (g : Formula) (known : List (List ℤ)) → g ≡ m.formula → known ≡ m.words → (let n : Words = record { formula = g; words = known } in n) ≡ m
 whole m g known p q = ap (λ f. let n : Words = record { formula = f; words = known } in n) p ∙ ap (λ ws. let n : Words = record { formula = m.formula; words = ws } in n) q
 
--- what is made of a node, from a formula and words that are known
+-- the word of a node, given a formula and the words so far
 module _ (symbols : List (List ℤ)) (node : Node) (m all : Words) (is : all ≡ with_word symbols m node) (g h : Formula) (known new : List (List ℤ)) (word : List ℤ)
     (formula : g ≡ m.formula) (words : known ≡ m.words) (made : h ≡ (node_word symbols known g node).state) (of : word ≡ (node_word symbols known g node).word)
     (more : new ≡ known ++ word ∷ [])

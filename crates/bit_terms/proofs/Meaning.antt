@@ -1,4 +1,4 @@
--- What the words of terms mean.
+-- The meaning of the words of terms.
 use Rattle.std.proofs.Common.{◌≡◌, ℕ, suc, zero, ◌+◌, ◌*◌, ◌/◌, ◌^◌, ◌<◌, ◌≤◌, List, [], ◌∷◌, ◌++◌, ℤ, pos, refl, ap, sym, ◌∙◌, subst, arith, true, false, not, length, get_or, map}
 use Rattle.std.specs.Prelude.{◌%◌, ◌==◌, fold}
 use Rattle.std.specs.Int.{w32, cast_signed, cast_unsigned, bit_at}
@@ -115,7 +115,7 @@ node_means symbols known f (Binary op a b) one h p q =
           ∙ ap (binary op (get_or (map (int_value w) known) a (pos 0))) (at_int w known b m.one);
     }
 
--- the words of further nodes
+-- the words of additional nodes
 record AreAdded (nodes : List Node) (symbols : List (List ℤ)) (m r : Words) : Type 0 where
   pub grown : IsGrown m.formula r.formula
   pub count : length r.words ≡ length m.words + length nodes

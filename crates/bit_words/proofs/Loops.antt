@@ -6,9 +6,9 @@ use Rattle.std.proofs.lemmas.List.{take_more_set, drop-set-lt, drop_all}
 use Rattle.std.proofs.lemmas.List.Elements.{All-weaker, All-set}
 use Rattle.cnf_core.specs.Clauses.{var_of, Formula}
 use Rattle.bit_gates.specs.Folded.{Made, kept, IsLarger}
-use Rattle.bit_words.specs.Words.{AreWithin, Placed, Walked, along, compared_place, compared, inverted}
+use Rattle.bit_words.specs.Words.{AreWithin, Placed, Walked, along, compared_place, less_literal, inverted_word}
 
--- what is made of the first `i` places, with what is made of the rest, is what is made of all
+-- the result of the first `i` places together with that of the rest is the result of all
 pub record IsReached {S : Type 0} (step : S → ℤ → ℤ → Placed S) (all : Walked S) (i : ℕ) (s : S) (xs ys : List ℤ) : Type 0 where
   pub state : all.state ≡ (along step s (drop i xs) (drop i ys)).state
   pub word : all.word ≡ take i xs ++ (along step s (drop i xs) (drop i ys)).word
@@ -51,25 +51,25 @@ reached_all step all i s xs ys h p =
       h.word ∙ ap (λ (k : Walked _). take i xs ++ k.word) end ∙ grind (arith, common_steps),
     )
 
-pub compared_more : (all : Made) (f g : Formula) (low next x y : ℤ) (xs ys : List ℤ) (i : ℕ) → all ≡ compared (kept f low) (drop i xs) (drop i ys)
+pub compared_more : (all : Made) (f g : Formula) (low next x y : ℤ) (xs ys : List ℤ) (i : ℕ) → all ≡ less_literal (kept f low) (drop i xs) (drop i ys)
     → i < length xs → i < length ys → x ≡ get_or xs i x → y ≡ get_or ys i y → g ≡ (compared_place (kept f low) x y).formula
-    → next ≡ (compared_place (kept f low) x y).literal → all ≡ compared (kept g next) (drop (i + 1) xs) (drop (i + 1) ys)
+    → next ≡ (compared_place (kept f low) x y).literal → all ≡ less_literal (kept g next) (drop (i + 1) xs) (drop (i + 1) ys)
 compared_more all f g low next x y xs ys i h p q ex ey eg en =
-    h ∙ ap (λ k. compared (kept f low) k (drop i ys)) (split_here xs i x p ex)
-    ∙ ap (compared (kept f low) (x ∷ drop (i + 1) xs)) (split_here ys i y q ey)
-    ∙ ap (λ k. compared (kept k (compared_place (kept f low) x y).literal) (drop (i + 1) xs) (drop (i + 1) ys)) (sym eg)
-    ∙ ap (λ k. compared (kept g k) (drop (i + 1) xs) (drop (i + 1) ys)) (sym en)
+    h ∙ ap (λ k. less_literal (kept f low) k (drop i ys)) (split_here xs i x p ex)
+    ∙ ap (less_literal (kept f low) (x ∷ drop (i + 1) xs)) (split_here ys i y q ey)
+    ∙ ap (λ k. less_literal (kept k (compared_place (kept f low) x y).literal) (drop (i + 1) xs) (drop (i + 1) ys)) (sym eg)
+    ∙ ap (λ k. less_literal (kept g k) (drop (i + 1) xs) (drop (i + 1) ys)) (sym en)
 
-pub inverted_more : (all xs : List ℤ) (i : ℕ) (x : ℤ) → all ≡ take i xs ++ inverted (drop i xs) → i < length xs → x ≡ get_or xs i x
-    → all ≡ take (i + 1) (set xs i (neg_ℤ x)) ++ inverted (drop (i + 1) (set xs i (neg_ℤ x)))
+pub inverted_more : (all xs : List ℤ) (i : ℕ) (x : ℤ) → all ≡ take i xs ++ inverted_word (drop i xs) → i < length xs → x ≡ get_or xs i x
+    → all ≡ take (i + 1) (set xs i (neg_ℤ x)) ++ inverted_word (drop (i + 1) (set xs i (neg_ℤ x)))
 inverted_more all xs i x h p ex =
-    h ∙ ap (λ k. take i xs ++ inverted k) (split_here xs i x p ex) ∙ join_here xs (inverted (drop (i + 1) xs)) i (neg_ℤ x) p
-    ∙ ap (λ k. take (i + 1) (set xs i (neg_ℤ x)) ++ inverted k) (sym (drop_here xs i (neg_ℤ x)))
+    h ∙ ap (λ k. take i xs ++ inverted_word k) (split_here xs i x p ex) ∙ join_here xs (inverted_word (drop (i + 1) xs)) i (neg_ℤ x) p
+    ∙ ap (λ k. take (i + 1) (set xs i (neg_ℤ x)) ++ inverted_word k) (sym (drop_here xs i (neg_ℤ x)))
 
-pub inverted_all : (all xs : List ℤ) (i : ℕ) → all ≡ take i xs ++ inverted (drop i xs) → length xs ≤ i → all ≡ xs
-inverted_all all xs i h p = h ∙ ap (λ k. take i xs ++ inverted k) (drop_all i xs p) ∙ grind (arith, common_steps)
+pub inverted_all : (all xs : List ℤ) (i : ℕ) → all ≡ take i xs ++ inverted_word (drop i xs) → length xs ≤ i → all ≡ xs
+inverted_all all xs i h p = h ∙ ap (λ k. take i xs ++ inverted_word k) (drop_all i xs p) ∙ grind (arith, common_steps)
 
--- literals of the variables of a formula that grows
+-- literals of a formula's variables stay so as it grows
 pub within_more : (n m : ℕ) (xs : List ℤ) → n ≤ m → AreWithin n xs → AreWithin m xs
 within_more n m xs h a = All-weaker (λ l. var_of l ≤ n) (λ l. var_of l ≤ m) (λ l k. omega arith) xs a
 
@@ -79,7 +79,7 @@ within_set n m xs i l h a k = All-set (λ x. var_of x ≤ m) xs i l k (within_mo
 pub kept_same : (m : Made) (f : Formula) (l : ℤ) → f ≡ m.formula → l ≡ m.literal → kept f l ≡ m
 kept_same m f l p q = ap (λ k. kept k l) p ∙ ap (kept m.formula) q
 
--- a formula that grew, and then grew again
+-- a formula that grew twice
 pub larger_more : (m n k : ℕ) (f g h : Formula) → IsLarger m f g → IsLarger n g h → k ≡ m + n → IsLarger k f h
 larger_more m n k f g h a b e = (omega (arith, a.0, b.0), omega (arith, a.1, b.1), omega (arith, a.2, b.2))
 

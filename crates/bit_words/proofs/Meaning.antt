@@ -1,4 +1,4 @@
--- What the circuits over words mean.
+-- The meaning of the circuits over words.
 use Rattle.std.proofs.Common.{◌≡◌, ℕ, suc, ◌≤◌, ◌+◌, ◌*◌, ◌^◌, List, [], ◌∷◌, ℤ, neg_ℤ, refl, ap, ◌∙◌, arith, Bool, true, false, not, length}
 use Rattle.std.specs.Prelude.{◌&&◌, ◌||◌, if◌then◌else◌, nat_lt, nat_le}
 use Rattle.std.specs.List.{All, list_any}
@@ -9,18 +9,18 @@ use Rattle.cnf_core.specs.Clauses.{var_of, Formula, Valuation, literal_true}
 use Rattle.cnf_core.specs.Gates.{gate_value}
 use Rattle.cnf_core.specs.declared.gates.Gate.{Gate}
 use Rattle.cnf_core.proofs.GateLaws.{literal_true-neg}
-use Rattle.bit_gates.specs.Folded.{Made, kept, both, either, differing, folded, chosen}
+use Rattle.bit_gates.specs.Folded.{Made, kept, conjunction, disjunction, differing, folded_gate, conditional}
 use Rattle.bit_gates.specs.Laws.{IsGrown, IsModel, IsOf, IsBit}
 use Rattle.bit_gates.proofs.Blocks.{grown_none, grown_more, grown_twice, IsOf-grown, IsOf-opposite, model_before}
 use Rattle.bit_gates.proofs.Meaning.{both_bit, either_bit, differing_bit, folded_bit, chosen_bit}
-use Rattle.bit_words.specs.Words.{Placed, Walked, along, made_place, gated_words, chosen_words, added_place, inverted, compared_place, compared, any_of}
+use Rattle.bit_words.specs.Words.{Placed, Walked, along, made_place, gated_words, chosen_words, added_place, inverted_word, compared_place, less_literal, any_of}
 use Rattle.bit_words.specs.Laws.{values, digit, value, IsPlaced, IsSum, WordsMean}
 
--- literals of a formula that has grown
+-- literals of a formula are literals of a formula that it has grown to
 pub all_grown : (f g : Formula) (xs : List ℤ) → IsGrown f g → All (IsOf f.vars) xs → All (IsOf g.vars) xs
 all_grown f g xs h a = All-weaker (IsOf f.vars) (IsOf g.vars) (λ l o. IsOf-grown f g l h o) xs a
 
--- a circuit that makes a bit of each place
+-- a circuit that makes one bit for each place
 module _ (step : Formula → ℤ → ℤ → Made) (least : ℕ) (op : Valuation → Bool → Bool → Bool)
     (bit : (f : Formula) (a b : ℤ) → least ≤ f.vars → IsOf f.vars a → IsOf f.vars b → IsBit f (step f a b) (λ w. op w (literal_true w a) (literal_true w b)))
   where
@@ -51,12 +51,12 @@ module _ (step : Formula → ℤ → ℤ → Made) (least : ℕ) (op : Valuation
 
 pub gated_words_mean : (g : Gate) (f : Formula) (xs ys : List ℤ) → All (IsOf f.vars) xs → All (IsOf f.vars) ys → length ys ≡ length xs
     → IsPlaced f xs ys (gated_words g f xs ys) (λ _. gate_value g)
-gated_words_mean g f xs ys p q e = placed (folded g) 0 (λ _. gate_value g) (λ h a b k x y. folded_bit g h a b x y) f xs ys (omega arith) p q e
+gated_words_mean g f xs ys p q e = placed (folded_gate g) 0 (λ _. gate_value g) (λ h a b k x y. folded_bit g h a b x y) f xs ys (omega arith) p q e
 
 pub chosen_words_mean : (c : ℤ) (f : Formula) (xs ys : List ℤ) → IsOf f.vars c → All (IsOf f.vars) xs → All (IsOf f.vars) ys
     → length ys ≡ length xs → IsPlaced f xs ys (chosen_words c f xs ys) (λ w p q. if literal_true w c then p else q)
 chosen_words_mean c f xs ys o p q e =
-    placed (λ h a b. chosen h c a b) (var_of c) (λ w p q. if literal_true w c then p else q)
+    placed (λ h a b. conditional h c a b) (var_of c) (λ w p q. if literal_true w c then p else q)
     (λ h a b k x y. chosen_bit h c a b (o.0, k) x y) f xs ys o.1 p q e
 
 -- one place of an adder
@@ -90,14 +90,14 @@ added_place_means carry a b o p q =
     let sum : Made = differing half.formula half.literal c in
     let h2 = differing_bit half.formula half.literal c h1.literal (IsOf-grown f half.formula c g1 o) in
     let g2 : IsGrown f sum.formula = grown_twice f half.formula sum.formula g1 h2.grown in
-    let two : Made = both sum.formula a b in
+    let two : Made = conjunction sum.formula a b in
     let h3 = both_bit sum.formula a b (IsOf-grown f sum.formula a g2 p) (IsOf-grown f sum.formula b g2 q) in
     let g3 : IsGrown f two.formula = grown_twice f sum.formula two.formula g2 h3.grown in
     let k3 : IsGrown half.formula two.formula = grown_twice half.formula sum.formula two.formula h2.grown h3.grown in
-    let one : Made = both two.formula half.literal c in
+    let one : Made = conjunction two.formula half.literal c in
     let h4 = both_bit two.formula half.literal c (IsOf-grown half.formula two.formula half.literal k3 h1.literal)
     (IsOf-grown f two.formula c g3 o) in
-    let out : Made = either one.formula two.literal one.literal in
+    let out : Made = disjunction one.formula two.literal one.literal in
     let h5 = either_bit one.formula two.literal one.literal (IsOf-grown two.formula one.formula two.literal h4.grown h3.literal) h4.literal in
     let k4 : IsGrown two.formula out.formula = grown_twice two.formula one.formula out.formula h4.grown h5.grown in
     let k2 : IsGrown sum.formula out.formula = grown_twice sum.formula two.formula out.formula h3.grown k4 in
@@ -115,7 +115,7 @@ added_place_means carry a b o p q =
           (h5.value w m);
     }
 
--- the sums of the places below and above, put together
+-- the sums of the lower and the higher places together
 sum_of : (n s r k o x y c u v : ℕ) → s + 2 * k ≡ x + y + c → r + 2 ^ n * o ≡ u + v + k → (s + 2 * r) + 2 ^ suc n * o ≡ (x + 2 * u) + (y + 2 * v) + c
 sum_of n s r k o x y c u v h e =
     let p : 2 ^ suc n ≡ 2 ^ n * 2 = pow-suc 2 n in
@@ -156,10 +156,10 @@ invert_step n v u false true h e = let p : 2 ^ suc n ≡ 2 ^ n * 2 = pow-suc 2 n
 invert_step n v u true true h e = absurd (cc)
 invert_step n v u false false h e = absurd (cc)
 
-pub invert_means : (w : Valuation) (n : ℕ) (xs : List ℤ) → All (IsOf n) xs → value w (inverted xs) + value w xs + 1 ≡ 2 ^ length xs
+pub invert_means : (w : Valuation) (n : ℕ) (xs : List ℤ) → All (IsOf n) xs → value w (inverted_word xs) + value w xs + 1 ≡ 2 ^ length xs
 invert_means w n [] h = refl
 invert_means w n (x ∷ xs) h =
-    invert_step (length xs) (value w (inverted xs)) (value w xs) (literal_true w x) (literal_true w (neg_ℤ x))
+    invert_step (length xs) (value w (inverted_word xs)) (value w xs) (literal_true w x) (literal_true w (neg_ℤ x))
     (literal_true-neg w x (All-head (IsOf n) x xs h).0) (invert_means w n xs (All-tail (IsOf n) x xs h))
 
 compare_values : (p q l : Bool) (x y : ℕ) →
@@ -179,18 +179,18 @@ pub compared_place_bit : (low : Made) (a b : ℤ) → IsOf low.formula.vars low.
     (λ w. (not (literal_true w a) && literal_true w b) || (literal_true w low.literal && (not (literal_true w a) || literal_true w b)))
 compared_place_bit low a b o p q =
     let f : Formula = low.formula in
-    let above : Made = both f (neg_ℤ a) b in
+    let above : Made = conjunction f (neg_ℤ a) b in
     let h1 = both_bit f (neg_ℤ a) b (IsOf-opposite f.vars a p) q in
     let g1 : IsGrown f above.formula = h1.grown in
-    let upto : Made = either above.formula (neg_ℤ a) b in
+    let upto : Made = disjunction above.formula (neg_ℤ a) b in
     let h2 = either_bit above.formula (neg_ℤ a) b (IsOf-opposite above.formula.vars a (IsOf-grown f above.formula a g1 p))
     (IsOf-grown f above.formula b g1 q) in
     let g2 : IsGrown f upto.formula = grown_twice f above.formula upto.formula g1 h2.grown in
-    let kept : Made = both upto.formula low.literal upto.literal in
+    let kept : Made = conjunction upto.formula low.literal upto.literal in
     let h3 = both_bit upto.formula low.literal upto.literal (IsOf-grown f upto.formula low.literal g2 o) h2.literal in
     let g3 : IsGrown f kept.formula = grown_twice f upto.formula kept.formula g2 h3.grown in
     let k2 : IsGrown above.formula kept.formula = grown_twice above.formula upto.formula kept.formula h2.grown h3.grown in
-    let out : Made = either kept.formula above.literal kept.literal in
+    let out : Made = disjunction kept.formula above.literal kept.literal in
     let h4 = either_bit kept.formula above.literal kept.literal (IsOf-grown above.formula kept.formula above.literal k2 h1.literal) h3.literal in
     let k3 : IsGrown upto.formula out.formula = grown_twice upto.formula kept.formula out.formula h3.grown h4.grown in
     let k1 : IsGrown above.formula out.formula = grown_twice above.formula kept.formula out.formula k2 h4.grown in
@@ -208,7 +208,7 @@ compared_place_bit low a b o p q =
 
 pub compared_bit : (low : Made) (xs ys : List ℤ) → IsOf low.formula.vars low.literal → All (IsOf low.formula.vars) xs
     → All (IsOf low.formula.vars) ys → length ys ≡ length xs
-    → IsBit low.formula (compared low xs ys)
+    → IsBit low.formula (less_literal low xs ys)
     (λ w. if literal_true w low.literal then nat_le (value w xs) (value w ys) else nat_lt (value w xs) (value w ys))
 compared_bit low [] [] o p q e = record { grown = grown_none low.formula; literal = o; value = λ w m. itself (literal_true w low.literal) }
   where
@@ -222,7 +222,7 @@ compared_bit low (x ∷ xs) (y ∷ ys) o p q e =
     let here : Made = compared_place low x y in
     let g : Formula = here.formula in
     let h = compared_place_bit low x y o (All-head (IsOf f.vars) x xs p) (All-head (IsOf f.vars) y ys q) in
-    let rest : Made = compared here xs ys in
+    let rest : Made = less_literal here xs ys in
     let r = compared_bit here xs ys h.literal (all_grown f g xs h.grown (All-tail (IsOf f.vars) x xs p))
     (all_grown f g ys h.grown (All-tail (IsOf f.vars) y ys q)) (omega (arith, e)) in
     record {
@@ -246,7 +246,7 @@ pub any_bit : (known : Made) (xs : List ℤ) → IsOf known.formula.vars known.l
 any_bit known [] o p = record { grown = grown_none known.formula; literal = o; value = λ w m. or_nothing (literal_true w known.literal) }
 any_bit known (x ∷ xs) o p =
     let f : Formula = known.formula in
-    let here : Made = either f known.literal x in
+    let here : Made = disjunction f known.literal x in
     let g : Formula = here.formula in
     let h = either_bit f known.literal x o (All-head (IsOf f.vars) x xs p) in
     let rest : Made = any_of here xs in

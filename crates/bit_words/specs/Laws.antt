@@ -6,7 +6,7 @@ use Rattle.cnf_core.specs.Gates.{gate_value}
 use Rattle.cnf_core.specs.declared.gates.Gate.{Gate}
 use Rattle.bit_gates.specs.Folded.{Made}
 use Rattle.bit_gates.specs.Laws.{IsGrown, IsModel, IsOf, IsBit}
-use Rattle.bit_words.specs.Words.{Walked, gated_words, chosen_words, added, inverted, compared, any_of}
+use Rattle.bit_words.specs.Words.{Walked, gated_words, chosen_words, word_sum, inverted_word, less_literal, any_of}
 
 -- the values of a word's literals
 abbrev pub values : Valuation → List ℤ → List Bool
@@ -57,13 +57,13 @@ pub record WordsMean : Type 0 where
   pub choose : (c : ℤ) (f : Formula) (xs ys : List ℤ) → IsOf f.vars c → All (IsOf f.vars) xs → All (IsOf f.vars) ys
       → length ys ≡ length xs → IsPlaced f xs ys (chosen_words c f xs ys) (λ w p q. if literal_true w c then p else q)
   pub add : (f : Formula) (xs ys : List ℤ) (c : ℤ) → All (IsOf f.vars) xs → All (IsOf f.vars) ys → IsOf f.vars c
-      → length ys ≡ length xs → IsSum f xs ys (added f xs ys c) c
+      → length ys ≡ length xs → IsSum f xs ys (word_sum f xs ys c) c
   -- a word and its complement add up to all ones
-  pub invert : (w : Valuation) (n : ℕ) (xs : List ℤ) → All (IsOf n) xs → value w (inverted xs) + value w xs + 1 ≡ 2 ^ length xs
+  pub invert : (w : Valuation) (n : ℕ) (xs : List ℤ) → All (IsOf n) xs → value w (inverted_word xs) + value w xs + 1 ≡ 2 ^ length xs
   -- less than; or at most, if `low` is true
   pub compare : (low : Made) (xs ys : List ℤ) → IsOf low.formula.vars low.literal → All (IsOf low.formula.vars) xs
       → All (IsOf low.formula.vars) ys → length ys ≡ length xs
-      → IsBit low.formula (compared low xs ys)
+      → IsBit low.formula (less_literal low xs ys)
       (λ w. if literal_true w low.literal then nat_le (value w xs) (value w ys) else nat_lt (value w xs) (value w ys))
   pub any : (known : Made) (xs : List ℤ) → IsOf known.formula.vars known.literal → All (IsOf known.formula.vars) xs
       → IsBit known.formula (any_of known xs) (λ w. literal_true w known.literal || list_any (literal_true w) xs)

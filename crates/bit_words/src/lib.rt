@@ -10,11 +10,11 @@ ghost use Rattle.bit_words.specs.Words.{
   gated_words,
   chosen_words,
   added_place,
-  added,
+  word_sum,
   compared_place,
-  compared,
+  less_literal,
   any_of,
-  inverted,
+  inverted_word,
 };
 
 use bit_gates::Circuit;
@@ -127,9 +127,9 @@ pub fn add_words(
     requires second { AreWithin circuit.old.vars other.now }
     requires carry { var_of carry ≤ circuit.old.vars }
     requires room { HasRoom (17 * length word.old) circuit.old }
-    ensures word { OnOk result (word.new ≡ (added circuit.old word.old other.now carry).word) }
-    ensures carry { IfOk result (λ l. l ≡ (added circuit.old word.old other.now carry).state.literal) }
-    ensures formula { OnOk result (circuit.new ≡ (added circuit.old word.old other.now carry).state.formula) }
+    ensures word { OnOk result (word.new ≡ (word_sum circuit.old word.old other.now carry).word) }
+    ensures carry { IfOk result (λ l. l ≡ (word_sum circuit.old word.old other.now carry).state.literal) }
+    ensures formula { OnOk result (circuit.new ≡ (word_sum circuit.old word.old other.now carry).state.formula) }
     ensures within { OnOk result (AreWithin circuit.new.vars word.new) }
     ensures carry_within { IfOk result (λ l. var_of l ≤ circuit.new.vars) }
     ensures length { length word.new ≡ length word.old }
@@ -162,7 +162,7 @@ pub fn any(circuit: &mut Circuit, word: &[Lit]) -> Result<Lit, AllocError>
 
 /// Negates each literal of the word.
 pub fn invert(word: &mut [Lit])
-    ensures { word.new ≡ inverted word.old }
+    ensures { word.new ≡ inverted_word word.old }
 {
     for place in 0..word.len() {
         word[place] = word[place].opposite();
@@ -193,8 +193,8 @@ pub fn compare(circuit: &mut Circuit, low: Lit, a: &[Lit], b: &[Lit]) -> Result<
     requires first { AreWithin circuit.old.vars a.now }
     requires second { AreWithin circuit.old.vars b.now }
     requires room { HasRoom (12 * length a.now) circuit.old }
-    ensures literal { IfOk result (λ l. l ≡ (compared (kept circuit.old low) a.now b.now).literal) }
-    ensures formula { OnOk result (circuit.new ≡ (compared (kept circuit.old low) a.now b.now).formula) }
+    ensures literal { IfOk result (λ l. l ≡ (less_literal (kept circuit.old low) a.now b.now).literal) }
+    ensures formula { OnOk result (circuit.new ≡ (less_literal (kept circuit.old low) a.now b.now).formula) }
     ensures within { IfOk result (λ l. var_of l ≤ circuit.new.vars) }
     ensures larger { OnOk result (IsLarger (12 * length a.now) circuit.old circuit.new) }
 {

@@ -1,4 +1,4 @@
--- Clauses that lie in memory.
+-- Clauses as they are stored in memory.
 use Rattle.std.proofs.Common.{
   ◌≡◌,
   ℕ,
@@ -32,7 +32,7 @@ use Rattle.cdcl_clauses.specs.helpers.Layout.{clause_of, clauses_of, IsThere, Is
 use Rattle.cdcl_clauses.specs.declared.clauses.Entry.{Entry}
 use Rattle.cdcl_clauses.specs.declared.clauses.Clauses.TheInside.{Inside}
 
--- literals that are appended later change no clause
+-- appending literals changes no clause
 pub slice_range-append : (ls ms : List ℕ) (s e : ℕ) → s ≤ e → e ≤ length ls → slice_range (ls ++ ms) s e ≡ slice_range ls s e
 slice_range-append ls ms s e h l =
     ap (take (e - s)) (drop-append-le s ls ms (omega arith)) ∙ take-append-le (e - s) (drop s ls) ms (omega (arith, length-drop s ls))
@@ -53,14 +53,14 @@ same_clauses ls ms (e ∷ es) h =
     let q : map (clause_of (ls ++ ms)) es ≡ map (clause_of ls) es = same_clauses ls ms es (All-tail (IsThere ls) e es h) in
     ap (λ (c : Clause). c ∷ map (clause_of (ls ++ ms)) es) p ∙ ap (λ (cs : List Clause). clause_of ls e ∷ cs) q
 
--- the clause of a number, from its entry
+-- the clause with a number, from its entry
 pub clause_at : (a : Inside) (cs : List Clause) → clauses_of a ≡ cs → (k : ℕ) (e : Entry) → k < length a.entries.items
     → e ≡ get_or a.entries.items k e → at cs k ≡ clause_of a.literals.items e
 clause_at a cs v k e h r =
     ap (λ (cs : List Clause). get_or cs k no_clause) (sym v) ∙ get_or-map (clause_of a.literals.items) a.entries.items k e no_clause h
     ∙ ap (clause_of a.literals.items) (sym r)
 
--- what holds holds after an error
+-- a fact holds after an error
 pub on_err : {T E P : Type 0} (r : Result T E) → P → OnErr r P
 on_err (Ok x) p = tt
 on_err (Err e) p = p

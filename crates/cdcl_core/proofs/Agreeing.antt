@@ -1,9 +1,9 @@
--- The clauses that are kept and the lines stay together.
+-- The kept clauses and the lines stay in agreement.
 use Rattle.std.proofs.Common.{◌≡◌, ℕ, ◌+◌, ◌*◌, ◌<◌, Bool, true, false, List, [], ◌∷◌, ◌++◌, length, refl, sym, ◌∙◌, ap, subst, arith}
 use Rattle.std.specs.Prelude.{Contains, All, ◌||◌}
 use Rattle.std.proofs.lemmas.List.{length_push}
 use Rattle.cnf_core.specs.Clauses.{Formula}
-use Rattle.refute_check.specs.Refutations.{Checking, passed}
+use Rattle.refute_check.specs.Refutations.{Checking, state_after_pass}
 use Rattle.list_laws.specs.Lists.{is_nil}
 use Rattle.refute_check.specs.declared.line.Line.{Line}
 use Rattle.cdcl_clauses.specs.Clauses.{Clause}
@@ -23,7 +23,7 @@ use Rattle.cdcl_core.specs.helpers.States.{BelongTogether, Ended, HasBound}
 use Rattle.cdcl_core.proofs.Tallying.{kept-same, kept-push}
 use Rattle.cdcl_core.proofs.Counts.{checked-push, added-push, added-same, adds-push, deleted-added, few-added}
 
--- what the clauses watch doesn't matter
+-- the watched literals don't matter
 pub agree-same : (f : Formula) (cs : List Clause) (lines : List Line) (n d : ℕ) → BelongTogether f cs lines n d → (ds : List Clause) → AreSame cs ds
     → BelongTogether f ds lines n d
 agree-same f cs lines n d a ds e = record {
@@ -59,9 +59,9 @@ teaches-added ls hs a c =
 not-nil : (ls : List ℕ) (a : ℕ) → Contains ls a → is_nil (clause_of ls) ≡ false
 not-nil ls a c = let (x, xs, e) = some-literal ls a c in ap (λ (ys : List ℕ). is_nil (clause_of ys)) e
 
--- what the checker knows after a line that passes
+-- the checker's state after a line that passes
 pub checked-added : (f : Formula) (cs : List Clause) (lines : List Line) (n d : ℕ) → BelongTogether f cs lines n d → (ls hs : List ℕ)
-    → All (λ l. l < 2 * f.vars) ls → Rise ls → Shows cs ls hs → checked f (lines ++ added ls hs ∷ []) ≡ passed (checked f lines) (added ls hs)
+    → All (λ l. l < 2 * f.vars) ls → Rise ls → Shows cs ls hs → checked f (lines ++ added ls hs ∷ []) ≡ state_after_pass (checked f lines) (added ls hs)
 checked-added f cs lines n d a ls hs w r s =
     let w' : All (λ l. l < 2 * (checked f lines).vars) ls = subst (λ (v : ℕ). All (λ l. l < 2 * v) ls) (sym a.vars) w in
     let p = shown-passes cs (checked f lines) ls hs a.represents w' r s in
@@ -75,7 +75,7 @@ fresh-line f lines (x ∷ xs) hs a c h = h
 is-roomy : (f : Formula) (cs : List Clause) (lines : List Line) (n d : ℕ) → BelongTogether f cs lines n d → HasBound f.vars n d → IsRoomy f.vars lines
 is-roomy f cs lines n d a bound = omega (arith, a.not_empty, a.deleted, bound)
 
--- a clause that is learnt is one more, and its line one more
+-- a learnt clause and its line are added on both sides
 pub agree-learnt : (f : Formula) (cs : List Clause) (lines : List Line) (n d : ℕ) → BelongTogether f cs lines n d → n < BUDGET → HasBound f.vars n d
     → (ls hs : List ℕ) (a b : ℕ)
     → All (λ l. l < 2 * f.vars) ls → Rise ls → Shows cs ls hs → Contains ls a → IsFresh (checked f lines).kept (clause_of ls)
@@ -83,7 +83,7 @@ pub agree-learnt : (f : Formula) (cs : List Clause) (lines : List Line) (n d : �
 agree-learnt f cs lines n d a room bound ls hs x y w r s c new =
     let w' : All (λ l. l < 2 * (checked f lines).vars) ls = subst (λ (v : ℕ). All (λ l. l < 2 * v) ls) (sym a.vars) w in
     let p = shown-passes cs (checked f lines) ls hs a.represents w' r s in
-    let e : checked f (lines ++ added ls hs ∷ []) ≡ passed (checked f lines) (added ls hs) = checked-added f cs lines n d a ls hs w r s in
+    let e : checked f (lines ++ added ls hs ∷ []) ≡ state_after_pass (checked f lines) (added ls hs) = checked-added f cs lines n d a ls hs w r s in
     record {
       few = a.few;
       given = a.given;
@@ -110,7 +110,7 @@ pub ended : (f : Formula) (cs : List Clause) (lines : List Line) (n d : ℕ) →
     → Ended f (lines ++ added ls hs ∷ []) n
 ended f cs lines n d a bound ls hs e r s =
     let w : All (λ l. l < 2 * f.vars) ls = λ k d h. absurd (omega (arith, h, ap length e)) in
-    let g : checked f (lines ++ added ls hs ∷ []) ≡ passed (checked f lines) (added ls hs) = checked-added f cs lines n d a ls hs w r s in
+    let g : checked f (lines ++ added ls hs ∷ []) ≡ state_after_pass (checked f lines) (added ls hs) = checked-added f cs lines n d a ls hs w r s in
     let line : added ls hs ≡ added [] hs = ap (λ (xs : List ℕ). added xs hs) e in
     record {
       passes = ap (λ (t : Checking). t.fault) g ∙ a.represents.fault;

@@ -1,4 +1,4 @@
--- Learnt clauses go.
+-- Learnt clauses are deleted.
 use Rattle.cdcl_core.proofs.Tallying.{kept-dropped, kept-le, marked-more, none-marked}
 use Rattle.std.proofs.Common.{◌≡◌, ℕ, suc, ◌+◌, ◌*◌, ◌<◌, ◌≤◌, Bool, true, false, Option, Some, None, List, [], ◌∷◌, ◌++◌, map, length, take, get_or}
 use Rattle.std.proofs.Common.{set, inl, inr, refl, sym, ◌∙◌, ap, subst, arith, length-set, replicate}
@@ -10,7 +10,7 @@ use Rattle.std.proofs.lemmas.List.Elements.{All-push}
 use Rattle.std.proofs.lemmas.List.Quantifiers.{all_pairs_push}
 use Rattle.std.proofs.lemmas.List.Sums.{fold-append}
 use Rattle.cnf_core.specs.Clauses.{Formula}
-use Rattle.refute_check.specs.Refutations.{Checking, passed}
+use Rattle.refute_check.specs.Refutations.{Checking, state_after_pass}
 use Rattle.refute_check.specs.declared.line.Line.{Line}
 use Rattle.cdcl_trail.specs.Trail.{Trail}
 use Rattle.cdcl_clauses.specs.Clauses.{Clause, at}
@@ -48,7 +48,7 @@ pub agree-dropped : (f : Formula) (cs : List Clause) (lines : List Line) (n d : 
     → BelongTogether f (fold dropped cs ks) (lines ++ deleted ks ∷ []) n (d + length ks)
 agree-dropped f cs lines n d a ks c b some half =
     let p = drop-passes cs (checked f lines) ks a.represents c in
-    let e : checked f (lines ++ deleted ks ∷ []) ≡ passed (checked f lines) (deleted ks) = checked-push f lines (deleted ks) ∙ p.0.leaves in
+    let e : checked f (lines ++ deleted ks ∷ []) ≡ state_after_pass (checked f lines) (deleted ks) = checked-push f lines (deleted ks) ∙ p.0.leaves in
     let size : length (numbers_of ks) ≡ length ks = length-map ks suc in
     let no-add : adds (deleted ks) ≡ true → IsRoomy f.vars lines = λ g. absurd (let i : false ≡ true = g in cc) in
     record {
@@ -75,7 +75,7 @@ agree-dropped f cs lines n d a ks c b some half =
 pub all-within : (s : State) (ks : List ℕ) → MayAllGo s ks → All (λ k. k < length s.clauses) ks
 all-within s ks m = λ k d h. kept-within s.clauses (get_or ks k d) (m.each k d h).kept
 
--- a reason is a clause that is there
+-- a reason is an existing clause
 reason-in : (cs : List Clause) (P : Type 0) (xs : List ℕ) (l : ℕ) (o : Option ℕ) (k : ℕ) → o ≡ Some k → MatchOption o P (IsReason cs xs l) → k < length cs
 reason-in cs P xs l o k e h = (subst (λ (q : Option ℕ). MatchOption q P (IsReason cs xs l)) e h).there
 
@@ -88,7 +88,7 @@ pub may-go : (s : State) (marks : List Bool) (k : ℕ) → MarksReasons s.trail 
     → not (get_or marks k false) ≡ true → MayGo s k
 may-go s marks k m h e f = record { learnt = h; kept = e; no_reason = λ p pl g. both_ways (not (get_or marks k false)) (ap not (m.marked p k pl g)) f }
 
--- the marks of the first places
+-- the marks of the reasons at the first places
 pub record MarksBelow (t : Trail) (n place : ℕ) (marks : List Bool) : Type 0 where
   pub size : length marks ≡ n
   pub few : count_by (λ b. b) marks ≤ place
@@ -119,7 +119,7 @@ marks-none t n place marks m e = record {
   ];
 }
 
--- one more may go
+-- one more clause may be deleted
 pub may-all-push : (s : State) (ks : List ℕ) (k : ℕ) → MayAllGo s ks → All (λ j. j < k) ks → MayGo s k → MayAllGo s (ks ++ k ∷ [])
 may-all-push s ks k m below one = record {
   each = All-push (MayGo s) ks k m.each one;
@@ -137,7 +137,7 @@ marks-start t n marks e = record {
   marked = λ p k h. absurd (omega (arith, h));
 }
 
--- where none may go, few are kept
+-- if none may be deleted, few are kept
 pub few-where_none : (s : State) → IsLive s → (marks : List Bool) → MarksReasons s.trail (length s.clauses) marks → NoneMayGo s marks
     → s.added ≤ s.deleted + s.formula.vars
 few-where_none s h marks m none =

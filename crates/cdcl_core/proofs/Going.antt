@@ -22,7 +22,7 @@ use Rattle.cdcl_core.specs.declared.state.State.{State}
 use Rattle.cdcl_core.specs.declared.turns.Step.{Step}
 use Rattle.cdcl_core.specs.declared.turns.Step.TheVariants as steps
 
--- hints name clauses that are there
+-- hints name existing clauses
 leads-there : (cs : List Clause) (hs : List ℕ) (given : List ℕ) → Leads cs given hs → (h : ℕ) → Contains hs h → h < length cs
 leads-there cs [] given s h c = absurd s
 leads-there cs (x ∷ []) given s h c =
@@ -43,14 +43,14 @@ hints-within cs ls hs s few = all-from_contains (λ h. h + 1 < 2 ^ 32) hs
 within-opposite : (l v : ℕ) → opposite_of l < 2 * v → l < 2 * v
 within-opposite l v h = grind (arith, nat_tests)
 
--- literals that are false are within the variables
+-- false literals are within the variables
 pub false-within : (t : Trail) → IsTrail t → (ls : List ℕ) → All (λ x. Contains t.literals (opposite_of x)) ls → All (λ l. l < 2 * t.variables) ls
 false-within t u ls s k d h =
     let (p, pl, e) = s k d h in
     let w : get_or t.literals p 0 < 2 * t.variables = u.within p pl in
     within-opposite (get_or ls k d) t.variables (subst (λ (x : ℕ). x < 2 * t.variables) (get_or_default t.literals p 0 (opposite_of (get_or ls k d)) pl ∙ e) w)
 
--- what is learnt can be asserted where the search goes back to
+-- a learnt clause can be asserted at the level to which the search goes back
 pub can-assert : (t : Trail) → IsTrail t → (ls : List ℕ) → All (λ x. Contains t.literals (opposite_of x)) ls → (level a b : ℕ) → TurnsBack t ls level a b
     → CanAssert (cut_to t level) ls a b
 can-assert t u ls s level a b g =
@@ -130,7 +130,7 @@ comes-far s t u n steps.Learnt a h = (h.0, further-far s t u n a h.1)
 comes-far s t u n steps.Closed a h = (h.0, short-far s t u n a h.1)
 comes-far s t u n (steps.Full values) a h = (h.0, short-far s t u n a h.1, h.2)
 
--- the parts are the same, but for when it starts again
+-- the parts are the same, except the count until the next restart
 pub live-with : (s : State) → IsLive s → (t : State) → t.trail ≡ s.trail → t.clauses ≡ s.clauses → t.watches ≡ s.watches → t.activity ≡ s.activity
     → t.formula ≡ s.formula → t.derivation ≡ s.derivation → t.added ≡ s.added → t.deleted ≡ s.deleted → IsLive t
 live-with s h t a b c d e f g i = record {
@@ -141,7 +141,7 @@ live-with s h t a b c d e f g i = record {
   agree = rw (e, b, f, g, i) h.agree;
 }
 
--- the limits leave room for one more
+-- there is room for one more clause
 pub record HasRoom (s : State) : Type 0 where
   pub lines : length s.derivation < LINES
   pub clauses : length s.clauses + 1 < 2 ^ 32
@@ -149,7 +149,7 @@ pub record HasRoom (s : State) : Type 0 where
 pub has-room : (s : State) → IsLive s → HasRoom s
 has-room s h = record { lines = omega (arith, h.agree.short, h.agree.many, h.agree.half); clauses = omega (arith, h.agree.count, h.agree.given, h.agree.many) }
 
--- a literal of a clause that is to be asserted has a list of watches
+-- a literal of a clause to assert has a list of watches
 pub listed-within : (s : State) → IsLive s → (ls : List ℕ) → All (λ l. l < 2 * s.trail.variables) ls → (a : ℕ) → Contains ls a → a < length s.watches
 listed-within s h ls w a c = omega (arith, All-contains (λ l. l < 2 * s.trail.variables) ls a w c, h.sound.linked.lists)
 

@@ -1,4 +1,4 @@
--- What is kept of a search says what is promised of it.
+-- The invariant of a search implies the search's promises.
 use Rattle.std.proofs.Common.{◌≡◌, ℕ, ◌<◌, ◌≤◌, ◌+◌, Bool, true, false, List, Option, Some, None, Ok, length, refl, sym, ◌∙◌, ap, subst, arith}
 use Rattle.std.specs.Prelude.{count_by}
 use Rattle.std.proofs.lemmas.Option.{none-some, same_Some}
@@ -8,7 +8,7 @@ use Rattle.refute_check.specs.Refutations.{verdict_of, check}
 use Rattle.refute_check.specs.declared.line.Line.{Line}
 use Rattle.refute_check.specs.declared.verdict.Checked.TheVariants as checks
 use Rattle.refute_check.specs.declared.verdict.CheckFault.{CheckFault}
-use Rattle.cdcl_core.specs.Searches.{Searched, IsSearched, IsSolution, GoesOn, Answers, checked, adds, added_in}
+use Rattle.cdcl_core.specs.Searches.{Searched, IsSearched, IsSolution, GoesOn, Answers, checked, adds, count_of_added}
 use Rattle.cdcl_core.specs.helpers.States.{IsLive, IsFurther, IsShort}
 use Rattle.cdcl_core.specs.helpers.Stages.{answer_at, IsAt, IsStaged, searched_of}
 use Rattle.cdcl_core.specs.declared.progress.Progress.{Progress}
@@ -71,12 +71,12 @@ searched-at Closed v s h = record {
 pub searched : (c : StagedSearch) → IsStaged c → IsSearched (searched_of c)
 searched c h = searched-at c.stage c.values.items c.state h
 
-counted-at : (stage : Stage) (values : List Bool) (s : State) → IsAt stage values s → s.added ≡ added_in s.derivation
+counted-at : (stage : Stage) (values : List Bool) (s : State) → IsAt stage values s → s.added ≡ count_of_added s.derivation
 counted-at Going v s h = h.agree.counted
 counted-at Satisfied v s h = h.0.agree.counted
 counted-at Closed v s h = h.counted
 
-pub counted : (c : StagedSearch) → IsStaged c → c.state.added ≡ added_in c.state.derivation
+pub counted : (c : StagedSearch) → IsStaged c → c.state.added ≡ count_of_added c.state.derivation
 counted c h = counted-at c.stage c.values.items c.state h
 
 live-at : (stage : Stage) (values : List Bool) (s : State) → IsAt stage values s → answer_at stage values ≡ None → IsLive s
@@ -87,7 +87,7 @@ live-at Closed v s h e = absurd (none-answers (Some answers.Closed) answers.Clos
 pub live : (c : StagedSearch) → IsStaged c → answer_at c.stage c.values.items ≡ None → IsLive c.state
 live c h e = live-at c.stage c.values.items c.state h e
 
--- a search without an answer stays one
+-- a search without an answer goes on
 pub still : (stage : Stage) (values : List Bool) (s : State) → answer_at stage values ≡ None → IsLive s → IsAt stage values s
 still Going v s e h = h
 still Satisfied v s e h = absurd (none-answers (Some (answers.Sat v)) (answers.Sat v) e refl)
@@ -98,7 +98,7 @@ never-paused Going values e = cc
 never-paused Satisfied values e = cc
 never-paused Closed values e = cc
 
--- an answer that stands is an answer again
+-- a search that has its answer gives the same answer again
 pub answered-already : (c : StagedSearch) (n : ℕ) (p : Progress) → 1 ≤ n → answer_at c.stage c.values.items ≡ Some p
     → Answers (searched_of c) (searched_of c) n p
 answered-already c n (answers.Sat values) h e = (e, omega (arith, h))
@@ -112,12 +112,12 @@ pub goes-on-further : (s t : State) (n : ℕ) (a b : Option Progress) → IsFurt
     → GoesOn (record { formula = s.formula; lines = s.derivation; answer = a }) (record { formula = t.formula; lines = t.derivation; answer = b })
 goes-on-further s t n a b f = record { formula = f.formula; lines = f.derivation }
 
-pub further-added : (s t : State) (n : ℕ) → IsFurther s t n → s.added ≡ added_in s.derivation → t.added ≡ added_in t.derivation
-    → added_in t.derivation ≡ added_in s.derivation + n
+pub further-added : (s t : State) (n : ℕ) → IsFurther s t n → s.added ≡ count_of_added s.derivation → t.added ≡ count_of_added t.derivation
+    → count_of_added t.derivation ≡ count_of_added s.derivation + n
 further-added s t n f a b = sym b ∙ f.added ∙ ap (λ (k : ℕ). k + n) a
 
-pub short-added : (s t : State) (n : ℕ) → IsShort s t n → s.added ≡ added_in s.derivation → t.added ≡ added_in t.derivation
-    → added_in t.derivation < added_in s.derivation + n
+pub short-added : (s t : State) (n : ℕ) → IsShort s t n → s.added ≡ count_of_added s.derivation → t.added ≡ count_of_added t.derivation
+    → count_of_added t.derivation < count_of_added s.derivation + n
 short-added s t n h a b = omega (arith, further-added s t h.count h.further a b, h.few)
 
 pub answer-same : (o : Option Progress) (p q : Progress) → o ≡ Some p → o ≡ Some q → p ≡ q
@@ -132,5 +132,5 @@ open-by f lines a n false e = is-open f lines a e
 pub open-searched : (s : Searched) → IsSearched s → s.answer ≡ None → check s.formula s.lines ≡ Ok checks.Open
 open-searched s h e = open-by s.formula s.lines h.passes (λ c. none-answers s.answer answers.Closed e (h.closed.0 c)) (checked s.formula s.lines).closed refl
 
-pub not-empty-searched : (s : Searched) → IsSearched s → s.answer ≡ None → count_by adds s.lines ≡ added_in s.lines
+pub not-empty-searched : (s : Searched) → IsSearched s → s.answer ≡ None → count_by adds s.lines ≡ count_of_added s.lines
 not-empty-searched s h e = h.not_empty (none-answers s.answer answers.Closed e)

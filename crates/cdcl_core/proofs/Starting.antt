@@ -9,7 +9,7 @@ use Rattle.std.proofs.lemmas.List.Sums.{fold-append}
 use Rattle.std.proofs.lemmas.Option.{slice_get_past}
 use Rattle.cnf_core.specs.Clauses.{Formula, is_clause, are_clauses, rises_above, var_of}
 use Rattle.cnf_core.specs.declared.cnf.TheConstants.{LIMIT}
-use Rattle.refute_check.specs.Refutations.{Checking, opening, keep, start, after}
+use Rattle.refute_check.specs.Refutations.{Checking, opening, keep, start, state_after_line}
 use Rattle.cdcl_literals.specs.Literals.{opposite_of}
 use Rattle.cdcl_trail.specs.Trail.{Trail, IsTrail, empty}
 use Rattle.cdcl_clauses.specs.Clauses.{Clause, at, no_clause, listed}
@@ -36,7 +36,7 @@ use Rattle.cdcl_core.proofs.Counts.{few-none}
 use Rattle.cdcl_core.proofs.Tallying.{kept-all}
 use Rattle.cdcl_core.specs.declared.state.State.{State}
 
--- what a formula's clauses leave as it was
+-- what loading a formula's clauses doesn't change
 pub record IsUntouched (s t : Checking) : Type 0 where
   pub vars : t.vars ≡ s.vars
   pub closed : t.closed ≡ s.closed
@@ -46,7 +46,7 @@ untouched [] s = record { vars = refl; closed = refl }
 untouched (z ∷ zs) s = (let u = untouched zs (keep s z) in record { vars = u.vars; closed = u.closed })
 
 fresh-none : (f : Formula) → AreFresh f []
-fresh-none f k = subst (λ o. IfSome o (λ l. IsFreshLine (fold after (start f) (take k [])).kept l))
+fresh-none f k = subst (λ o. IfSome o (λ l. IsFreshLine (fold state_after_line (start f) (take k [])).kept l))
     (sym (slice_get_past [] k (omega arith))) tt
 
 pub agree-start : (f : Formula) (cs : List Clause) → f.vars < LIMIT → length f.clauses < LIMIT → length cs ≡ length f.clauses → KeepsAll f.clauses cs
@@ -137,7 +137,7 @@ loaded-more s t n ls z h nl g e r ef ed ea ex eo ev sound begun w =
       none_deleted = ex ∙ h.none_deleted;
     }
 
--- a clause that is false stays so
+-- a false clause stays false
 pub refutes-stays : (cs ds : List Clause) (xs ys : List ℕ) (k : ℕ) → take (length cs) ds ≡ cs → ((x : ℕ) → Contains xs x → Contains ys x)
     → Refutes cs xs k → Refutes ds ys k
 refutes-stays cs ds xs ys k e m r =
@@ -165,7 +165,7 @@ loads-clauses cs ds ls w =
     ap (take (length cs)) w.clauses ∙ take-append-le (length cs) cs (kept_clause ls w.first w.second ∷ []) (omega arith)
     ∙ take_all (length cs) cs (omega arith)
 
--- where no level has begun, only the empty clause is learnt
+-- if no level has begun, only the empty clause is learnt
 fits-closed : (t : Trail) (ls : List ℕ) (turn : Turn) → t.starts ≡ [] → TurnFits t ls turn → ls ≡ []
 fits-closed t ls Closed e h = h
 fits-closed t ls (Back level asserted beside) e h = absurd (omega (arith, h.level_within, ap length e))
@@ -178,7 +178,7 @@ conclude-unit s h l e = record {
   shown = subst (λ (ls : List ℕ). Shows s.clauses ls l.hints.items) (fits-closed s.trail l.literals.items l.turn h.start.starts e.turn) e.shown;
 }
 
--- a formula's clauses as a search would have them
+-- a formula's clauses as a search stores them
 abbrev pub stored : List (List ℤ) → List Clause
 stored zs = map (λ z. kept_clause (map code_of z) 0 0) zs
 
@@ -237,7 +237,7 @@ listed-none n l = elim (cases_lt l n) [
   | inr h ↦ get_or_past (replicate n []) l [] (omega (arith, length-replicate {A = List Watch} n []))
 ]
 
--- before any clause
+-- the state before any clause
 pub sound-start : (t : Trail) (v : ℕ) → IsTrail t → t ≡ empty v → (ws : List (List Watch)) → ws ≡ replicate (2 * v) [] → AreConsistent t [] ws
 sound-start t v u e ws f =
     let size : length ws ≡ 2 * v = ap length f ∙ length-replicate (2 * v) [] in
@@ -288,7 +288,7 @@ pub load-one : {E : Type 0} (s t : State) (r : Result Loaded E) (place : ℕ) (l
 load-one s t r place ls e w more h = ok-both r (λ l. WasLoaded s.clauses t.clauses ls) (Loads s.trail s.clauses t.trail t.clauses ls) (LoadsOne s t place) w h
     (λ l v g. loads-one s t place ls e v more l g)
 
--- what was found so far
+-- the false clause found so far, if any
 abbrev pub Found : State → Option ℕ → Type 0
 Found s found = MatchOption found (AreRooted s.trail s.clauses) (Refutes s.clauses s.trail.literals)
 

@@ -1,4 +1,4 @@
--- How many clauses are kept, and how many are marked.
+-- The numbers of kept and of marked clauses.
 use Rattle.std.proofs.Common.{◌≡◌, ℕ, zero, suc, ◌+◌, ◌<◌, ◌≤◌, Bool, true, false, cond, Some, None, List, [], ◌∷◌, ◌++◌, length, take, drop}
 use Rattle.std.proofs.Common.{get_or, ℤ, set, replicate, refl, sym, ◌∙◌, ap, subst, arith}
 use Rattle.std.specs.Prelude.{count_by, fold, IfSome, slice_get}
@@ -12,7 +12,7 @@ use Rattle.cdcl_clauses.specs.Clauses.{dropped}
 use Rattle.cdcl_lines.proofs.Representing.{kept-within, can_drop-tail}
 use Rattle.cdcl_core.specs.helpers.States.{kept_in}
 
--- as a number
+-- 1 if true, else 0
 abbrev one : Bool → ℕ
 one b = cond b 1 0
 
@@ -20,7 +20,7 @@ one-le : (a b : Bool) → (a ≡ true → b ≡ true) → one a ≤ one b
 one-le false b h = omega arith
 one-le true b h = (let e : one b ≡ 1 = ap one (h refl) in omega (arith, e))
 
--- a test of some items passes where one of others does
+-- a test counts at most as many items as another that passes where it does
 pub count-le : {X Y : Type 0} (p : X → Bool) (q : Y → Bool) (xs : List X) (ys : List Y) (d : X) (e : Y) → length xs ≤ length ys
     → ((k : ℕ) → k < length xs → p (get_or xs k d) ≡ true → q (get_or ys k e) ≡ true) → count_by p xs ≤ count_by q ys
 count-le p q [] ys d e h f = omega arith
@@ -82,7 +82,7 @@ none-marked (suc n) = omega (arith, none-marked n, sum_by-cons (λ b. one b) fal
 pub marked-more : (marks : List Bool) (r : ℕ) → r < length marks → count_by (λ b. b) (set marks r true) ≤ count_by (λ b. b) marks + 1
 marked-more marks r h = omega (arith, sum_by-set (λ b. one b) marks r true false h)
 
--- where each clause from a place on that is kept is marked, no more are kept than the place and the marks say
+-- if each kept clause from a place on is marked, the kept ones are at most the place and the marks
 pub kept-le : (cs : List Clause) (marks : List Bool) (g : ℕ) → g ≤ length cs → length marks ≡ length cs
     → ((k : ℕ) → g ≤ k → k < length cs → (at cs k).kept ≡ true → get_or marks k false ≡ true) → kept_in cs ≤ g + count_by (λ b. b) marks
 kept-le cs marks g gl e h =

@@ -3,7 +3,7 @@ use Rattle.std.specs.Prelude.{◌≡◌, ℕ, count_by}
 use Rattle.cnf_core.specs.Clauses.{Formula}
 use Rattle.refute_check.specs.Refutations.{IsClosed, IsOpen}
 use Rattle.cdcl_lines.specs.Fresh.{AreFresh}
-use Rattle.cdcl_core.specs.Searches.{adds, added_in, DeletesFew, IsSolution}
+use Rattle.cdcl_core.specs.Searches.{adds, count_of_added, DeletesFew, IsSolution}
 use Rattle.cdcl_core.specs.declared.progress.Solved.{Solved}
 use Rattle.cdcl_core.specs.declared.progress.Solved.TheVariants.{Sat, Unsat, Spent}
 
@@ -12,4 +12,4 @@ use Rattle.cdcl_core.specs.declared.progress.Solved.TheVariants.{Sat, Unsat, Spe
 abbrev pub Solves : Formula → ℕ → Solved → Type 0
 Solves f budget (Sat values) = IsSolution f values
 Solves f budget (Unsat lines) = IsClosed f lines × AreFresh f lines × DeletesFew f lines
-Solves f budget (Spent lines) = IsOpen f lines × AreFresh f lines × DeletesFew f lines × (added_in lines ≡ budget) × (count_by adds lines ≡ budget)
+Solves f budget (Spent lines) = IsOpen f lines × AreFresh f lines × DeletesFew f lines × (count_of_added lines ≡ budget) × (count_by adds lines ≡ budget)

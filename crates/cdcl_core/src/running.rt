@@ -1,6 +1,6 @@
 //! Running a search to its answer.
 ghost use Rattle.std.specs.Prelude.{◌≡◌, ◌≢◌, ◌+◌, ◌<◌, ◌≤◌, Some, None, IfOk, OnErr};
-ghost use Rattle.cdcl_core.specs.Searches.{added_in, GoesOn, Answers};
+ghost use Rattle.cdcl_core.specs.Searches.{count_of_added, GoesOn, Answers};
 ghost use Rattle.tc_limits.specs.declared.limits.TheConstants.{BUDGET};
 
 use crate::loading::Begun;
@@ -51,7 +51,7 @@ impl StagedSearch {
         ensures goes_on { GoesOn (searched_of self.old) (searched_of self.new) }
         ensures answers { IfOk result (Answers (searched_of self.old) (searched_of self.new) conflicts) }
         ensures answered { (p : Progress) → answer_of self.old ≡ Some p → (self.new ≡ self.old) × IfOk result (λ q. q ≡ p) }
-        ensures err { OnErr result (added_in self.new.state.derivation < added_in self.old.state.derivation + conflicts) }
+        ensures err { OnErr result (count_of_added self.new.state.derivation < count_of_added self.old.state.derivation + conflicts) }
         ensures err_open { OnErr result (answer_of self.old ≡ None → answer_of self.new ≡ None) }
     {
         if let Some(answer) = self.answer()? {
@@ -80,7 +80,7 @@ impl StagedSearch {
         ensures lawful { IsStaged self.new }
         ensures goes_on { GoesOn (searched_of self.old) (searched_of self.new) }
         ensures answers { IfOk result (Answers (searched_of self.old) (searched_of self.new) conflicts) }
-        ensures err { OnErr result (added_in self.new.state.derivation < added_in self.old.state.derivation + conflicts) }
+        ensures err { OnErr result (count_of_added self.new.state.derivation < count_of_added self.old.state.derivation + conflicts) }
         ensures err_open { OnErr result (answer_of self.new ≡ None) }
     {
         match self.state.go(alloc, conflicts)? {

@@ -1,6 +1,6 @@
 //! A search that can be paused.
 ghost use Rattle.std.specs.Prelude.{◌≡◌, ◌+◌, ◌<◌, ◌≤◌, Some, None, IfOk, OnErr};
-ghost use Rattle.cdcl_core.specs.Searches.{added_in, IsSearched};
+ghost use Rattle.cdcl_core.specs.Searches.{count_of_added, IsSearched};
 ghost use Rattle.tc_limits.specs.declared.limits.TheConstants.{BUDGET};
 
 use crate::progress::Progress;
@@ -41,7 +41,7 @@ impl Search {
     /// answers are right.
     pub fn new(alloc: Global, cnf: &Cnf, first: &[bool]) -> Result<Search, AllocError>
         ensures formula { IfOk result (λ s. s.formula ≡ cnf.now) }
-        ensures none { IfOk result (λ s. added_in s.lines ≡ 0) }
+        ensures none { IfOk result (λ s. count_of_added s.lines ≡ 0) }
         ensures lawful { IfOk result IsSearched }
     {
         let staged = StagedSearch::begin(alloc, cnf, first)?;
@@ -52,12 +52,12 @@ impl Search {
     /// there is an answer, it stays the same. If there is no memory, the search may be run again.
     pub fn run(&mut self, alloc: Global, conflicts: u32) -> Result<Progress, AllocError>
         requires some { 1 ≤ conflicts }
-        requires room { added_in self.old.lines + conflicts ≤ BUDGET }
+        requires room { count_of_added self.old.lines + conflicts ≤ BUDGET }
         ensures goes_on { GoesOn self.old self.new }
         ensures lawful { IsSearched self.new }
         ensures answers { IfOk result (Answers self.old self.new conflicts) }
         ensures answered { (p : Progress) → self.old.answer ≡ Some p → (self.new ≡ self.old) × IfOk result (λ q. q ≡ p) }
-        ensures err { OnErr result (added_in self.new.lines < added_in self.old.lines + conflicts) }
+        ensures err { OnErr result (count_of_added self.new.lines < count_of_added self.old.lines + conflicts) }
         ensures err_open { OnErr result (self.old.answer ≡ None → self.new.answer ≡ None) }
     {
         self.staged.run(alloc, conflicts)
@@ -84,7 +84,7 @@ impl Search {
 
     /// The number of its lines that add a nonempty clause.
     pub fn added(&self) -> u32
-        ensures added { result ≡ added_in self.now.lines }
+        ensures added { result ≡ count_of_added self.now.lines }
         ensures few { result ≤ BUDGET }
     {
         self.staged.state.added

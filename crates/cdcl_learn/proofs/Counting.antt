@@ -1,4 +1,4 @@
--- How many places were met from one on.
+-- The number of places met from a place on.
 use Rattle.std.proofs.Common.{
   ◌≡◌,
   ◌≢◌,
@@ -56,7 +56,7 @@ open_from-set met base p b h l =
 pub open_from-set_below : (met : List Bool) (base p : ℕ) (b : Bool) → p < base → open_from (set met p b) base ≡ open_from met base
 open_from-set_below met base p b h = ap (λ (xs : List Bool). open_from xs 0) (drop-set-lt base met p b h)
 
--- what is met after one place is
+-- what is met after meeting one place
 pub met-set : (met : List Bool) (p q : ℕ) (b : Bool) → p < length met → ((q ≡ p) × (get_or (set met p b) q false ≡ b))
     ⊎ ((q ≢ p) × (get_or (set met p b) q false ≡ get_or met q false))
 met-set met p q b h =
@@ -123,7 +123,7 @@ count_none [] h = refl
 count_none (true ∷ xs) h = absurd (let g : true ≡ false = h 0 (omega arith) in cc)
 count_none (false ∷ xs) h = let e : count_by (λ b. b) xs ≡ 0 = count_none xs (λ i il. h (suc i) (omega arith)) in e
 
--- where some are counted, one is there
+-- if some are counted, there is one
 count_exists : (xs : List Bool) → 1 ≤ count_by (λ b. b) xs → (i : ℕ) × (i < length xs) × (get_or xs i false ≡ true)
 count_exists [] h = absurd (omega (arith, h))
 count_exists (true ∷ xs) h = (0, omega arith, refl)
@@ -137,7 +137,7 @@ open_exists met base h =
     let (i, l, e) = count_exists (drop base met) h in
     (base + i, omega arith, omega (arith, length-drop base met), sym (get_or-drop base met i false) ∙ e)
 
--- where another is counted beside one place, there is one
+-- if another place is counted beside one, there is another
 pub open_other : (met : List Bool) (base p : ℕ) → p < length met → base ≤ p → IsMet met p → open_from met base ≢ 1
     → (q : ℕ) × (base ≤ q) × (q ≢ p) × IsMet met q
 open_other met base p pl bp mp ne =
@@ -169,7 +169,7 @@ open_one met base p q pl ql bp bq mp mq e =
           absurd (omega (arith, g, i, j, e))
     ]
 
--- where no other place is met, one at most is
+-- if no other place is met, at most one is
 pub open_at_most : (met : List Bool) (base p : ℕ) → p < length met → base ≤ p → IsMet met p → ((q : ℕ) → base ≤ q → IsMet met q → q ≡ p)
     → open_from met base ≡ 1
 open_at_most met base p pl bp mp h =

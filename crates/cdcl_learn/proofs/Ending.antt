@@ -1,4 +1,4 @@
--- What is learnt on a level.
+-- The clause learnt on a level.
 use Rattle.std.proofs.Common.{
   ◌≡◌,
   ℕ,
@@ -48,7 +48,7 @@ contains_map f xs y (k, kl, e) =
 map_contains : (f : ℕ → ℕ) (xs : List ℕ) (x : ℕ) → Contains xs x → Contains (map f xs) (f x)
 map_contains f xs x (k, kl, e) = (k, omega (arith, kl, length-map xs f), get_or-map f xs k x (f x) kl ∙ ap f e)
 
--- the places and literals of an analysis that has come to its end
+-- the places and literals of a finished analysis
 pub record IsEnded (t : Trail) (met before : List Bool) (n root base place asserted : ℕ) (ls : List ℕ) : Type 0 where
   pub tallies : Tallies t met n root base ls
   pub cleared : IsCleared before met root

@@ -1,4 +1,4 @@
--- Clauses that are used, and places that give way to their reasons.
+-- Used clauses, and met places that are resolved with their reasons.
 use Rattle.std.proofs.Common.{◌≡◌, ◌≢◌, ℕ, ◌+◌, ◌/◌, ◌<◌, ◌≤◌, ◌⊎◌, Bool, true, false, Some, None, cond, List, [], ◌∷◌, ◌++◌, length, take, get_or, set, reverse, inl, inr, sym, ◌∙◌, ap, subst, arith, length-set, get_or-take, get_or-set_same}
 use Rattle.std.specs.Prelude.{Contains, IsSome}
 use Rattle.std.proofs.lemmas.Bool.{cases_eq, cases_lt, some_since}
@@ -34,7 +34,7 @@ meets_more t u a b c ls i p il pl e s m =
       ];
     })
 
--- one hint more in front
+-- one more hint in front
 pub leads-cons : (cs : List Clause) (given : List ℕ) (h l : ℕ) (hs : List ℕ) → Forces cs given h l → Leads cs (given ++ l ∷ []) hs → Leads cs given (h ∷ hs)
 leads-cons cs given h l [] f r = absurd r
 leads-cons cs given h l (g ∷ hs) f r = (l, f, r)
@@ -42,7 +42,7 @@ leads-cons cs given h l (g ∷ hs) f r = (l, f, r)
 pub reverse-push : (hs : List ℕ) (h : ℕ) → reverse (hs ++ h ∷ []) ≡ h ∷ reverse hs
 reverse-push hs h = reverse-append hs (h ∷ [])
 
--- a place that gives way to its reason: the hints still suffice
+-- after resolving a place with its reason, the hints still suffice
 pub suffices-resolve : (t : Trail) → IsTrail t → (cs : List Clause) (a b c : List Bool) (hs : List ℕ) (p k : ℕ) → p < length t.literals → IsMet a p
     → IsReason cs (take p t.literals) (get_or t.literals p 0) k → Meets t a b (at cs k).literals → ((q : ℕ) → q ≢ p → IsMet b q → IsMet c q)
     → Suffices t cs a hs → Suffices t cs c (hs ++ k ∷ [])
@@ -76,7 +76,7 @@ suffices-resolve t u cs a b c hs p k pl mp r m kept s given on all =
     ]) in
     rw (reverse-push hs k) (leads-cons cs given k l (reverse hs) forces more)
 
--- the conflict itself
+-- the hints suffice for the conflict itself
 pub suffices-start : (t : Trail) (cs : List Clause) (a b : List Bool) (k : ℕ) → k < length cs → (at cs k).kept ≡ true
     → ((x : ℕ) → Contains (at cs k).literals x → Contains t.literals (opposite_of x)) → Meets t a b (at cs k).literals → Suffices t cs b (k ∷ [])
 suffices-start t cs a b k h kept f m given on all =
@@ -97,7 +97,7 @@ counted met base p h l mp m n e f =
     let i : cond (get_or met p false) 1 0 ≡ one_more = ap (λ (b : Bool). let n : ℕ = cond b 1 0 in n) mp in
     omega (arith, e, f, g, i)
 
--- a place isn't met any more
+-- the counts after a place isn't met any more
 pub tallies-resolve : (t : Trail) (met : List Bool) (n root base : ℕ) (ls : List ℕ) → Tallies t met n root base ls → (p : ℕ) → p < length met
     → IsMet met p → (p < root) ⊎ (base ≤ p) → (m : ℕ) → ((base ≤ p) → m + 1 ≡ n) → (p < base → m ≡ n) → Tallies t (set met p false) m root base ls
 tallies-resolve t met n root base ls s p h mp side m up down =
@@ -146,7 +146,7 @@ before t u cs p k pl r q x c e ne ql =
           omega arith
     ]
 
--- what was met anew lies before the place that gives way
+-- newly met places are before the resolved one
 pub resolves-set : (t : Trail) → IsTrail t → (cs : List Clause) (a b : List Bool) (p k : ℕ) → p < length t.literals → p < length b
     → IsReason cs (take p t.literals) (get_or t.literals p 0) k → length b ≡ length t.literals → Meets t a b (at cs k).literals → Resolves a (set b p false) p
 resolves-set t u cs a b p k pl pb r size m =

@@ -35,7 +35,7 @@ use Rattle.cdcl_trail.specs.Trail.{Trail, IsTrail}
 use Rattle.cdcl_learn.specs.helpers.Starts.{AreLower, IsHighest, IsLevelAfter, IsTurn}
 use Rattle.cdcl_literals.proofs.Opposites.{opposite_of-half, opposite_of-opposite_of, opposite_of-within}
 
--- where the variable of a lower literal stands
+-- the opposite of a literal is on the trail, below the last level
 pub record StandsLow (t : Trail) (x : ℕ) : Type 0 where
   pub place : ℕ
   pub low : place < get_or t.starts (length t.starts - 1) 0

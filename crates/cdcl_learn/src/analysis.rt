@@ -11,8 +11,9 @@ use cdcl_literals::{ClauseId, Literal};
 use cdcl_trail::Trail;
 use std::alloc::AllocError;
 
-/// The places of the trail that were met and aren't resolved, how many are on the last level, the
-/// clause's literals from the levels between, and the clauses used, starting with the conflict.
+/// A conflict's analysis so far: the places of the trail that were met and aren't resolved, the
+/// number of them on the last level, the clause's literals from the levels between, and the clauses
+/// used, starting with the conflict.
 #[derive(Debug, Drop)]
 pub(crate) struct Analysis {
     pub(crate) met: Vec<bool>,

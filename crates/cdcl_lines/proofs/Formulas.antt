@@ -20,7 +20,7 @@ some-at (Some c) P f = f c refl
 at-some : (o : Option (List ℤ)) (P : List ℤ → Type 0) (c : List ℤ) → o ≡ Some c → IfSome o P → P c
 at-some o P c e h = subst (λ (o : Option (List ℤ)). IfSome o P) e h
 
--- a clause of an index is as it was
+-- the clause at an index is unchanged
 moved : (clauses : List (List ℤ)) (cs ds : List Clause) → ((k : ℕ) → k < length clauses → as_kept (at cs k) ≢ None → as_kept (at ds k) ≡ as_kept (at cs k))
     → KeepsAll clauses cs → KeepsAll clauses ds
 moved clauses cs ds f h k =

@@ -1,4 +1,4 @@
--- A clause that is to be asserted says more than units give.
+-- An asserted clause is fresh: unit propagation doesn't find it.
 use Rattle.std.proofs.Common.{◌≡◌, ◌≢◌, ℕ, zero, suc, ◌*◌, ◌<◌, Bool, true, false, not, cond, List, [], ◌∷◌, ◌++◌, map, length, take, get_or, ℤ, neg_ℤ, Option, Some, None, inl, inr, refl, sym, ◌∙◌, ap, subst, arith, append-nil, append_assoc}
 use Rattle.std.specs.Prelude.{Contains, filter, fold, slice_get, IfSome}
 use Rattle.std.specs.Ordering.{int_eq}
@@ -9,7 +9,7 @@ use Rattle.std.proofs.lemmas.Option.{slice_get_past, none-some, same_Some}
 use Rattle.std.proofs.lemmas.List.Elements.{Contains-append_left, Contains-append_cases, Contains-push}
 use Rattle.refute_check.specs.Literals.{is_among}
 use Rattle.refute_check.specs.Kept.{KeptClauses}
-use Rattle.refute_check.specs.Refutations.{Checking, start, after}
+use Rattle.refute_check.specs.Refutations.{Checking, start, state_after_line}
 use Rattle.refute_check.specs.declared.line.Line.{Line}
 use Rattle.cdcl_literals.specs.Literals.{opposite_of}
 use Rattle.cdcl_trail.specs.Trail.{Trail, IsTrail}
@@ -38,7 +38,7 @@ use Rattle.cdcl_lines.proofs.Numbers.{neg-literal, same-literal}
 use Rattle.cdcl_lines.proofs.Representing.{kept-within}
 use Rattle.cdcl_propagate.proofs.Links.{watches-first, watches-second}
 
--- a set of literals that units don't leave, and in which no kept clause has all its literals false
+-- a set of literals that is closed under units and falsifies no kept clause
 pub record IsClosed (kept : KeptClauses) (set : ℤ → Type 0) : Type 0 where
   pub units : (n : ℕ) (c : List ℤ) → get kept n ≡ Some c → (l : ℤ) → Contains c l → ((m : ℤ) → Contains c m → m ≢ l → set (neg_ℤ m)) → set l
   pub unbroken : (n : ℕ) (c : List ℤ) → get kept n ≡ Some c → ((m : ℤ) → Contains c m → set (neg_ℤ m)) → ⊥
@@ -56,7 +56,7 @@ stays kept set c trues (l ∷ ls) h (i, u) z m =
     ])
     u z (subst (λ (xs : List ℤ). Contains xs z) (sym (append_assoc trues (l ∷ []) ls)) m)
 
--- a clause is fresh whose other literals are false in such a set, where the literal isn't
+-- a clause is fresh if its other literals are false in such a set and this one isn't in it
 pub fresh-from_closed : (kept : KeptClauses) (set : ℤ → Type 0) → IsClosed kept set → (literals : List ℤ) (l : ℤ) → Contains literals l
     → ((z : ℤ) → Contains (others_false literals l) z → set z) → (set l → ⊥) → IsFresh kept literals
 fresh-from_closed kept set c literals l there others open' = record {
@@ -66,7 +66,7 @@ fresh-from_closed kept set c literals l there others open' = record {
   no_conflict = λ ls u b. c.unbroken b.number b.clause b.there (λ z m. stays kept set c (others_false literals l) ls others u (neg_ℤ z) (b.all_false z m));
 }
 
--- what a filter keeps
+-- the elements that a filter keeps
 filter-contains : (p : ℤ → Bool) (xs : List ℤ) (z : ℤ) → Contains (filter p xs) z → Contains xs z × (p z ≡ true)
 filter-contains p [] z h = absurd (contains-none z h)
 filter-contains p (x ∷ xs) z h =
@@ -83,7 +83,7 @@ filter-contains p (x ∷ xs) z h =
 pub trail-within : (t : Trail) → IsTrail t → (l : ℕ) → Contains t.literals l → l < 2 * t.variables
 trail-within t u l (k, h, e) = omega (arith, u.within k h, get_or_default t.literals k 0 l h, e)
 
--- what is true on the trail, as a checker has it
+-- whether a literal is true on the trail, as a checker writes it
 abbrev OnTrail : Trail → ℤ → Type 0
 OnTrail t z = Contains (map literal_of t.literals) z
 
@@ -94,7 +94,7 @@ pub watched-true : (t : Trail) (cs : List Clause) (ws : List (List Watch)) → A
 watched-true t cs ws s p k l kl w f =
     s.guarded.last k kl l w (subst (λ (xs : List ℕ). Contains xs (opposite_of l)) (sym (take_all t.propagated t.literals (omega (arith, p)))) f)
 
--- where all literals of a kept clause but one are false, it has a true one
+-- a kept clause with all literals false except one has a true literal
 unit-true : (t : Trail) (cs : List Clause) (ws : List (List Watch)) → AreConsistent t cs ws → AreRooted t cs → t.propagated ≡ length t.literals → (k l : ℕ)
     → (at cs k).kept ≡ true → ((x : ℕ) → Contains (at cs k).literals x → x ≢ l → Contains t.literals (opposite_of x)) → HasTrue t.literals (at cs k)
 unit-true t cs ws s r p k l h o =
@@ -114,7 +114,7 @@ unit-true t cs ws s r p k l h o =
       | inr e ↦ watched-true t cs ws s p k c.first kl (watches-first c h) (o c.first i.first_in e)
     ]
 
--- a clause under a number of the checker is one of the search
+-- a kept clause of the checker is one of the search
 pub record IsClauseOf (cs : List Clause) (c : List ℤ) : Type 0 where
   pub index : ℕ
   pub kept : (at cs index).kept ≡ true
@@ -129,7 +129,7 @@ clause-of : (cs : List Clause) (s : Checking) → Represents cs s → (n : ℕ) 
 clause-of cs s r zero c h = absurd (none-some c (sym r.none ∙ h))
 clause-of cs s r (suc k) c h = some-kept cs k c (at cs k).kept refl (sym (r.same k) ∙ h)
 
--- false there is false on the trail
+-- a literal that is false for the checker is false on the trail
 from-trail : (t : Trail) (x : ℕ) → OnTrail t (neg_ℤ (literal_of x)) → Contains t.literals (opposite_of x)
 from-trail t x h =
     let s = contains-from_map literal_of t.literals (neg_ℤ (literal_of x)) h in
@@ -177,20 +177,20 @@ asserted-fresh t cs ws s literals asserted beside w r p can =
     let x = contains-from_map literal_of t.literals (literal_of asserted) h in
     can.opens.not_true (subst (λ (y : ℕ). Contains t.literals y) (same-literal x.0 asserted x.2) x.1))
 
--- one line more
+-- one more line
 pub fresh-goes_on : FreshGoesOn
 fresh-goes_on f lines line h new k =
     elim (cases_lt k (length lines)) [
-      | inl d ↦ subst (λ (o : Option Line). IfSome o (λ l. IsFreshLine (fold after (start f) (take k (lines ++ line ∷ []))).kept l))
+      | inl d ↦ subst (λ (o : Option Line). IfSome o (λ l. IsFreshLine (fold state_after_line (start f) (take k (lines ++ line ∷ []))).kept l))
           (sym (slice_get-left lines line k d))
-          (subst (λ (xs : List Line). IfSome (slice_get lines k) (λ l. IsFreshLine (fold after (start f) xs).kept l))
+          (subst (λ (xs : List Line). IfSome (slice_get lines k) (λ l. IsFreshLine (fold state_after_line (start f) xs).kept l))
           (sym (take-append-le k lines (line ∷ []) (omega arith))) (h k))
       | inr d ↦ elim (cases_eq k (length lines)) [
-        | inl e ↦ subst (λ (o : Option Line). IfSome o (λ l. IsFreshLine (fold after (start f) (take k (lines ++ line ∷ []))).kept l))
+        | inl e ↦ subst (λ (o : Option Line). IfSome o (λ l. IsFreshLine (fold state_after_line (start f) (take k (lines ++ line ∷ []))).kept l))
             (sym (slice_get-last lines line k e))
-            (subst (λ (xs : List Line). IsFreshLine (fold after (start f) xs).kept line)
+            (subst (λ (xs : List Line). IsFreshLine (fold state_after_line (start f) xs).kept line)
             (sym (take-append-le k lines (line ∷ []) (omega arith) ∙ take_all k lines d)) new)
-        | inr e ↦ subst (λ (o : Option Line). IfSome o (λ l. IsFreshLine (fold after (start f) (take k (lines ++ line ∷ []))).kept l))
+        | inr e ↦ subst (λ (o : Option Line). IfSome o (λ l. IsFreshLine (fold state_after_line (start f) (take k (lines ++ line ∷ []))).kept l))
             (sym (slice_get_past (lines ++ line ∷ []) k (omega (arith, length_push lines line)))) tt
       ]
     ]

@@ -1,4 +1,4 @@
--- What a checker keeps after one more clause, and after one less.
+-- The clauses that a checker keeps after one more and after one less.
 use Rattle.std.proofs.Common.{◌≡◌, ◌≢◌, ℕ, List, ℤ, Some, None, ◌∙◌}
 use Rattle.std.specs.Ordering.{nat_cmp, eq_by_cmp}
 use Rattle.std.specs.Cmp.{nat_cmp_total, unsigned_tied}

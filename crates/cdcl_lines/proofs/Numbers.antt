@@ -90,7 +90,7 @@ above-contains low (x ∷ c) z r h =
       | inr g ↦ (let b : var_of x < var_of z = above-contains (var_of x) c z p.1 g in omega arith)
     ]
 
--- numbers that rise, without opposites, are literals that rise by variable
+-- rising numbers without opposites are literals that rise by variable
 pub rises-sorted : (low : ℕ) (ls : List ℕ) → ((l : ℕ) → Contains ls l → low < suc (l / 2)) → AllPairs (λ a b. a < b) ls
     → ((l : ℕ) → Contains ls l → Contains ls (opposite_of l) → ⊥) → rises_above low (clause_of ls) ≡ true
 rises-sorted low [] h s a = refl

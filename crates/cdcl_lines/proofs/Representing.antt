@@ -1,4 +1,4 @@
--- A checker keeps what a search keeps.
+-- A checker keeps the same clauses as a search.
 use Rattle.std.proofs.Common.{
   ◌≡◌,
   ◌≢◌,
@@ -36,7 +36,7 @@ use Rattle.std.proofs.lemmas.Bool.{cases_lt, cases_eq, false≢true, and_from, c
 use Rattle.std.proofs.lemmas.List.{get_or_at, get_or_append_left, get_or_past, length_push}
 use Rattle.std.proofs.lemmas.List.Elements.{All-head, All-contains}
 use Rattle.refute_check.specs.Kept.{KeptClauses}
-use Rattle.refute_check.specs.Refutations.{Checking, keep, judged, passed, line_fault, hints_fault, can_delete, without}
+use Rattle.refute_check.specs.Refutations.{Checking, keep, state_after_verdict, state_after_pass, line_fault, hints_fault, can_delete, without_clauses}
 use Rattle.refute_check.specs.declared.line.Line.{Line}
 use Rattle.refute_check.specs.declared.verdict.CheckFault.TheVariants.{NoVariable, NoClause}
 use Rattle.cnf_core.specs.Clauses.{is_within}
@@ -64,7 +64,7 @@ opening-represented vars = record {
   rise = λ k h. absurd (false≢true h);
 }
 
--- the clause at a place, once there is one more
+-- the clause at a place, with one more clause
 pub at-more : (cs : List Clause) (c : Clause) (k : ℕ) → ((k ≡ length cs) × (at (cs ++ c ∷ []) k ≡ c)) ⊎ ((k ≢ length cs) × (at (cs ++ c ∷ []) k ≡ at cs k))
 at-more cs c k =
     elim (cases_lt k (length cs)) [
@@ -75,7 +75,7 @@ at-more cs c k =
       ]
     ]
 
--- a clause more, whatever else the checker knows
+-- one more clause on both sides
 represents-more : (cs : List Clause) (s u : Checking) (literals : List ℕ) (first second : ℕ) → Represents cs s → Rise literals
     → u.kept ≡ insert s.kept s.next (clause_of literals) → u.next ≡ s.next + 1 → u.fault ≡ s.fault
     → Represents (cs ++ kept_clause literals first second ∷ []) u
@@ -113,11 +113,11 @@ same-represented cs ds s r a =
       rise = λ k h. subst (λ (ls : List ℕ). Rise ls) (sym (a.literals k)) (r.rise k (sym (a.kept k) ∙ h));
     }
 
--- a line without fault leaves what it says
+-- the state after a line without a fault
 pub passes-from : (s : Checking) (l : Line) → s.fault ≡ None → line_fault (s.line + 1) s.vars s.kept l ≡ None → Passes s l
 passes-from s l f e = record {
   no_fault = e;
-  leaves = ap (λ o. if is_some o then s else judged (line_fault (s.line + 1) s.vars s.kept l) s l) f ∙ ap (λ o. judged o s l) e;
+  leaves = ap (λ o. if is_some o then s else state_after_verdict (line_fault (s.line + 1) s.vars s.kept l) s l) f ∙ ap (λ o. state_after_verdict o s l) e;
 }
 
 shown-no_fault : (cs : List Clause) (s : Checking) (literals hints : List ℕ) → Represents cs s → All (λ l. l < 2 * s.vars) literals
@@ -131,15 +131,15 @@ shown-no_fault cs s literals hints r w h =
 pub shown-passes : ShownPasses
 shown-passes cs s literals hints r w rise h = (
   passes-from s (added literals hints) r.fault (shown-no_fault cs s literals hints r w h),
-  λ first second. represents-more cs s (passed s (added literals hints)) literals first second r rise refl refl refl,
+  λ first second. represents-more cs s (state_after_pass s (added literals hints)) literals first second r rise refl refl refl,
 )
 
--- the clause at a place, once one is dropped
+-- the clause at a place, after one was dropped
 pub at-dropped : (cs : List Clause) (k j : ℕ) → k < length cs → ((j ≡ k) × (at (dropped cs k) j ≡ record (at cs k) { kept = false }))
     ⊎ ((j ≢ k) × (at (dropped cs k) j ≡ at cs j))
 at-dropped cs k j h = at-set cs k j (record (at cs k) { kept = false }) h
 
--- a clause that is kept is there
+-- a kept clause exists
 pub kept-within : (cs : List Clause) (k : ℕ) → (at cs k).kept ≡ true → k < length cs
 kept-within cs k h =
     elim (cases_lt k (length cs)) [
@@ -176,7 +176,7 @@ can_drop-tail cs k ks c =
     }
 
 pub drops : (ks : List ℕ) (cs : List Clause) (s : Checking) → Represents cs s → CanDrop cs ks
-    → (can_delete s.kept (numbers_of ks) ≡ true) × Represents (fold dropped cs ks) (record s { kept = without s.kept (numbers_of ks) })
+    → (can_delete s.kept (numbers_of ks) ≡ true) × Represents (fold dropped cs ks) (record s { kept = without_clauses s.kept (numbers_of ks) })
 drops [] cs s r c = (refl, r)
 drops (k ∷ ks) cs s r c =
     let kept : (at cs k).kept ≡ true = All-head (λ j. (at cs j).kept ≡ true) k ks c.kept in

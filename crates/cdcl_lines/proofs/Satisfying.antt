@@ -1,4 +1,4 @@
--- A full trail satisfies what is kept.
+-- A full trail satisfies all kept clauses.
 use Rattle.std.proofs.Common.{◌≡◌, ℕ, zero, suc, ◌*◌, ◌/◌, ◌<◌, ◌⊎◌, true, List, [], ◌∷◌, length, ℤ, Option, Some, None, inl, inr, refl, ◌∙◌, ap, subst, arith}
 use Rattle.std.specs.Prelude.{Contains, slice_get, IfSome}
 use Rattle.std.proofs.lemmas.Bool.{cases_eq, and_from, or_left, or_right}

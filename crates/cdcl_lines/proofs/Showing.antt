@@ -1,4 +1,4 @@
--- Where hints show a clause to a search, they show it to a checker.
+-- Hints that prove a clause for a search prove it for a checker.
 use Rattle.std.proofs.Common.{
   ◌≡◌,
   ◌≢◌,
@@ -37,7 +37,7 @@ use Rattle.std.proofs.lemmas.List.{map_push}
 use Rattle.cnf_core.specs.Clauses.{var_of, rises_above}
 use Rattle.refute_check.specs.Kept.{KeptClauses}
 use Rattle.refute_check.specs.Literals.{is_among, left}
-use Rattle.refute_check.specs.Left.{by_left, what_is_left, counted}
+use Rattle.refute_check.specs.Left.{by_left, left_of_clause, count_of_literals}
 use Rattle.refute_check.specs.Refutations.{hints_fault}
 use Rattle.refute_check.specs.declared.verdict.CheckFault.TheVariants.{NoClause, Hint}
 use Rattle.cdcl_literals.specs.Literals.{opposite_of}
@@ -54,7 +54,7 @@ left-none given (x ∷ c) h =
     ap (λ b. cond (not b) (x ∷ left given c) (left given c)) (among-there given (neg_ℤ x) (h x (contains-here x c)))
     ∙ left-none given c (λ z m. h z (contains-there x c z m))
 
--- of literals that rise, one is left
+-- one of the rising literals is left
 left-one : (given c : List ℤ) (low : ℕ) (l : ℤ) → rises_above low c ≡ true → Contains c l → (Contains given (neg_ℤ l) → ⊥)
     → ((z : ℤ) → Contains c z → z ≢ l → Contains given (neg_ℤ z)) → left given c ≡ l ∷ []
 left-one given [] low l r m n h = absurd (omega (arith, m.1))
@@ -73,7 +73,7 @@ left-one given (x ∷ c) low l r m n h =
           ∙ left-one given c (var_of x) l p.1 k n (λ z g. h z (contains-there x c z g))
     ]
 
--- what is given to a search and what is given to a checker
+-- the given literals of a search and those of a checker
 neg-given : (given : List ℕ) (x : ℕ) → Contains given (opposite_of x) → Contains (clause_of given) (neg_ℤ (literal_of x))
 neg-given given x h = subst (λ z. Contains (clause_of given) z) (sym (neg-literal x)) (contains-map literal_of given (opposite_of x) h)
 
@@ -104,15 +104,15 @@ pub leads-pass : (n : ℕ) (cs : List Clause) (kept : KeptClauses) → ((k : ℕ
     → hints_fault n kept (clause_of given) (numbers_of hints) ≡ None
 leads-pass n cs kept same rise given [] h = absurd h
 leads-pass n cs kept same rise given (k ∷ []) h =
-    let f = λ (c : List ℤ). by_left (what_is_left (clause_of given) c) None (λ (l : ℤ). hints_fault n kept (clause_of given ++ l ∷ []) []) (Some (Hint n)) in
+    let f = λ (c : List ℤ). by_left (left_of_clause (clause_of given) c) None (λ (l : ℤ). hints_fault n kept (clause_of given ++ l ∷ []) []) (Some (Hint n)) in
     ap (λ o. option_map_or f o (Some (NoClause n))) (kept-there cs kept same k h.kept)
-    ∙ ap (λ xs. by_left (counted xs) None (λ (l : ℤ). hints_fault n kept (clause_of given ++ l ∷ []) []) (Some (Hint n)))
+    ∙ ap (λ xs. by_left (count_of_literals xs) None (λ (l : ℤ). hints_fault n kept (clause_of given ++ l ∷ []) []) (Some (Hint n)))
     (left-refuted given (at cs k).literals h.all_false)
 leads-pass n cs kept same rise given (k ∷ g ∷ hs) (l, f, rest) =
     let go = λ (z : ℤ). hints_fault n kept (clause_of given ++ z ∷ []) (numbers_of (g ∷ hs)) in
-    let F = λ (c : List ℤ). by_left (what_is_left (clause_of given) c) (Some (Hint n)) go (Some (Hint n)) in
+    let F = λ (c : List ℤ). by_left (left_of_clause (clause_of given) c) (Some (Hint n)) go (Some (Hint n)) in
     ap (λ o. option_map_or F o (Some (NoClause n))) (kept-there cs kept same k f.kept)
-    ∙ ap (λ xs. by_left (counted xs) (Some (Hint n)) go (Some (Hint n)))
+    ∙ ap (λ xs. by_left (count_of_literals xs) (Some (Hint n)) go (Some (Hint n)))
     (left-forced given (at cs k).literals l (rise k f.kept) f.has f.not_false f.others)
     ∙ ap (λ xs. hints_fault n kept xs (numbers_of (g ∷ hs))) (sym (map_push literal_of given l))
     ∙ leads-pass n cs kept same rise (given ++ l ∷ []) (g ∷ hs) rest

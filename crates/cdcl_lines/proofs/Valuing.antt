@@ -46,7 +46,7 @@ pub record IsValue (t : Trail) (v : ℕ) (b : Bool) : Type 0 where
   pub yes : Contains t.literals (2 * v) → b ≡ true
   pub no : Contains t.literals (opposite_of (2 * v)) → b ≡ false
 
--- so it is of the first variables
+-- the values agree with the trail on the first variables
 pub record AgreesBelow (t : Trail) (values : List Bool) (n : ℕ) : Type 0 where
   pub count : length values ≡ n
   pub same : (v : ℕ) → v < n → IsValue t v (get_or values v false)

@@ -4,7 +4,7 @@ use Rattle.std.specs.FinMap.{get}
 use Rattle.std.specs.Ordering.{int_eq}
 use Rattle.cnf_core.specs.Clauses.{Formula}
 use Rattle.refute_check.specs.Kept.{KeptClauses}
-use Rattle.refute_check.specs.Refutations.{Checking, start, after}
+use Rattle.refute_check.specs.Refutations.{Checking, start, state_after_line}
 use Rattle.refute_check.specs.declared.line.Line.{Line}
 use Rattle.refute_check.specs.declared.line.Line.TheVariants.{Add, Delete}
 use Rattle.cdcl_trail.specs.Trail.{Trail}
@@ -56,12 +56,12 @@ IsFreshLine kept (Delete ns) = ⊤
 
 -- each line is fresh over the clauses kept just before it
 abbrev pub AreFresh : Formula → List Line → Type 0
-AreFresh f lines = (k : ℕ) → IfSome (slice_get lines k) (λ l. IsFreshLine (fold after (start f) (take k lines)).kept l)
+AreFresh f lines = (k : ℕ) → IfSome (slice_get lines k) (λ l. IsFreshLine (fold state_after_line (start f) (take k lines)).kept l)
 
 -- fresh lines with one more fresh line are fresh
 abbrev pub FreshGoesOn : Type 0
 FreshGoesOn =
-    (f : Formula) (lines : List Line) (line : Line) → AreFresh f lines → IsFreshLine (fold after (start f) lines).kept line
+    (f : Formula) (lines : List Line) (line : Line) → AreFresh f lines → IsFreshLine (fold state_after_line (start f) lines).kept line
     → AreFresh f (lines ++ line ∷ [])
 
 -- a clause that is to be asserted is fresh

@@ -1,7 +1,7 @@
 -- A search and a checker keep the same clauses, line after line.
 use Rattle.std.specs.Prelude.{◌≡◌, ◌≢◌, ℕ, suc, ◌+◌, ◌*◌, ◌<◌, ◌≤◌, true, if◌then◌else◌, List, [], ◌∷◌, ◌++◌, length, slice_get, All, AllPairs, ℤ, Option, Some, None, IfSome, fold}
 use Rattle.std.specs.FinMap.{get}
-use Rattle.refute_check.specs.Refutations.{Checking, keep, opening, after, passed, line_fault}
+use Rattle.refute_check.specs.Refutations.{Checking, keep, opening, state_after_line, state_after_pass, line_fault}
 use Rattle.refute_check.specs.declared.line.Line.{Line}
 use Rattle.cdcl_clauses.specs.Clauses.{Clause, at, kept_clause, dropped}
 use Rattle.cdcl_clauses.specs.Invariants.{AreSame}
@@ -24,19 +24,19 @@ pub record Represents (cs : List Clause) (s : Checking) : Type 0 where
 -- the line passes in this state
 pub record Passes (s : Checking) (l : Line) : Type 0 where
   pub no_fault : line_fault (s.line + 1) s.vars s.kept l ≡ None
-  pub leaves : after s l ≡ passed s l
+  pub leaves : state_after_line s l ≡ state_after_pass s l
 
 -- the opening state represents a search without clauses
 abbrev pub OpeningIsRepresented : Type 0
 OpeningIsRepresented = (vars : ℕ) → Represents [] (opening vars)
 
--- it still does with one more clause of a formula
+-- a state that represents a search does so after both keep one more clause of a formula
 abbrev pub KeepIsRepresented : Type 0
 KeepIsRepresented =
     (cs : List Clause) (s : Checking) (literals : List ℕ) (first second : ℕ) → Represents cs s → Rise literals
     → Represents (cs ++ kept_clause literals first second ∷ []) (keep s (clause_of literals))
 
--- it still does if clauses watch other literals
+-- a state that represents a search does so if clauses watch other literals
 abbrev pub SameAreRepresented : Type 0
 SameAreRepresented = (cs ds : List Clause) (s : Checking) → Represents cs s → AreSame cs ds → Represents ds s
 
@@ -46,7 +46,7 @@ ShownPasses =
     (cs : List Clause) (s : Checking) (literals hints : List ℕ) → Represents cs s → All (λ l. l < 2 * s.vars) literals → Rise literals
     → Shows cs literals hints
     → Passes s (added literals hints)
-    × ((first second : ℕ) → Represents (cs ++ kept_clause literals first second ∷ []) (passed s (added literals hints)))
+    × ((first second : ℕ) → Represents (cs ++ kept_clause literals first second ∷ []) (state_after_pass s (added literals hints)))
 
 -- the hints are clauses of the search
 abbrev pub HintsAreThere : Type 0
@@ -54,7 +54,7 @@ HintsAreThere = (cs : List Clause) (literals hints : List ℕ) → Shows cs lite
 
 -- a line that adds an empty clause closes the derivation
 abbrev pub EmptyCloses : Type 0
-EmptyCloses = (s : Checking) (hints : List ℕ) → (passed s (added [] hints)).closed ≡ true
+EmptyCloses = (s : Checking) (hints : List ℕ) → (state_after_pass s (added [] hints)).closed ≡ true
 
 -- these clauses are kept, and none is named twice
 pub record CanDrop (cs : List Clause) (ks : List ℕ) : Type 0 where
@@ -65,7 +65,7 @@ pub record CanDrop (cs : List Clause) (ks : List ℕ) : Type 0 where
 abbrev pub DropPasses : Type 0
 DropPasses =
     (cs : List Clause) (s : Checking) (ks : List ℕ) → Represents cs s → CanDrop cs ks
-    → Passes s (deleted ks) × Represents (fold dropped cs ks) (passed s (deleted ks))
+    → Passes s (deleted ks) × Represents (fold dropped cs ks) (state_after_pass s (deleted ks))
 
 -- each clause of a formula is kept at its index
 abbrev pub KeepsAll : List (List ℤ) → List Clause → Type 0
@@ -77,7 +77,7 @@ KeepsOneMore =
     (clauses : List (List ℤ)) (cs : List Clause) (literals : List ℕ) (first second : ℕ) → KeepsAll clauses cs → length cs ≡ length clauses
     → KeepsAll (clauses ++ clause_of literals ∷ []) (cs ++ kept_clause literals first second ∷ [])
 
--- and still if clauses watch other literals, are learnt, or are dropped after the formula's
+-- the same if clauses watch other literals, are learnt, or are dropped after the formula's
 abbrev pub KeepsOn : Type 0
 KeepsOn =
     (clauses : List (List ℤ)) (cs : List Clause) → KeepsAll clauses cs

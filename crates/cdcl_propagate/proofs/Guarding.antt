@@ -47,7 +47,7 @@ has_true-same xs c d e h = record { literal = h.literal; in_clause = subst (λ (
 pub has_true-push : (xs : List ℕ) (x : ℕ) (c : Clause) → HasTrue xs c → HasTrue (xs ++ x ∷ []) c
 has_true-push xs x c h = record { literal = h.literal; in_clause = h.in_clause; is_true = Contains-append_left xs (x ∷ []) h.literal h.is_true }
 
--- a clause that watches another literal, which isn't false, guards as before
+-- a clause that watches another literal, which isn't false, still guards
 pub guards-rewatched : (ys xs : List ℕ) (cs : List Clause) (k first second m : ℕ) → k < length cs → watches (at cs k) first ≡ true
     → (Contains ys (opposite_of second) → ⊥) → Guards ys xs (at cs m) → Guards ys xs (at (rewatched cs k first second) m)
 guards-rewatched ys xs cs k first second m h wf ns g l wl fl =
@@ -74,7 +74,7 @@ guarded-rewatched t cs s k first second h wf ns =
           (λ f. ns (contains-take t.literals t.propagated (opposite_of second) f)) (s.last m (omega (arith, n)));
     }
 
--- guards of a longer trail
+-- clauses stay guarded on a longer trail
 pub guarded-pushed : (t : Trail) (cs : List Clause) → IsTrail t → AreGuarded t cs → (l : ℕ) (r : Option ℕ) → AreGuarded (pushed t l r) cs
 guarded-pushed t cs u s l r =
     let early : (i : ℕ) → i < length t.starts → take (get_or t.starts i 0) (t.literals ++ l ∷ []) ≡ take (get_or t.starts i 0) t.literals =
@@ -85,7 +85,7 @@ guarded-pushed t cs u s l r =
           (s.last m ml x wx (subst (λ (xs : List ℕ). Contains xs (opposite_of x)) (take-append-le t.propagated t.literals (l ∷ []) u.propagated_fits) fx));
     }
 
--- a literal more is propagated, all of whose clauses have a true one
+-- one more literal is propagated, and all its clauses have a true literal
 pub guarded-advanced : (t : Trail) (cs : List Clause) → AreGuarded t cs → t.propagated < length t.literals
     → ((k l : ℕ) → k < length cs → watches (at cs k) l ≡ true → opposite_of l ≡ get_or t.literals t.propagated 0 → HasTrue t.literals (at cs k))
     → AreGuarded (record t { propagated = t.propagated + 1 }) cs
@@ -119,7 +119,7 @@ reasoned-same t cs ds e s p h =
     (get_or t.reasons p None) (λ b. b)
     (λ k r. reason-same cs ds e (take p t.literals) (get_or t.literals p 0) k r) (s p h)
 
--- one more literal, by a reason
+-- one more literal with its reason
 pub reasoned-pushed : (t : Trail) (cs : List Clause) → IsTrail t → AreReasoned t cs → (l k : ℕ) → IsReason cs t.literals l k
     → AreReasoned (pushed t l (Some k)) cs
 reasoned-pushed t cs u s l k r p h =
@@ -180,7 +180,7 @@ extends-trans t u v a b = record {
   longer = omega (arith, a.longer, b.longer);
 }
 
--- what is true stays true
+-- a true literal stays true
 pub has_true-extends : (t u : Trail) → Extends t u → (c : Clause) → HasTrue t.literals c → HasTrue u.literals c
 has_true-extends t u e c h = record {
   literal = h.literal;

@@ -1,4 +1,4 @@
--- Links stay as watches move.
+-- The links stay as watches move.
 use Rattle.std.proofs.Common.{
   ◌≡◌,
   ◌≢◌,
@@ -37,7 +37,7 @@ use Rattle.cdcl_clauses.specs.Clauses.{Clause, at, no_clause, watches, listed, w
 use Rattle.cdcl_clauses.specs.Invariants.{IsClause, IsListed, IsWatch, AreLinked}
 use Rattle.cdcl_clauses.specs.declared.watches.Watch.{Watch}
 
--- who stands at a literal after the list of one was replaced
+-- the watches of each literal after the list of one literal was replaced
 pub listed-set : (ws : List (List Watch)) (l m : ℕ) (us : List Watch) → l < length ws → ((m ≡ l) × (listed (set ws l us) m ≡ us))
     ⊎ ((m ≢ l) × (listed (set ws l us) m ≡ listed ws m))
 listed-set ws l m us h =
@@ -73,7 +73,7 @@ listed-push ws l w h m k i =
       }
     ]
 
--- one more stands at a literal
+-- the watch lists stay linked with one more watch at a literal
 pub linked-push : (v : ℕ) (cs : List Clause) (ws : List (List Watch)) → AreLinked v cs ws → (l : ℕ) (w : Watch) → l < length ws → IsWatch v cs w
     → AreLinked v cs (set ws l (listed ws l ++ w ∷ []))
 linked-push v cs ws s l w h iw =
@@ -97,7 +97,7 @@ listed-last ws l w h =
           ∙ ap (λ (x : Watch). x.clause) (get_or_at (listed ws l) w [] d (length (listed ws l)) refl);
     }
 
--- what a clause watches is one of its two
+-- a literal that a clause watches is one of its two
 pub watches-cases : (c : Clause) (l : ℕ) → watches c l ≡ true → (c.kept ≡ true) × ((l ≡ c.first) ⊎ (l ≡ c.second))
 watches-cases c l h = grind (arith, nat_tests)
 
@@ -107,11 +107,11 @@ watches-first c h = grind (arith, nat_tests)
 pub watches-second : (c : Clause) → c.kept ≡ true → watches c c.second ≡ true
 watches-second c h = grind (arith, nat_tests)
 
--- a clause watches others
+-- the clauses after one of them watches other literals
 abbrev pub rewatched : List Clause → (k first second : ℕ) → List Clause
 rewatched cs k first second = set cs k (record (at cs k) { first = first; second = second })
 
--- what both lists of clauses have in common
+-- the two lists of clauses are the same elsewhere
 pub at-rewatched : (cs : List Clause) (k first second m : ℕ) → k < length cs → ((at (rewatched cs k first second) m).literals ≡ (at cs m).literals)
     × ((at (rewatched cs k first second) m).kept ≡ (at cs m).kept)
 at-rewatched cs k first second m h =
@@ -159,7 +159,7 @@ linked-watch v cs ws s k first second h fi si ne fl sl =
       ];
     }
 
--- a watch whose clause watches the literal no more goes
+-- removing the watch of a clause that no longer watches the literal
 removed-place : (us : List Watch) (p q k : ℕ) → p < length us → q < length us → q ≢ p → ((d : Watch) → (get_or us q d).clause ≡ k)
     → (j : ℕ) × (j < length (without_place us p)) × ((d : Watch) → (get_or (without_place us p) j d).clause ≡ k)
 removed-place us p q k pl ql ne h =

@@ -127,7 +127,7 @@ visited-all v t cs ws f place s h g k kl wl =
     let e : (get_or (listed ws f) i.place none).clause ≡ k = i.there none in
     subst (λ (n : ℕ). HasTrue t.literals (at cs n)) e (g i.place none (omega (arith, i.within)) (ap (λ (n : ℕ). watches (at cs n) f) e ∙ wl))
 
--- the watched literal stays the one that is false by what isn't propagated
+-- the visited literal is still false, because of the literal being propagated
 pub fallen-now : (t u : Trail) → Extends t u → (f : ℕ) → t.propagated < length t.literals → f ≡ opposite_of (get_or t.literals t.propagated 0)
     → u.propagated ≡ t.propagated → (u.propagated < length u.literals) × (f ≡ opposite_of (get_or u.literals u.propagated 0))
 fallen-now t u e f h g p =
@@ -194,7 +194,7 @@ sound-forced t cs ws s f k other h w o u =
       reasoned = reasoned-pushed t cs s.lawful s.reasoned other k (record { there = h; kept = kept; has = has; others = o });
     }
 
--- the clause that was a unit has a true literal then
+-- the clause that was a unit now has a true literal
 pub has_true-forced : (t : Trail) (cs : List Clause) (ws : List (List Watch)) → AreConsistent t cs ws → (f k other : ℕ) → k < length cs
     → Watching cs f k other → HasTrue (t.literals ++ other ∷ []) (at cs k)
 has_true-forced t cs ws s f k other h w =
@@ -232,7 +232,7 @@ sound-moved t cs ws s f k other next h nl w n =
       reasoned = reasoned-same t cs (rewatched cs k other next) (same-rewatched cs k other next h) s.reasoned;
     }
 
--- the literal that has become false is watched no more
+-- no clause watches the fallen literal any more
 pub moved-gone : (t : Trail) (cs : List Clause) (ws : List (List Watch)) → AreConsistent t cs ws → (f k other next : ℕ) → k < length cs
     → Watching cs f k other → IsFound t (at cs k).literals other next → next ≢ f → watches (at (rewatched cs k other next) k) f ≡ false
 moved-gone t cs ws s f k other next h w n nf =
@@ -242,7 +242,7 @@ moved-gone t cs ws s f k other next h w n nf =
     ap (λ (c : Clause). watches c f) (get_or-set_same cs k (record (at cs k) { first = other; second = next }) no_clause h)
     ∙ watches-neither (record (at cs k) { first = other; second = next }) f apart nf
 
--- a literal that isn't false is not the one that has become false
+-- a literal that isn't false isn't the fallen one
 pub found-apart : (t : Trail) (f next : ℕ) → t.propagated < length t.literals → f ≡ opposite_of (get_or t.literals t.propagated 0)
     → (Contains t.literals (opposite_of next) → ⊥) → next ≢ f
 found-apart t f next h e n g =
@@ -273,7 +273,7 @@ pub fallen-within : (t : Trail) (cs : List Clause) (ws : List (List Watch)) → 
 fallen-within t cs ws s f h e =
     omega (arith, e, s.linked.lists, opposite_of-within (get_or t.literals t.propagated 0) t.variables (s.lawful.within t.propagated h))
 
--- what a move leaves, once its watch is taken from the literal that has become false
+-- the state after a watch was moved away from the fallen literal
 pub record Moved (t : Trail) (cs : List Clause) (ws : List (List Watch)) (f place k other next : ℕ) (ds : List Clause) (vs : List (List Watch)) : Type 0 where
   pub sound : AreConsistent t ds vs
   pub same : AreSame cs ds

@@ -1,4 +1,4 @@
--- What is kept where levels are taken back.
+-- What backtracking keeps.
 use Rattle.std.proofs.Common.{◌≡◌, ℕ, ◌<◌, Option, None, List, length, take, get_or, sym, ◌∙◌, ap, subst, inl, inr, arith, get_or-take}
 use Rattle.std.specs.Prelude.{MatchOption}
 use Rattle.std.proofs.lemmas.Bool.{cases_lt, cases_eq}
@@ -23,7 +23,7 @@ guarded-cut t cs u s level h =
       last = λ k kl. subst (λ (xs : List ℕ). Guards xs (take n t.literals) (at cs k)) (sym (take-take n n t.literals (omega arith))) (s.below k level kl h);
     }
 
--- a level that begins before another is still there
+-- a level that begins before another still exists
 begins : (t : Trail) → IsTrail t → (level p : ℕ) → level < length t.starts → p < get_or t.starts level 0 → BeginsAt t p → BeginsAt (cut_to t level) p
 begins t u level p h pn b =
     elim (cases_lt b.level level) [

@@ -1,4 +1,4 @@
--- A clause that is no reason goes.
+-- A clause that isn't a reason is deleted.
 use Rattle.std.proofs.Common.{◌≡◌, ◌≢◌, ℕ, ◌<◌, Option, Some, None, true, false, List, length, take, get_or, inl, inr, sym, ◌∙◌, ap, subst, arith, length-set}
 use Rattle.std.specs.Prelude.{Contains, MatchOption}
 use Rattle.cdcl_trail.specs.Trail.{Trail, IsNoReason}
@@ -15,7 +15,7 @@ same-literals cs k m h =
       | inr e ↦ ap (λ (c : Clause). c.literals) e.1
     ]
 
--- what is still kept is another clause
+-- a clause that is still kept is a different one
 same-kept : (cs : List Clause) (k m : ℕ) → k < length cs → (at (dropped cs k) m).kept ≡ true → at (dropped cs k) m ≡ at cs m
 same-kept cs k m h f =
     elim (at-set cs k m (record (at cs k) { kept = false }) h) [

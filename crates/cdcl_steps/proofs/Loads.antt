@@ -79,7 +79,7 @@ sound-loaded_unit t cs ws s start ls a b i one u =
       reasoned = reasoned-pushed t (cs ++ c ∷ []) s.lawful (reasoned-push t cs c s.reasoned) a (length cs) r;
     }
 
--- a literal that is true is so before the first level
+-- a true literal was true before the first level
 root-start : (t : Trail) → IsAtStart t → (x : ℕ) → Contains t.literals x → Contains (root_of t) x
 root-start t s x c =
     let n : ℕ = length t.literals in

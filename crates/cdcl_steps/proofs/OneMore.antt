@@ -1,4 +1,4 @@
--- One more clause is kept, and its open literal comes true.
+-- One more clause is kept, and its open literal becomes true.
 use Rattle.std.proofs.Common.{◌≡◌, ◌≢◌, ℕ, ◌*◌, ◌<◌, ◌⊎◌, Some, None, List, [], ◌∷◌, ◌++◌, length, take, get_or, set, inl, inr, refl, sym, ◌∙◌, ap, subst, arith, length-set}
 use Rattle.std.specs.Prelude.{Contains, All}
 use Rattle.std.proofs.lemmas.Bool.{cases_lt}
@@ -83,7 +83,7 @@ guards-push ys xs cs c k h old new =
       | inr e ↦ subst (λ (d : Clause). Guards ys xs d) (sym e.1) (old k e.0)
     ]
 
--- the clause guards, since one of what it watches comes true and the other is false on no lower level
+-- the clause guards: one watched literal becomes true, and the other is false on no lower level
 pub guarded-attach : (t : Trail) (cs : List Clause) → IsTrail t → AreGuarded t cs → (ls : List ℕ) (a b : ℕ) → CanAssert t ls a b → (r : ℕ)
     → AreGuarded (pushed t a (Some r)) (cs ++ kept_clause ls a b ∷ [])
 guarded-attach t cs u s ls a b can r =

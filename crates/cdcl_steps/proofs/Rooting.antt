@@ -1,4 +1,4 @@
--- What was true before the first level began stays true, and so do the clauses of one literal.
+-- Literals true before the first level stay true, and so do unit clauses.
 use Rattle.std.proofs.Common.{◌≡◌, ℕ, ◌<◌, ◌≤◌, Option, true, List, [], ◌∷◌, ◌++◌, length, take, get_or, inl, inr, sym, ◌∙◌, ap, subst, arith, get_or-take}
 use Rattle.std.specs.Prelude.{Contains}
 use Rattle.std.proofs.lemmas.Bool.{cases_eq}
@@ -96,7 +96,7 @@ root-cut t u level h x c =
     ] in
     contains-shorter t.literals m n p x both.0 both.1 c
 
--- a clause of one literal was one before
+-- a unit clause was one before
 pub record WasSingle (c d : Clause) : Type 0 where
   pub single : c.first ≡ c.second
   pub first : c.first ≡ d.first

@@ -1,11 +1,11 @@
--- What was put last is taken away again.
+-- Undoing the last push.
 use Rattle.std.proofs.Common.{◌≡◌, ◌-◌, ◌<◌, ◌∙◌, ◌∷◌, [], ◌++◌, ℕ, List, length, take, set, ap, refl, true, arith, length-set, get_or-set_same}
 use Rattle.std.proofs.lemmas.List.{take_at, length_push, set-set, set-get_or}
 use Rattle.cdcl_clauses.specs.Clauses.{Clause, listed}
 use Rattle.cdcl_clauses.specs.declared.watches.Watch.{Watch}
 use Rattle.cdcl_steps.specs.Attached.{WasAttached}
 
--- what was put last is taken away again
+-- removing the watch that was pushed last restores the lists
 pub undone : (ws vs : List (List Watch)) (f : ℕ) (w : Watch) → f < length ws → vs ≡ set ws f (listed ws f ++ w ∷ [])
     → set vs f (take (length (listed vs f) - 1) (listed vs f)) ≡ ws
 undone ws vs f w h e =

@@ -1,4 +1,4 @@
--- How a trail begins a level, and how levels are taken back.
+-- A trail begins a level, and takes levels back.
 use Rattle.std.proofs.Common.{
   ◌⊎◌,
   ◌≡◌,
@@ -62,7 +62,7 @@ same_trail : (t u : Trail) → t.variables ≡ u.variables → t.literals ≡ u.
     → t.propagated ≡ u.propagated → t ≡ u
 same_trail t u e0 e1 e2 e3 e4 = λ i. record { variables = e0 i; literals = e1 i; reasons = e2 i; starts = e3 i; propagated = e4 i }
 
--- what the trail tells after a push, of what lies in memory before and after
+-- the trail after a push, from memory before and after
 pub record Grew (a b : Inside) : Type 0 where
   pub variables : length b.places.items ≡ length a.places.items
   pub len : b.len ≡ a.len + 1
@@ -154,7 +154,8 @@ begun_view a b s u l v =
     same_trail (trail_of (begun_inside b a.len)) (decided (trail_of a) l) e0 e1 e2
     (e5 ∙ ap (λ (x : List ℕ). x ++ a.len ∷ []) e3 ∙ ap (λ (x : ℕ). take a.levels a.starts.items ++ x ∷ []) (sym e6)) e4
 
--- the literals of the trail's places from one up to another are open, and their opposites; other values are as they were
+-- the literals at the trail's places in a range become open, with their opposites; others keep
+-- their values
 pub record Opens (vs ws : List Value) (ls : List ℕ) (i k : ℕ) : Type 0 where
   pub length_same : length ws ≡ length vs
   pub opened : (x j : ℕ) → i ≤ j → j < k → get_or ls j 0 / 2 ≡ x / 2 → get_or ws x Open ≡ Open
@@ -164,7 +165,7 @@ pub record Opens (vs ws : List Value) (ls : List ℕ) (i k : ℕ) : Type 0 where
 pub opens_none : (vs : List Value) (ls : List ℕ) (i : ℕ) → Opens vs vs ls i i
 opens_none vs ls i = record { length_same = refl; opened = λ x j h k e. absurd (omega arith); others = λ x h. refl; from_open = λ x e. e }
 
--- a value that is set to open
+-- setting a value to open
 set_open : (vs : List Value) (l x : ℕ) → ((x ≡ l) × (get_or (set vs l Open) x Open ≡ Open)) ⊎ ((x ≢ l) × (get_or (set vs l Open) x Open ≡ get_or vs x Open))
 set_open vs l x =
     elim (cases_eq x l) [
@@ -178,7 +179,7 @@ set_open vs l x =
 keeps_open : (vs : List Value) (l x : ℕ) → get_or vs x Open ≡ Open → get_or (set vs l Open) x Open ≡ Open
 keeps_open vs l x h = elim (set_open vs l x) [ inl e ↦ e.1 | inr e ↦ e.1 ∙ h ]
 
--- both literals of a variable are open once both are set so
+-- both literals of a variable are open once both are set
 open_pair : (vs : List Value) (l m x : ℕ) → m ≡ opposite_of l → x / 2 ≡ l / 2 → get_or (set (set vs l Open) m Open) x Open ≡ Open
 open_pair vs l m x em h =
     elim (same_half x l h) [
@@ -200,7 +201,7 @@ opens_more vs ws ls i k l m ik el em o =
       from_open = λ x e. keeps_open (set ws l Open) m x (keeps_open ws l x (o.from_open x e));
     }
 
--- a trail whose levels from one on are taken back, with other values
+-- a trail without its levels from one on, with other values
 abbrev pub cut_inside : Inside → Vec Value Global → (n level : ℕ) → Inside
 cut_inside a vs n level = record {
   values = vs;

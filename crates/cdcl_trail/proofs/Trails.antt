@@ -1,4 +1,4 @@
--- What a trail that lies in memory tells, and how it grows.
+-- The trail stored in memory, and how it grows.
 use Rattle.std.proofs.Common.{
   ◌≡◌,
   ◌≢◌,
@@ -57,7 +57,7 @@ use Rattle.cdcl_literals.proofs.Opposites.{opposite_of-within, opposite_of-half,
 pub at_take : {X : Type 0} (xs : List X) (n k : ℕ) (d e : X) → n ≤ length xs → k < n → get_or (take n xs) k d ≡ get_or xs k e
 at_take xs n k d e h l = get_or-take n xs k d l ∙ get_or_default xs k d e (omega arith)
 
--- an element of the first so many has a place among them
+-- an element of the first `n` has a place among them
 pub place_from_contains : (xs : List ℕ) (n x : ℕ) → n ≤ length xs → Contains (take n xs) x → (k : ℕ) × (k < n) × (get_or xs k 0 ≡ x)
 place_from_contains xs n x h (k, l, e) = let m : k < n = omega (arith, length-take-le n xs h) in (k, m, sym (at_take xs n k x 0 h m) ∙ e)
 
@@ -99,7 +99,7 @@ tells a s l w Open e =
           ∙ ap opposite_of (sym f)) ∙ (s.stands k m).false_there in cc);
     }
 
--- the place that a variable knows, where a literal of it is true
+-- the recorded place of a variable has a true literal of it
 pub known_place : (a : Inside) → IsLaidOut a → (l : ℕ) → Contains (take a.len a.literals.items) l
     ⊎ Contains (take a.len a.literals.items) (opposite_of l) → (get_or a.places.items (l / 2) 0 < a.len)
     × (get_or a.literals.items (get_or a.places.items (l / 2) 0) 0 / 2 ≡ l / 2)
@@ -115,7 +115,7 @@ known_place a s l (inr h) =
     let g : get_or a.places.items (l / 2) 0 ≡ k = ap (λ (x : ℕ). get_or a.places.items x 0) (sym i) ∙ (s.stands k m).known in
     (omega arith, ap (λ (x : ℕ). get_or a.literals.items x 0 / 2) g ∙ i)
 
--- places whose variables are one are one
+-- two places with the same variable are the same
 pub places_apart : (a : Inside) → IsLaidOut a → (i k : ℕ) → i < a.len → k < a.len → get_or a.literals.items i 0 / 2 ≡ get_or a.literals.items k 0 / 2 → i ≡ k
 places_apart a s i k il kl e = sym (s.stands i il).known ∙ ap (λ (x : ℕ). get_or a.places.items x 0) e ∙ (s.stands k kl).known
 
@@ -125,7 +125,7 @@ equal_from a b h = elim (eqb_tells a b) [ inl e ↦ e.1 | inr e ↦ absurd (let 
 not_equal : (a b : ℕ) → a ≢ b → eqb a b ≡ false
 not_equal a b h = elim (eqb_tells a b) [ inl e ↦ absurd (h e.1) | inr e ↦ e.0 ]
 
--- no two of these variables are one
+-- these variables are all different
 apart_at : (a : Inside) → IsLaidOut a → (l : ℕ) (halves : List ℕ) → length halves ≡ a.len
     → ((i : ℕ) (d : ℕ) → i < a.len → get_or halves i d ≡ get_or a.literals.items i 0 / 2)
     → ((i : ℕ) → i < a.len → get_or a.literals.items i 0 / 2 ≢ l / 2) → (i j : ℕ) (d : ℕ) → i < j → j < length (l / 2 ∷ halves)
@@ -139,7 +139,7 @@ apart_at a s l halves size read fresh (suc i) (suc j) d ij jl =
     let jl' : j < a.len = omega (arith, size) in
     not_equal (get_or halves i d) (get_or halves j d) (λ e. let f : i ≡ j = places_apart a s i j il jl' (sym (read i d il) ∙ e ∙ read j d jl') in omega arith)
 
--- each of these variables is one of all
+-- each of these variables exists
 below_at : (a : Inside) → IsLaidOut a → (l : ℕ) → l < 2 * length a.places.items → (halves : List ℕ) → length halves ≡ a.len
     → ((i : ℕ) (d : ℕ) → i < a.len → get_or halves i d ≡ get_or a.literals.items i 0 / 2) → (q : ℕ) → Contains (l / 2 ∷ halves) q → q < length a.places.items
 below_at a s l w halves size read q (zero, kl, e) = omega arith
@@ -148,7 +148,7 @@ below_at a s l w halves size read q (suc k, kl, e) =
     let f : get_or a.literals.items k 0 / 2 ≡ q = sym (read k q il) ∙ e in
     omega (arith, (s.stands k il).within, f)
 
--- no variable of a trail is an open literal's
+-- an open literal's variable isn't on the trail
 pub fresh_half : (a : Inside) → IsLaidOut a → (l : ℕ) → IsOpen (trail_of a) l → (i : ℕ) → i < a.len → get_or a.literals.items i 0 / 2 ≢ l / 2
 fresh_half a s l o i il e =
     let fits : a.len ≤ length a.literals.items = omega (arith, s.len_fits, s.literals_fit) in
@@ -157,7 +157,7 @@ fresh_half a s l o i il e =
       | inr f ↦ o.not_false (contains_from_place a.literals.items a.len i (opposite_of l) fits il f)
     ]
 
--- the variables of a trail are fewer than all where one of them is open
+-- if a variable is open, the trail has fewer literals than variables
 pub room : (a : Inside) → IsLaidOut a → (l : ℕ) → l < 2 * length a.places.items → IsOpen (trail_of a) l → a.len < length a.places.items
 room a s l w o =
     let fits : a.len ≤ length a.literals.items = omega (arith, s.len_fits, s.literals_fit) in
@@ -187,7 +187,7 @@ known_here a s l v p ve r w h =
           ∙ ap (λ (x : ℕ). get_or a.literals.items x 0 / 2) q ∙ k.1,
     )
 
--- the place that a variable knows, as a trail tells it
+-- the recorded place of a variable, by the trail
 pub known_at : (a : Inside) → IsLaidOut a → (t : Trail) → trail_of a ≡ t → (l v p : ℕ) → v ≡ l / 2 → l < 2 * t.variables
     → Contains t.literals l ⊎ Contains t.literals (opposite_of l) → p ≡ get_or a.places.items v p
     → (p < length t.literals) × (get_or t.literals p 0 / 2 ≡ l / 2)
@@ -195,11 +195,11 @@ known_at a s t e l v p ve w h r =
     subst (λ (t : Trail). l < 2 * t.variables → Contains t.literals l ⊎ Contains t.literals (opposite_of l)
     → (p < length t.literals) × (get_or t.literals p 0 / 2 ≡ l / 2)) e (known_here a s l v p ve r) w h
 
--- the trail's record lists, one longer
+-- a record list that is one longer
 pub grown : {X : Type 0} (xs : List X) (n : ℕ) (x : X) → n < length xs → take (n + 1) (set xs n x) ≡ take n xs ++ x ∷ []
 grown xs n x h = take_more_set xs n x h
 
--- what the values of another variable's literals are
+-- the values of another variable's literals
 pub pair_other : (vs : List Value) (l m : ℕ) (v w : Value) (x : ℕ) → m ≡ opposite_of l → x / 2 ≢ l / 2 → get_or (set (set vs l v) m w) x Open ≡ get_or vs x Open
 pair_other vs l m v w x em h =
     let p : x ≢ m = λ e. h (ap (λ (y : ℕ). y / 2) (e ∙ em) ∙ opposite_of-half l) in
@@ -214,7 +214,7 @@ pair_first vs l m v w em h =
 pub pair_second : (vs : List Value) (l m : ℕ) (v w : Value) → m < length vs → get_or (set (set vs l v) m w) m Open ≡ w
 pair_second vs l m v w h = get_or-set_same (set vs l v) m w Open (omega (arith, length-set vs l v))
 
--- a trail that lies in memory, with one more literal
+-- a stored trail with one more literal
 abbrev pub pushed_inside : Inside → (l m h : ℕ) → Option ℕ → Inside
 pushed_inside a l m h reason = record {
   values = with_item (with_item a.values l True) m False;
@@ -314,7 +314,7 @@ pushed_view a s l m h reason w o =
     let g = take_more_set a.reasons.items a.len reason (omega (arith, s.reasons_fit)) in
     cc
 
--- a trail that lies in memory is a trail
+-- a stored trail is a trail
 pub lawful : (a : Inside) → IsLaidOut a → IsTrail (trail_of a)
 lawful a s =
     let f : a.len ≤ length a.literals.items = omega (arith, s.len_fits, s.literals_fit) in

@@ -80,18 +80,18 @@ accepted program log model budget m b (found.Spent lines) s = (
   ),
 )
 
--- what is made of a solver's answer
+-- a schedule made from a solver's answer is accepted
 pub accepted_import : (program log answer : List ℕ) (model : Option Model) (s : Schedule) → IsAnswered program log answer (IsTaken model (taken.Found s))
     → IsAcceptedAs program log (schedule_text s.model s.moves.items) (found.Found s)
 accepted_import program log answer model s a =
     schedule_accepted program log a.code a.run s (model_for model a.run.log) a.programs a.logs a.recorded a.within a.holds.1 a.holds.2
 
--- and so is what `solve --least` keeps
+-- the schedule that `solve --least` keeps is accepted
 pub accepted_first : (program log : List ℕ) (model : Option Model) (budget : ℕ) (m : Model) (b : ℕ) (x : Least)
     → IsMinimum program log model budget (minimum m b x) → IsAcceptedAs program log (found_text m (found_in x)) (found_in x)
 accepted_first program log model budget m b x s = accepted program log model budget m b (found_in x) (solution_in program log model budget m b x s)
 
--- a derivation is closed, or open, on the clauses with one switch fewer
+-- a derivation on the clauses with one switch fewer is closed or open
 module _ (m : Model) (code : Code) (log : Log) where
   closed_below : (count : ℕ) (lines : List Line) → IsShown (buffer_of m) m (bound_of m) code log count (Some lines)
       → IsClosed (head_clauses (head_below m count) code log) lines

@@ -1,4 +1,4 @@
--- The switches that were found, as a refutation names one fewer.
+-- The number of switches that a refutation names: one fewer than found.
 use Rattle.std.proofs.Common.{◌≤◌, ℕ, zero, suc, arith, Some, None, List}
 use Rattle.tc_base.specs.Buffers.{BufferOps}
 use Rattle.run_log.specs.Logs.{Log}

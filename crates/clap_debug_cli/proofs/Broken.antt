@@ -1,4 +1,4 @@
--- Which line of a refutation's bytes is told to break its form.
+-- Which line of a refutation's bytes breaks the form.
 use Rattle.std.proofs.Common.{◌≡◌, ◌≢◌, ◌∙◌, ◌<◌, ◌++◌, refl, ap, sym, subst, arith, ℕ, ◌+◌, Bool, true, false, List, Option, [], ◌∷◌, length, take, drop, take_all, Some, None}
 use Rattle.std.specs.Prelude.{is_some, if◌then◌else◌, nat_eq}
 use Rattle.std.proofs.lemmas.Bool.{ne_eqb, true≢false}
@@ -17,7 +17,7 @@ use Rattle.refute_check.proofs.Wholes.{reads-agree, text-is-read}
 use Rattle.clap_debug_cli.specs.Files.{IsBrokenAt, IsRefutation, first_broken, head_of}
 use Rattle.clap_debug_cli.specs.helpers.Incoming.{counts_switches}
 
--- the lines of bytes are those of their front, and those of the rest
+-- the lines of some bytes are those of a first part and those of the rest
 pub record Cut (s u : Reading) (front back : List ℕ) (ts : List Taken) : Type 0 where
   xs : List Taken
   t : Reading
@@ -29,7 +29,7 @@ pub record Cut (s u : Reading) (front back : List ℕ) (ts : List Taken) : Type 
 abbrev Cuts : List ℕ → List ℕ → Type 0
 Cuts front back = (s u : Reading) (ts : List Taken) → Reads s (front ++ back) ts u → Cut s u front back ts
 
--- behind a breach of the form nothing is read
+-- after a breach of the form nothing is read
 stuck : (back : List ℕ) (s : Reading) → is_some s.fault ≡ true → Reads s back [] s
 stuck [] s broken = (refl, refl)
 stuck (b ∷ bs) s broken = subst (λ f. Step f (nat_eq b 10) s b bs [] s) (sym broken) (refl, refl)
@@ -71,7 +71,7 @@ cut : (front back : List ℕ) → Cuts front back
 cut [] back s u ts r = record { xs = []; t = s; ys = ts; first = (refl, refl); later = r; all = refl }
 cut (b ∷ front) back s u ts r = cut_step (is_some s.fault) (nat_eq b 10) s u b front back ts refl refl (λ s u ts r. cut front back s u ts r) r
 
--- what is first broken by the first of some lines
+-- the first breach of some lines, by the first line
 first_of : (x : Taken) (ys : List Taken) (line : ℕ) → x ≢ More → first_broken (lines_of x ++ ys) (Some line) ≡ Some (if counts_switches x then 1 else line)
 first_of More ys line some = absurd (some refl)
 first_of (Header head) ys line some = by (is_some head.switches)
@@ -82,7 +82,7 @@ first_of (Header head) ys line some = by (is_some head.switches)
 first_of (Body l) ys line some = refl
 first_of (Form k) ys line some = refl
 
--- the lines of bytes, where this one was taken first
+-- the lines of some bytes, if this one was read first
 line_in : (bytes : List ℕ) (n : ℕ) (x : Taken) (t u : Reading) (ts : List Taken) (line : ℕ) → 0 < n → x ≢ More
     → Reads beginning (take n bytes) (if nat_eq n 0 then [] else lines_of x) t → Reads beginning bytes ts u
     → first_broken ts (Some line) ≡ Some (if counts_switches x then 1 else line)
@@ -109,14 +109,14 @@ first_in bytes n (Header h) t u ts line moves more reads all = line_in bytes n (
 first_in bytes n (Body l) t u ts line moves more reads all = line_in bytes n (Body l) t u ts line (moves (λ e. cc)) (λ e. cc) reads all
 first_in bytes n (Form k) t u ts line moves more reads all = line_in bytes n (Form k) t u ts line (moves (λ e. cc)) (λ e. cc) reads all
 
--- so the first line that breaks the form of a refutation that speaks of all schedules
+-- the first line that breaks the form of a refutation of all schedules
 pub is_broken_at : (bytes : List ℕ) (n : ℕ) (x : Taken) (t : Reading) (line first : ℕ) → BreaksAt bytes line → (x ≢ More → 0 < n)
     → (x ≡ More → n ≡ length bytes) → Reads beginning (take n bytes) (if nat_eq n 0 then [] else lines_of x) t
     → (if counts_switches x then 1 else line) ≡ first → IsBrokenAt bytes first
 is_broken_at bytes n x t line first breaks moves more reads is =
     (breaks.0, Some line, breaks.1, first_in bytes n x t breaks.1.0 breaks.0 line moves more reads breaks.1.1 ∙ ap Some is)
 
--- a first line that names a number of switches breaks it
+-- a header that names a number of switches breaks that form
 pub head_breaks : (bytes : List ℕ) (h : Head) (ls : List Line) → IsWhole h ls → refutation_text h ls ≡ bytes → is_some h.switches ≡ true → IsBrokenAt bytes 1
 head_breaks bytes h ls whole text counts =
     let end : Reading = record { unfinished = []; line = length ls + 2; fault = None } in (
@@ -126,7 +126,7 @@ head_breaks bytes h ls whole text counts =
       ap (λ b. if b then Some 1 else first_breach end) counts,
     )
 
--- and one that names none belongs to such a refutation
+-- a header that names none fits that form
 pub is_refutation : (bytes : List ℕ) (h : Head) (ls : List Line) → IsWhole h ls → refutation_text h ls ≡ bytes → is_some h.switches ≡ false
     → IsRefutation bytes (head_of h.model) ls
 is_refutation bytes h ls whole text none =

@@ -1,4 +1,4 @@
--- From an answer with its cause, as it was put, to the answers of every call.
+-- From an answer with its cause to the answers of every call.
 use Rattle.std.proofs.Common.{◌≡◌, ◌≢◌, ◌≤◌, ℕ, List, [], ◌∷◌, Option, Some, None, IfSome, ◌⊎◌, inl, inr, refl, sym, ◌∙◌, ap, subst, arith}
 use Rattle.std.specs.Option.{IsSomeAnd}
 use Rattle.tc_io.specs.Outside.{Files, Reading, Writing, ShelfTells, SinkTells, KeptPart, put_under}
@@ -53,7 +53,7 @@ use Rattle.clap_debug_cli.proofs.OneAnswer.{one_status}
 use Rattle.clap_debug_cli.proofs.Solutions.{solution_of}
 use Rattle.clap_debug_cli.proofs.Statuses.{is_usage, is_limit, is_read_fault, is_write_fault, is_no_memory, no_ending}
 
--- what the words ask for is known
+-- the call that the words ask for is known
 called_of : (P : Called → Type 0) (o : Option Called) (call : Called) → o ≡ Some call → P call → IsSomeAnd o P
 called_of P o call taken p = subst (λ o. IsSomeAnd o P) (sym taken) p
 
@@ -85,13 +85,13 @@ cause_of words old new call Usage taken h = absurd (no_work call h.0 h.3.1)
 cause_of words old new call NoMemory taken h = inr (called_of (λ c. IsCauseOf c old new NoMemory) (call_of words) call taken h)
 cause_of words old new call _ taken h = called_of _ (call_of words) call taken h
 
--- what is said without memory for the line
+-- the effect of no memory for the line
 pub no_more : (a : Answer) (status : ℕ) (j k : SinkTells) → SaysNoMore a status j k
     → ((name : List ℕ) × (a ≡ WriteFault name) × (status ≡ 8) × (k ≡ j)) ⊎ ((status ≡ 9) × PutsAtMostNoMemory j k) ⊎ ((status ≡ 8) × FailsToPut j k NoMemory)
 no_more (WriteFault name) status j k h = inl (name, refl, h.0, h.1)
 no_more _ status j k h = inr h
 
--- its status
+-- the status without memory for the line
 no_more_status : (a : Answer) (status : ℕ) (j k : SinkTells) → SaysNoMore a status j k → (status ≡ 8) ⊎ (status ≡ 9)
 no_more_status a status j k h =
     elim (no_more a status j k h) [
@@ -102,13 +102,13 @@ no_more_status a status j k h =
       ]
     ]
 
--- an answer was put with its status, or the status is that of a fault or of want of memory
+-- an answer was put with its status, or the status is that of a fault or of lack of memory
 said_status : (a : Answer) (status : ℕ) (j k : SinkTells) → Says a status j k → ((status ≡ status_of a) × Puts j k a) ⊎ (status ≡ 8) ⊎ (status ≡ 9)
 said_status a status j k (inl done) = inl done
 said_status a status j k (inr (inl failed)) = inr (inl failed.0)
 said_status a status j k (inr (inr none)) = inr (no_more_status a status j k none)
 
--- where the put didn't fail and memory was there, the answer was put
+-- if the put didn't fail and there was memory, the answer was put
 put_at : (a : Answer) (status : ℕ) (j k : SinkTells) → Says a status j k → (status ≡ 8 → ⊥) → (status ≡ 9 → ⊥) → (status ≡ status_of a) × Puts j k a
 put_at a status j k says eight nine = from (said_status a status j k says)
   where
@@ -120,20 +120,20 @@ put_at a status j k says eight nine = from (said_status a status j k says)
 -- the shelf after the causes of answers
 
 module _ (call : Called) (single : IsSingle call) (name : List ℕ) (own : (n : List ℕ) → IsOutput call n → n ≡ name) (old new : ShelfTells) where
-  -- a result that was kept stands there
+  -- the shelf holds a result that was kept
   holds_result : (t : Texts) (s : ShelfTells) → GaveAll (inputs_of call) old s t → KeepsResult call t s new → Holds call name old new
   holds_result t s gave k =
       let held : new.held ≡ put_under name k.1 old.held =
       ap (λ x. x.held) k.4 ∙ ap (put_under k.0 k.1) (given_still (inputs_of call) old s t gave).0 ∙ ap (λ n. put_under n k.1 old.held) (own k.0 k.2) in
       (t, s, gave, k.1, k.3, held)
 
-  -- and after a keep that failed maybe a part of it
+  -- after a failed keep the shelf may hold a part of it
   loses_result : (lost : List ℕ) → IsCauseOf call old new (WriteFault lost) → Loses call name old new
   loses_result lost c =
       let k = single_fails call single c.0 c.1 new lost c.4 in
       (c.0, c.1, c.2, k.1, k.2, subst (λ n. KeptPart c.1 new n k.1) (own lost k.0) k.3)
 
--- where the shelf counted a fault, and its last is of a keep, the answer is that of a keep that failed
+-- if the shelf counted a fault and the last was of a keep, the answer is that of a failed keep
 wrote_of : (call : Called) (old new : ShelfTells) (b : Answer) → IsCauseOf call old new b → new.faults ≢ old.faults → (name : List ℕ)
     → new.last_fault ≡ Some (Writing name) → b ≡ WriteFault name
 wrote_of call old new (ReadFault n) c rose name last = absurd (no_read (failed_still (inputs_of call) old new n c).1)
@@ -157,17 +157,17 @@ wrote_of call old new (Imported s) c rose name last = absurd (rose (ap (λ x. x.
 wrote_of call old new Migrated c rose name last = absurd (rose (ap (λ x. x.faults) c.4.4 ∙ (given_still (inputs_of call) old c.1 c.0 c.2).1))
 wrote_of call old new _ c rose name last = absurd (rose (ap (λ x. x.faults) c.4 ∙ (given_still (inputs_of call) old c.1 c.0 c.2).1))
 
--- what follows for each call
+-- a conclusion for each call holds for the given one
 for_call : (o : Option Called) (P : Called → Type 0) (Q : Type 0) → ((call : Called) → P call → Q) → IsSomeAnd o P → Q
 for_call None P Q h c = absurd c
 for_call (Some call) P Q h c = h call c
 
--- where the words ask for a call
+-- if the words ask for a call, this holds for it
 if_called : (o : Option Called) (P : Called → Type 0) → ((call : Called) → o ≡ Some call → P call) → IfSome o P
 if_called None P h = tt
 if_called (Some call) P h = h call refl
 
--- answers with which a result is kept
+-- answers with which a result was kept
 abbrev Keeps : Answer → Type 0
 Keeps (Recorded _) = Unit {0}
 Keeps Migrated = Unit {0}
@@ -176,7 +176,7 @@ Keeps (Exported _) = Unit {0}
 Keeps (Imported _) = Unit {0}
 Keeps _ = ⊥
 
--- which command gives them, and with which statuses
+-- the commands that give these answers, and their statuses
 keeps_status : (call : Called) (t : Texts) (b : Answer) → Keeps b → IsWorkOf call t b → IsOfResult call (status_of b)
 keeps_status (Records _ _ _ _ _) (program ∷ []) (Recorded o) k w = refl
 keeps_status (Migrates _ _ _) (program ∷ log ∷ []) Migrated k w = refl
@@ -245,7 +245,7 @@ keeps_status _ _ (Exported f) k w = absurd w
 keeps_status _ _ (Imported s) k w = absurd w
 keeps_status _ _ _ k w = absurd k
 
--- what was found is a result of the command that searches
+-- the result of a search is one of the command that searches
 found_result : (call : Called) (t : Texts) (x : Solution) → IsWorkOf call t (Solved x) → IsResult call t (solution_text x)
 found_result (Solves _ _ _ model budget) (program ∷ log ∷ []) x w = (x, solution_of program log model budget x w, refl)
 found_result (Lists _) (program ∷ []) x w = absurd w
@@ -260,7 +260,7 @@ found_result (Imports _ _ _ _ _) (program ∷ log ∷ answer ∷ []) x w = absur
 found_result (Explains _ _ _) (program ∷ log ∷ refutation ∷ []) x w = absurd w.2.2.3.1.1
 found_result _ _ x w = absurd w
 
--- so are the clauses of the command that writes them
+-- clauses are a result of the command that writes them
 exported_result : (call : Called) (t : Texts) (f : Formula) → IsWorkOf call t (Exported f) → IsResult call t (cnf_text f)
 exported_result (Exports _ _ _ model) (program ∷ log ∷ []) f w = (f, w, refl)
 exported_result (Lists _) (program ∷ []) f w = absurd w
@@ -275,7 +275,7 @@ exported_result (Imports _ _ _ _ _) (program ∷ log ∷ answer ∷ []) f w = ab
 exported_result (Explains _ _ _) (program ∷ log ∷ refutation ∷ []) f w = absurd w.2.2.3.1.1
 exported_result _ _ f w = absurd w
 
--- and the schedule of an answer that is taken
+-- the schedule of an accepted answer is a result of `import`
 imported_result : (call : Called) (t : Texts) (s : Schedule) → IsWorkOf call t (Imported s) → IsResult call t (schedule_text s.model s.moves.items)
 imported_result (Imports _ _ _ _ model) (program ∷ log ∷ answer ∷ []) s w = (s, w, refl)
 imported_result (Lists _) (program ∷ []) s w = absurd w
@@ -306,7 +306,8 @@ not_result call n m e zero one ten h =
       ]
     ]
 
--- an answer of a command that keeps results, with a status of these, is one with which it keeps one
+-- an answer of a command that keeps results, with the status of a result, is one with which it
+-- keeps one
 work_keeps : (call : Called) (name : List ℕ) → IsOutput call name → (t : Texts) (b : Answer) → IsWorkOf call t b → IsOfResult call (status_of b) → Keeps b
 work_keeps (Records _ _ _ _ _) name o (program ∷ []) (Recorded r) w h = tt
 work_keeps (Records _ _ _ _ _) name o (program ∷ []) (RunEnded e) w h =
@@ -428,13 +429,13 @@ module _ (words : List (List ℕ)) (old new : ShelfTells) (a : Answer) (status :
       let e = is_read_fault a (sym p.0 ∙ h) in
       (e.0, subst (IsCause words old new) e.1 cause, subst (Puts j k) e.1 p.1)
 
-  -- of words that aren't taken, only the usage and want of memory are answers
+  -- for words that aren't accepted the only answers are the usage and lack of memory
   only_usage_of : (b : Answer) → IsCause words old new b → call_of words ≡ None → (status_of b ≡ 2) ⊎ (status_of b ≡ 9)
   only_usage_of Usage c none = inl refl
   only_usage_of NoMemory c none = inr refl
   only_usage_of _ c none = absurd (uncalled _ (call_of words) none c)
 
-  -- and the shelf is as before
+  -- words that aren't accepted leave the shelf as it was
   unused : (b : Answer) → IsCause words old new b → call_of words ≡ None → new ≡ old
   unused Usage c none = c.1
   unused NoMemory (inl same) none = same
@@ -451,14 +452,14 @@ module _ (words : List (List ℕ)) (old new : ShelfTells) (a : Answer) (status :
         | inr fault ↦ inr fault
       ]
 
-  -- of what is left on the shelf
+  -- the shelf after a call
 
   -- a result was kept, a keep failed, or nothing was kept
   abbrev IsKept : Answer → Type 0
   IsKept b = Keeps b ⊎ ((name : List ℕ) × (b ≡ WriteFault name)) ⊎ (new.held ≡ old.held)
 
   module _ (call : Called) (single : IsSingle call) (taken : call_of words ≡ Some call) where
-    -- the cause of an answer that only a call has
+    -- the cause of an answer that only a call can have
     called_cause : (b : Answer) → IsSomeAnd (call_of words) (λ c. IsCauseOf c old new b) → IsCauseOf call old new b
     called_cause b c = called_now (λ c. IsCauseOf c old new b) (call_of words) call taken c
 
@@ -486,7 +487,7 @@ module _ (words : List (List ℕ)) (old new : ShelfTells) (a : Answer) (status :
     is_kept : IsKept a
     is_kept = what_is_kept a cause
 
-    -- what was kept is a result
+    -- the kept text is a result
     kept_result : (b : Answer) → Keeps b → IsCause words old new b
         → (t : Texts) × (s : ShelfTells) × GaveAll (inputs_of call) old s t × KeepsResult call t s new
     kept_result (Recorded o) k c = let d = called_cause (Recorded o) c in (d.0, d.1, d.2, d.4)
@@ -513,7 +514,7 @@ module _ (words : List (List ℕ)) (old new : ShelfTells) (a : Answer) (status :
     lost_cause : (lost : List ℕ) → a ≡ WriteFault lost → IsCauseOf call old new (WriteFault lost)
     lost_cause lost e = called_cause (WriteFault lost) (subst (IsCause words old new) e cause)
 
-    -- `list`, `replay`, `check`, `workload` and `why` keep none
+    -- `list`, `replay`, `check`, `workload` and `why` keep no result
     no_result : ((name : List ℕ) → IsOutput call name → ⊥) → new.held ≡ old.held
     no_result never =
         elim is_kept [
@@ -531,7 +532,7 @@ module _ (words : List (List ℕ)) (old new : ShelfTells) (a : Answer) (status :
       loses : (lost : List ℕ) → a ≡ WriteFault lost → Loses call name old new
       loses lost e = loses_result call single name own old new lost (lost_cause lost e)
 
-      -- with a status that isn't that of a result, of a keep that failed or of a fault
+      -- with a status that isn't that of a result, a failed keep or a fault, nothing was kept
       nothing : (IsOfResult call status → ⊥) → status ≢ 8 → status ≢ 9 → new.held ≡ old.held
       nothing not_one eight nine =
           let p = put_at a status j k says eight nine in
@@ -543,7 +544,7 @@ module _ (words : List (List ℕ)) (old new : ShelfTells) (a : Answer) (status :
             ]
           ]
 
-      -- a status of a result is that of one that was kept
+      -- with the status of a result, a result was kept
       result_keeps : (b : Answer) → IsCause words old new b → IsOfResult call (status_of b) → Keeps b
       result_keeps Usage c h = absurd (not_result call 2 2 refl (λ x. omega (arith, x)) (λ x. omega (arith, x)) (λ x. omega (arith, x)) h)
       result_keeps (ReadFault _) c h = absurd (not_result call 7 7 refl (λ x. omega (arith, x)) (λ x. omega (arith, x)) (λ x. omega (arith, x)) h)
@@ -587,14 +588,14 @@ module _ (words : List (List ℕ)) (old new : ShelfTells) (a : Answer) (status :
       leaves_result : LeavesResult call name status old new
       leaves_result = record { kept = kept_at; none = nothing; whole = whole_of; part = λ h. part_of }
 
-  -- the cause of an answer to words is that to the call that they ask for
+  -- the cause of an answer to words is its cause for the call that they ask for
   asked_cause : (call : Called) → call_of words ≡ Some call → (b : Answer) → IsCause words old new b → IsCauseOf call old new b
   asked_cause call taken Usage c = absurd (let e : None ≡ Some call = sym c.0 ∙ taken in cc)
   asked_cause call taken NoMemory (inl same) = inl (ap (λ x. x.held) same, ap (λ x. x.faults) same)
   asked_cause call taken NoMemory (inr c) = called_now (λ d. IsCauseOf d old new NoMemory) (call_of words) call taken c
   asked_cause call taken b c = called_now (λ d. IsCauseOf d old new b) (call_of words) call taken c
 
-  -- what `solve --least` leaves
+  -- the shelf after `solve --least`
   module _ (p l o : List ℕ) (model : Option Model) (budget : ℕ) (r : List ℕ) where
     abbrev Least : Called
     Least = Minimizes p l o model budget r
@@ -639,7 +640,7 @@ module _ (words : List (List ℕ)) (old new : ShelfTells) (a : Answer) (status :
     no_result_at : (n m : ℕ) → n ≡ m → (m ≡ 0 → ⊥) → (m ≡ 1 → ⊥) → (m ≡ 10 → ⊥) → IsOfResult Least n → ⊥
     no_result_at n m e zero one ten h = not_result Least n m e zero one ten h
 
-    -- with a status of a result something was found
+    -- with the status of a result, something was found
     work_minimized : (t : Texts) (b : Answer) → IsWorkOf Least t b → IsOfResult Least (status_of b) → (x : Minimum) × (b ≡ Minimized x)
     work_minimized (program ∷ log ∷ []) (Minimized x) w h = (x, refl)
     work_minimized (program ∷ log ∷ []) (ProgramRefused f) w h =
@@ -658,7 +659,7 @@ module _ (words : List (List ℕ)) (old new : ShelfTells) (a : Answer) (status :
     found_by NoMemory c h = absurd (no_result_at 9 9 refl (λ x. omega (arith, x)) (λ x. omega (arith, x)) (λ x. omega (arith, x)) h)
     found_by b c h = work_minimized c.0 b c.3.1 h
 
-    -- and what was found has such a status
+    -- what was found has the status of a result
     result_of : (x : LeastFound) → IsOfResult Least (least_status x)
     result_of (least.Found _ _ _) = inl refl
     result_of (least.Impossible _) = inr (inl refl)
@@ -752,7 +753,7 @@ module _ (words : List (List ℕ)) (old new : ShelfTells) (a : Answer) (status :
     leaves = if_called (call_of words) (λ call. Leaves call status old new) leaves_of;
   }
 
--- where the shelf tells what it holds, the cause of an answer is in that, but for faults of the shelf and want of memory
+-- if the shelf tells its files, an answer's cause is in them, except for faults and lack of memory
 pub IsKnown : Called → Texts → Answer → Type 0
 IsKnown call t a = IsAnswerTo call t a ⊎ (status_of a ≡ 7) ⊎ (status_of a ≡ 8) ⊎ (status_of a ≡ 9)
 
@@ -772,7 +773,7 @@ known_of words old new Usage call files taken told c = cc (taken, c.0)
 known_of words old new NoMemory call files taken told c = inr (inr (inr refl))
 known_of words old new a call files taken told c = known_cause call old new a files told (called_now _ (call_of words) call taken c)
 
--- an answer that isn't a limit's is the command's own
+-- an answer other than a limit's is the command's own
 pub work_of : (call : Called) (t : Texts) (a : Answer) → IsAnswerTo call t a → (status_of a ≡ 6 → ⊥) → IsWorkOf call t a
 work_of call t (TooLong i) f six = absurd (six refl)
 work_of call t a f six = f.1
@@ -785,13 +786,14 @@ module _ (call : Called) (t : Texts) (a : Answer) (status : ℕ) (j k : SinkTell
   answers_at (inr (inr (inl h))) seven eight nine = absurd (eight h)
   answers_at (inr (inr (inr h))) seven eight nine = absurd (nine h)
 
-  -- where the status isn't a device's fault or want of memory, the answer is that to the texts, and was put
+  -- unless the status is that of a device's fault or of lack of memory, the answer is one to the
+  -- texts, and was put
   pub plain_at : (status ≡ 7 → ⊥) → (status ≡ 8 → ⊥) → (status ≡ 9 → ⊥) → (status ≡ status_of a) × Puts j k a × IsAnswerTo call t a
   plain_at seven eight nine =
       let p = put_at a status j k says eight nine in
       (p.0, p.1, answers_at known (λ e. seven (p.0 ∙ e)) (λ e. eight (p.0 ∙ e)) (λ e. nine (p.0 ∙ e)))
 
-  -- below the limit's status it is the command's own
+  -- with a status below the limit's, the answer is the command's own
   pub work_at : status ≤ 5 → (status_of a ≡ status) × Puts j k a × IsWorkOf call t a
   work_at h =
       let p = plain_at (λ e. omega (arith, h, e)) (λ e. omega (arith, h, e)) (λ e. omega (arith, h, e)) in
@@ -819,7 +821,7 @@ module _ (call : Called) (t : Texts) (a : Answer) (status : ℕ) (j k : SinkTell
   known_status wanted own (inl done) (inr (inr (inr nine))) = inr (inr (inr (done.0 ∙ nine)))
   known_status wanted own (inr fault) c = inr (inr fault)
 
-  -- the status that is wanted, where the answer is another's or a fault's
+  -- the wanted status, or that of another answer or of a fault
   pub status_at : (wanted : ℕ) → (IsAnswerTo call t a → status_of a ≡ wanted) → IsStatus status wanted
   status_at wanted own = known_status wanted own (said_status a status j k says) known
 
@@ -836,7 +838,7 @@ module _ (call : Called) (t : Texts) (a : Answer) (status : ℕ) (j k : SinkTell
   known_alone P own seven eight nine (inr (inl h)) c = subst P (sym h) eight
   known_alone P own seven eight nine (inr (inr h)) c = subst P (sym h) nine
 
-  -- the status is one of those of the command's answers, or a fault's
+  -- the status is one of the command's answers, or that of a fault
   pub alone_of : (P : ℕ → Type 0) → (IsAnswerTo call t a → P (status_of a)) → P 7 → P 8 → P 9 → P status
   alone_of P own seven eight nine = known_alone P own seven eight nine (said_status a status j k says) known
 

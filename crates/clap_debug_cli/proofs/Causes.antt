@@ -1,4 +1,4 @@
--- From what a command answers to what it was given to the cause of that answer.
+-- From a command's answer to its inputs to the cause of that answer.
 use Rattle.std.proofs.Common.{◌≡◌, ◌∙◌, refl, ap, sym, subst, inl, inr, ℕ, List, Option, Some, None, Result, Ok, Err}
 use Rattle.std.specs.Result.{IsErrAnd, MatchResult}
 use Rattle.std.specs.Option.{IsSomeAnd}
@@ -57,12 +57,12 @@ use Rattle.clap_debug_cli.specs.declared.answer.Minimum.{Minimum}
 use Rattle.clap_debug_cli.specs.declared.answer.LogRefusal.TheVariants.{Form, OtherProgram, Unfit}
 use Rattle.clap_debug_cli.proofs.Fetches.{given_still}
 
--- a text without a code is refused so
+-- `list` refuses a text without code this way
 pub uncoded_list : (program : List ℕ) (f : CompileFault) → IsWhyNoCode program f → Refuses (IsListAnswer program) (compile_answer f)
 uncoded_list program (compile.Refused r) h = h
 uncoded_list program compile.Memory h = h
 
--- a program and a log that aren't of their forms are refused so by both commands that read them
+-- `replay` refuses a program or a log without its form this way
 pub unread_replay : (program log schedule : List ℕ) (a : Answer) → IsWhyUnread program log a → Refuses (IsReplayAnswer program log schedule) a
 unread_replay program log schedule (ProgramRefused r) h = h
 unread_replay program log schedule (LogRefused (Form offset)) h = h
@@ -76,7 +76,7 @@ module _ (program log : List ℕ) (P : Code → StoredLog → Answer → Type 0)
   unread_texts NoMemory h = h
   unread_texts _ h = absurd h
 
-  -- and so is what is refused of the log of a code
+  -- a refusal of a log of the code
   pub refused_texts : (code : Code) (run : StoredLog) → IsCodeOf program code → IsLog log run → ((offset : ℕ) → P code run (LogRefused (Form offset)) → ⊥)
       → ((r : TextFault) → P code run (ProgramRefused r) → ⊥) → (a : Answer) → Refuses (P code run) a → Refuses (IsTextsAnswer program log P) a
   refused_texts code run f g no_form no_program (LogRefused (Form offset)) h = absurd (no_form offset h)
@@ -96,7 +96,7 @@ module _ (program log : List ℕ) (P : Code → StoredLog → Answer → Type 0)
   refused_texts code run f g no_form no_program (ClauseFalse number) h = (code, f, (run, g, h))
   refused_texts code run f g no_form no_program _ h = absurd h
 
--- and a log of another program, or one that has no system
+-- a log of another program, or one without a system
 pub other_stored : (program : List ℕ) (run : StoredLog) (P : Answer → Type 0) (a : Answer) → IsWhyOther program run a → Refuses (IsStoredAnswer program run P) a
 other_stored program run P (LogRefused OtherProgram) h = h
 other_stored program run P _ h = absurd h
@@ -122,7 +122,7 @@ module _ (program log : List ℕ) (P : Code → Log → Answer → Type 0) (code
   unbuilt_search : (IsOfOther program run → ⊥) → (a : Answer) → IsWhyUnbuilt code run.log a → Refuses (IsTextsAnswer program log Searches) a
   unbuilt_search same a h = refused_search a (unbuilt_stored program code run (P code run.log) same a h)
 
--- of `solve`, and of `solve --least`
+-- the same for `solve` and `solve --least`
 module _ (program log : List ℕ) (model : Option Model) (budget : ℕ) (code : Code) (run : StoredLog) (f : IsCodeOf program code) (g : IsLog log run) where
   pub other_solve : (a : Answer) → IsWhyOther program run a → Refuses (IsSolveAnswer program log model budget) a
   other_solve = other_search program log (λ c l. IsSearchAnswer c l model budget) code run f g (λ offset x. x) (λ r x. x)
@@ -136,14 +136,14 @@ module _ (program log : List ℕ) (model : Option Model) (budget : ℕ) (code : 
   pub unbuilt_minimize : (IsOfOther program run → ⊥) → (a : Answer) → IsWhyUnbuilt code run.log a → Refuses (IsMinimizeAnswer program log model budget) a
   unbuilt_minimize = unbuilt_search program log (λ c l. IsMinimizedAnswer c l model budget) code run f g (λ offset x. x) (λ r x. x)
 
--- a fault of the building of a system, as it is answered
+-- the answer to a fault of building a system
 pub unbuilt_answer : (code : Code) (log : Log) (f : BuildFault) → IsBuildFault code log f → IsWhyUnbuilt code log (build_answer f)
 unbuilt_answer code log (build.Limit which n most) h = (h.0, refl, h.2)
 unbuilt_answer code log (build.Walk (walk.Unfit n m)) h = h
 unbuilt_answer code log (build.Walk walk.Memory) h = absurd h
 unbuilt_answer code log build.Memory h = tt
 
--- and so is a log of another program, where all is of its form
+-- a log of another program, if everything has its form
 pub other_replay : (program log schedule : List ℕ) (code : Code) (run : StoredLog) (plan : Schedule) → IsCodeOf program code → IsLog log run
     → IsSchedule schedule plan → (a : Answer) → IsWhyOther program run a → Refuses (IsReplayAnswer program log schedule) a
 other_replay program log schedule code run plan f g h (LogRefused OtherProgram) other = (code, f, run, g, plan, h, other)
@@ -177,7 +177,7 @@ module _ (call : Called) (t : Texts) (old s : ShelfTells) (gave : GaveAll (input
       (t, s, gave, within, inl (subst (λ n. FailsToKeep call t s new n) (sym h.0) (output, text, is, h.1)))
   unkept_cause new name text output is _ h = absurd h
 
--- nor were the texts of `solve --least`
+-- the texts of `solve --least` weren't kept
 module _ (p l out : List ℕ) (model : Option Model) (budget : ℕ) (refutation : List ℕ) (t : Texts) (old s : ShelfTells)
     (gave : GaveAll (inputs_of (Minimizes p l out model budget refutation)) old s t) (within : AreWithin (inputs_of (Minimizes p l out model budget refutation)) t)
     (x : Minimum) (found : IsWorkOf (Minimizes p l out model budget refutation) t (Minimized x)) where
@@ -202,7 +202,7 @@ module _ (p l out : List ℕ) (model : Option Model) (budget : ℕ) (refutation 
         → IsCauseOf (Minimizes p l out model budget refutation) old new a
     unkept_second new a h = second_by new (second_text x) refl a h
 
--- an error that stays what it is
+-- an error that stays the same
 pub err_of : {A : Type 0} (r : Result A Answer) (Q : A → Type 0) (P : Answer → Type 0) (a : Answer) → IsErrAnd r (λ b. b ≡ a) → P a → MatchResult r Q P
 err_of (Ok x) Q P a is h = absurd is
 err_of (Err b) Q P a is h = subst P (sym is) h

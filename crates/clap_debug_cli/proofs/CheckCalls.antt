@@ -24,7 +24,7 @@ module _ (p l r program log refutation : List ℕ) (a : Answer) (status : ℕ) (
   abbrev Asked : Called
   Asked = Checks p l r
 
-  -- where the status isn't a fault's or a limit's, the answer is the command's own
+  -- unless the status is that of a fault or a limit, the answer is the command's own
   own_answer : status ≢ 6 → status ≢ 7 → status ≢ 8 → status ≢ 9 → (status_of a ≡ status) × Puts j k a × IsCheckAnswer program log refutation a
   own_answer six seven eight nine =
       let w = plain_at Asked (program ∷ log ∷ refutation ∷ []) a status j k says known seven eight nine in

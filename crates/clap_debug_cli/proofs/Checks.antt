@@ -1,4 +1,4 @@
--- From a refutation that was read, or couldn't be, to the cause of an answer.
+-- From a refutation that was read, or couldn't be read, to the cause of an answer.
 use Rattle.std.proofs.Common.{◌≡◌, ◌∙◌, refl, ap, sym, ℕ, List, [], ◌∷◌, ◌++◌, take, drop, take-add, take_all, append_assoc, length, ◌≤◌, ◌+◌}
 use Rattle.std.specs.Prelude.{is_some, IsSome}
 use Rattle.tc_code.specs.Code.{Code}
@@ -24,18 +24,18 @@ use Rattle.clap_debug_cli.specs.declared.input.Input.TheVariants.{Program, Log}
 use Rattle.clap_debug_cli.proofs.Causes.{refused_texts, unbuilt_answer, unread_texts, work_cause}
 use Rattle.clap_debug_cli.proofs.Fetches.{missing_cause, missing_first, missing_later}
 
--- a reading that goes on leaves what is held
+-- a reading that goes on keeps the files
 pub held_so_far : (old new : ShelfTells) (name bytes : List ℕ) → GaveSoFar old new name bytes → HeldStill old new
 held_so_far old new name bytes so_far = (ap (λ (t : ShelfTells). t.held) so_far.0, ap (λ (t : ShelfTells). t.faults) so_far.0)
 
 pub still_open : (old new : ShelfTells) (name bytes : List ℕ) → GaveSoFar old new name bytes → IsSome new.open_name
 still_open old new name bytes so_far = ap (λ (t : ShelfTells). is_some t.open_name) so_far.0
 
--- a piece fails in one way
+-- a piece fails in only one way
 pub only_fault : (f : PieceFault) → f ≡ Failed
 only_fault Failed = refl
 
--- bytes that were taken, and some of those behind them
+-- the bytes taken, and some of those after them
 pub taken_on : (front bytes : List ℕ) (m n : ℕ) → (front ++ take m bytes) ++ take n (drop m bytes) ≡ front ++ take (m + n) bytes
 taken_on front bytes m n = append_assoc front (take m bytes) (take n (drop m bytes)) ∙ ap (λ bs. front ++ bs) (sym (take-add m n bytes))
 
@@ -59,7 +59,7 @@ module _ (program log name : List ℕ) (old new : ShelfTells) where
   missing_unaccepted NoMemory h = h
   missing_unaccepted _ h = absurd h
 
-  -- where it was read to its end
+  -- the refutation was read to its end
   module _ (bytes : List ℕ) (gave : GaveReading old new name bytes) where
     pub given_unaccepted : (a : Answer) → Refuses (IsCheckAnswer program log bytes) a → IsWhyUnaccepted program log name old new a
     given_unaccepted (ReadFault n) h = absurd h

@@ -1,4 +1,4 @@
--- From an answer with its cause, as it was put, to the answers of a command by status.
+-- From an answer with its cause to the answers of a command by status.
 use Rattle.std.proofs.Common.{◌≡◌, ◌≢◌, ◌≤◌, length, ℕ, List, [], ◌∷◌, Option, Some, None, IfSome, ◌⊎◌, inl, inr, refl, sym, ◌∙◌, ap, subst, arith}
 use Rattle.tc_code.specs.Code.{Code}
 use Rattle.memory_models.specs.declared.model.Model.{Model}
@@ -148,7 +148,7 @@ module _ (p l program : List ℕ) (model : Model) (seed steps : ℕ) (a : Answer
   abbrev Asked : Called
   Asked = Records p l model seed steps
 
-  -- where the status isn't a fault's or a limit's, the answer is the command's own
+  -- unless the status is that of a fault or a limit, the answer is the command's own
   own_answer : status ≢ 6 → status ≢ 7 → status ≢ 8 → status ≢ 9 → (status_of a ≡ status) × Puts j k a × IsRecordAnswer program model seed steps a
   own_answer six seven eight nine =
       let w = plain_at Asked (program ∷ []) a status j k says known seven eight nine in
@@ -313,7 +313,7 @@ module _ (p l o program log : List ℕ) (a : Answer) (status : ℕ) (j k : SinkT
     alone = migrate_alone;
   }
 
--- a text that was kept stands under the command's name for its result
+-- the shelf holds a text that was kept under the command's name for its result
 kept_text : (call : Called) (o : List ℕ) → ((n : List ℕ) → IsOutput call n → n ≡ o) → (old s new : ShelfTells) (t : Texts) (files : Files)
     → GaveAll (inputs_of call) old s t → old.held ≡ Some files → (text : List ℕ) → KeepsText call text s new → new.held ≡ put_under o text (Some files)
 kept_text call o own old s new t files gave told text k =

@@ -1,4 +1,4 @@
--- From what `cnf` and `import` come to to the cause of that answer, and to what it means.
+-- From the results of `cnf` and `import` to the cause of the answer and its meaning.
 use Rattle.std.proofs.Common.{◌≡◌, sym, subst, ℕ, ℤ, List, Option}
 use Rattle.store_buffers.specs.Buffers.{buffer_of}
 use Rattle.memory_models.specs.declared.model.Model.{Model}
@@ -45,7 +45,7 @@ module _ (program log : List ℕ) (model : Option Model) (code : Code) (run : St
       → IsCnfAnswer program log model (Exported x)
   cnf_made same within x is = (code, f, (run, g, (same, (within, is))))
 
-  -- the clauses of a log are its runs
+  -- the clauses of a log represent its runs
   pub runs : IsWithin code run.log → (x : Formula) → x ≡ clauses_for model code run.log → AreRuns model code run.log x
   runs within x is =
       let m = model_for model run.log in
@@ -62,7 +62,7 @@ module _ (program log : List ℕ) (model : Option Model) (code : Code) (run : St
     refused_import : (a : Answer) → Refuses (Takes code run) a → Refuses (IsImportAnswer program log bytes model) a
     refused_import a h = refused_texts program log Takes code run f g (λ offset x. x.2.1.1) (λ r x. x.2.1.1) a h
 
-    -- a text that is no answer
+    -- a text that isn't an answer
     pub unread_import : (x : AnswerFault) → IsFault bytes x → Refuses (IsImportAnswer program log bytes model) (literals_answer x)
     unread_import (fault.Form line) h = refused_import (AnswerRefused line) h
     unread_import fault.Memory h = tt
@@ -85,7 +85,7 @@ module _ (program log : List ℕ) (model : Option Model) (code : Code) (run : St
         pub import_made : (s : Schedule) → IsTaken model (taken.Found s) code run.log literals → IsImportAnswer program log bytes model (answer.Imported s)
         import_made s h = (code, f, (run, g, (literals, reads, (same, (within, h)))))
 
--- what is answered means this
+-- the meaning of the answer
 pub exported_of : (program log : List ℕ) (model : Option Model) (x : Formula) → IsCnfAnswer program log model (Exported x) → IsExported program log model x
 exported_of program log model x w = record {
   code = w.0;

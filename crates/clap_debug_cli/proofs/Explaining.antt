@@ -1,4 +1,4 @@
--- From what is read of a refutation, and what its derivation shows, to the cause of the answer of `why`.
+-- From the refutation read, and what its derivation shows, to the cause of `why`'s answer.
 use Rattle.std.proofs.Common.{◌≡◌, ◌∙◌, refl, ap, sym, subst, ℕ, List, Option, Some, None}
 use Rattle.store_buffers.specs.Buffers.{buffer_of}
 use Rattle.memory_models.specs.declared.model.Model.{Model}
@@ -35,7 +35,7 @@ use Rattle.clap_debug_cli.specs.declared.answer.LogRefusal.TheVariants.{Form as 
 use Rattle.clap_debug_cli.proofs.Causes.{unbuilt_answer}
 use Rattle.clap_debug_cli.proofs.OneTexts.{one_unexplained_answer}
 
--- what refuses program and log for `check` refuses them for `why`
+-- a refusal of program and log for `check` is one for `why`
 pub unread_why : (program log refutation : List ℕ) (a : Answer) → IsWhyUnread program log a → Refuses (IsWhyAnswer program log refutation) a
 unread_why program log refutation (ProgramRefused r) h = h
 unread_why program log refutation (LogRefused (BadForm offset)) h = h
@@ -94,13 +94,13 @@ module _ (program log refutation : List ℕ) (code : Code) (run : StoredLog) (f 
           closed = h;
         }
 
--- where there are reasons the refutation is accepted
+-- with reasons, the refutation is accepted
 reasons_accepted : (program log refutation : List ℕ) (reasons : List Reason) → AreReasons program log refutation reasons
     → IsUnexplainedAnswer program log refutation (Accepted Impossible)
 reasons_accepted program log refutation reasons x =
     (x.code, x.programs, (x.run, x.logs, (x.model, x.lines, x.refutations, (x.recorded, (x.within, (Closed, x.closed.closed, refl))))))
 
--- what is answered there without reasons, with the same status
+-- the answer without reasons, with the same status
 pub record Unexplained (program log refutation : List ℕ) (a : Answer) : Type 0 where
   pub answer : Answer
   pub is : IsUnexplainedAnswer program log refutation answer
@@ -122,7 +122,7 @@ one_why_status program log refutation a b decided v w =
     let d = unexplained program log refutation b w in
     sym c.status ∙ ap status_of (one_unexplained_answer program log refutation c.answer d.answer (c.decided decided) c.is d.is) ∙ d.status
 
--- lines that show a log to be impossible stand under a first line without a number of switches
+-- lines that show a log to be impossible have a header without a number of switches
 plain_head : (head : Head) (v : Checked) → Impossible ≡ shown head.switches v → head ≡ head_of head.model
 plain_head head v e = by head.switches v e
   where
@@ -131,7 +131,7 @@ plain_head head v e = by head.switches v e
     by (Some most) Closed e = cc
     by (Some most) StillOpen e = cc
 
--- and a refutation that `check` accepts so speaks of all schedules
+-- a refutation that `check` accepts so is one of all schedules
 pub accepted_plain : (program log refutation : List ℕ) → IsCheckAnswer program log refutation (Accepted Impossible)
     → IsUnexplainedAnswer program log refutation (Accepted Impossible)
 accepted_plain program log refutation w =

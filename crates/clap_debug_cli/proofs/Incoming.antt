@@ -12,7 +12,7 @@ use Rattle.refute_check.specs.Broken.{BreaksAt}
 use Rattle.refute_check.specs.Laws.{IsWhole, whole_lines}
 use Rattle.refute_check.specs.Texts.{refutation_text}
 use Rattle.refute_check.specs.Reading.{Reading, Reads, beginning, bodies, fault_of, first_breach, lines_of}
-use Rattle.refute_check.specs.Refutations.{Checking, after, judged, line_fault, opening, start, verdict}
+use Rattle.refute_check.specs.Refutations.{Checking, state_after_line, state_after_verdict, line_fault, opening, start, verdict}
 use Rattle.refute_check.specs.declared.head.Head.{Head}
 use Rattle.refute_check.specs.declared.line.Line.{Line}
 use Rattle.refute_check.specs.declared.line.Line.TheVariants.{Add, Delete}
@@ -59,16 +59,16 @@ unbroken_free t e = by t.fault refl
     by (Some k) is = absurd (let bad : Some k ≡ None = sym (at_fault t k is) ∙ e in cc)
 
 -- a checker counts the lines that it takes until the first that doesn't pass
-fold_line : (ls : List Line) (s : Checking) → (fold after s ls).line ≤ s.line + length ls
+fold_line : (ls : List Line) (s : Checking) → (fold state_after_line s ls).line ≤ s.line + length ls
 fold_line [] s = omega arith
-fold_line (l ∷ ls) s = let more = fold_line ls (after s l) in let one : (after s l).line ≤ s.line + 1 = by (is_some s.fault) in omega (arith, more, one)
+fold_line (l ∷ ls) s = let more = fold_line ls (state_after_line s l) in let one : (state_after_line s l).line ≤ s.line + 1 = by (is_some s.fault) in omega (arith, more, one)
   where
-    judge : (o : Option CheckFault) (m : Line) → (judged o s m).line ≤ s.line + 1
+    judge : (o : Option CheckFault) (m : Line) → (state_after_verdict o s m).line ≤ s.line + 1
     judge None (Add lits hints) = omega arith
     judge None (Delete ns) = omega arith
     judge (Some f) m = omega arith
 
-    by : (b : Bool) → (if b then s else judged (line_fault (s.line + 1) s.vars s.kept l) s l).line ≤ s.line + 1
+    by : (b : Bool) → (if b then s else state_after_verdict (line_fault (s.line + 1) s.vars s.kept l) s l).line ≤ s.line + 1
     by true = omega arith
     by false = judge (line_fault (s.line + 1) s.vars s.kept l) l
 
@@ -80,9 +80,9 @@ bodies_more : (ls : List Line) (l : Line) → bodies ls ++ Body l ∷ [] ≡ bod
 bodies_more [] l = refl
 bodies_more (m ∷ ls) l = ap (λ ts. Body m ∷ ts) (bodies_more ls l)
 
-fold_more : (ls : List Line) (s : Checking) (l : Line) → after (fold after s ls) l ≡ fold after s (ls ++ l ∷ [])
+fold_more : (ls : List Line) (s : Checking) (l : Line) → state_after_line (fold state_after_line s ls) l ≡ fold state_after_line s (ls ++ l ∷ [])
 fold_more [] s l = refl
-fold_more (m ∷ ls) s l = fold_more ls (after s m) l
+fold_more (m ∷ ls) s l = fold_more ls (state_after_line s m) l
 
 module _ (program : List ℕ) (code : Code) (run : StoredLog) where
   module _ (front : List ℕ) (s : Reading) (ts : List Taken) (reads : Reads beginning front ts s) (free : s.fault ≡ None) (bytes : List ℕ) (t : Reading) where
@@ -92,7 +92,7 @@ module _ (program : List ℕ) (code : Code) (run : StoredLog) where
     some_lines : (m : Head) (ls : List Line) → ts ≡ whole_lines m ls → s.line ≡ 2 + length ls
     some_lines m ls e = omega (arith, place, ap length e, bodies_length ls)
 
-    -- no line ended
+    -- no line has ended
     pub after_more : (stage : Stage) → IsStage program code run s ts stage → Reads s bytes [] t → t.fault ≡ None → IsStage program code run t (ts ++ []) stage
     after_more stage is r e =
         subst (λ z. IsStage program code run t z stage) (sym (append-nil ts)) (by stage is)
@@ -104,7 +104,7 @@ module _ (program : List ℕ) (code : Code) (run : StoredLog) where
         by (Waits a) h = λ _. h free
         by (Checks most c) h = λ _. h free
 
-    -- the first line ended
+    -- the header has ended
     pub after_header : (stage : Stage) → IsStage program code run s ts stage → (h : Head) → Reads s bytes (Header h ∷ []) t → (next : Stage)
         → IsBegun program code run h next → IsStage program code run t (ts ++ Header h ∷ []) next
     after_header stage is h r next begun =
@@ -120,7 +120,7 @@ module _ (program : List ℕ) (code : Code) (run : StoredLog) where
         by k (Waits a) b = λ _. (k, [], refl, b)
         by k (Checks most c) b = λ _. (k, [], refl, b.0, b.1)
 
-    -- another line ended
+    -- another line has ended
     pub has_room : (stage : Stage) → IsStage program code run s ts stage → (l : Line) → Reads s bytes (Body l ∷ []) t → HasRoom stage
     has_room Begins is l r = tt
     has_room (Waits a) is l r = tt
@@ -154,7 +154,7 @@ module _ (program : List ℕ) (code : Code) (run : StoredLog) where
           record {
             recorded = w.4.recorded;
             within = w.4.within;
-            is = ap (λ x. after x l) w.4.is ∙ fold_more w.1 (start (head_clauses w.0 code run.log)) l;
+            is = ap (λ x. state_after_line x l) w.4.is ∙ fold_more w.1 (start (head_clauses w.0 code run.log)) l;
           },
         )
 
@@ -180,7 +180,7 @@ module _ (program : List ℕ) (code : Code) (run : StoredLog) where
     pub broken_there : (line : ℕ) → first_breach text ≡ Some line → BreaksAt bytes line
     broken_there line e = (ts, (text, reads, e))
 
-    -- nothing broke the form: the bytes are those of a refutation
+    -- no line breaks the form, and the bytes are a refutation
     whole : first_breach text ≡ None → (m : Head) (ls : List Line) → ts ≡ whole_lines m ls → IsRefutation bytes m ls
     whole none m ls e =
         let w = read-is-text bytes ts text reads none in
@@ -231,7 +231,7 @@ module _ (program : List ℕ) (code : Code) (run : StoredLog) where
           (w.0, w.1, whole none w.0 w.1 w.2, (w.4.recorded, (w.4.within, (h.0, ap verdict (sym w.4.is) ∙ h.1, h.2))))
       unshown _ h = absurd h
 
-  -- a refutation that was read, by the stage that it came to
+  -- a refutation that was read, by its last stage
   module _ (s : Incoming) (bytes : List ℕ) (read : IsRead program code run s bytes) where
     abbrev Refused : Answer → Type 0
     Refused a = Refuses (IsRefutationAnswer bytes (IsClausesAnswer program code run)) a
@@ -257,7 +257,7 @@ module _ (program : List ℕ) (code : Code) (run : StoredLog) where
         → Refused a
     checks_refused most c a e none why = unshown s.text bytes read.0 read.1 most c (at_stage (Checks most c) e) none a why
 
-  -- what was taken of some bytes
+  -- what was read of some bytes
   module _ (old : Incoming) (bytes : List ℕ) (n : ℕ) (x : Taken) (t : Reading) (some : 0 < length bytes) (all : x ≡ More → n ≡ length bytes)
       (reads : Reads old.text (take n bytes) (if nat_eq n 0 then [] else lines_of x) t)
       (stuck : IfSome old.text.fault (λ k. (n ≡ 0) × (x ≡ Form k))) (moves : old.text.fault ≡ None → x ≢ More → 0 < n) (told : t.fault ≡ fault_of x)
@@ -334,7 +334,7 @@ module _ (program : List ℕ) (code : Code) (run : StoredLog) where
               after_form front old.text read.0 read.1 f bytes t old.stage read.2 k whole broke,
             )
 
--- what a taking told of a text that had broken its form
+-- the result of reading a text that has already broken its form
 pub stuck_so : {E : Type 0} (o : Option ℕ) (result : Result (ℕ × Taken) E) (n : ℕ) (x : Taken) → result ≡ Ok (n, x)
     → IfSome o (λ k. result ≡ Ok (0, Form k)) → IfSome o (λ k. (n ≡ 0) × (x ≡ Form k))
 stuck_so None result n x is h = tt

@@ -1,7 +1,7 @@
--- What a keep does to the counts of the shelf.
+-- The effect of a keep on the counts of the shelf.
 use Rattle.std.proofs.Common.{◌≡◌, ◌⊎◌, ◌∙◌, ap, sym, inl, inr, List, ℕ, Option, Some, None}
 use Rattle.std.specs.Option.{IsSomeAnd}
-use Rattle.tc_io.specs.Outside.{ShelfTells, Writing, KeptPart, counted_on}
+use Rattle.tc_io.specs.Outside.{ShelfTells, Writing, KeptPart, capped_sum}
 use Rattle.clap_debug_words.specs.Calls.{Called, Minimizes}
 use Rattle.clap_debug_cli.specs.Causes.{FailsToKeep, KeepsFirst, KeepsMinimum, LosesMinimum}
 use Rattle.clap_debug_cli.specs.Fewest.{KeptBoth, KeptIfAny, LostSecond, first_text, put_both, put_if_any, second_text}
@@ -9,9 +9,9 @@ use Rattle.clap_debug_cli.specs.Inputs.{Texts, inputs_of}
 use Rattle.clap_debug_cli.specs.declared.answer.Minimum.{Minimum}
 use Rattle.clap_debug_cli.proofs.Fetches.{given_still}
 
--- it failed: one fault was counted, and that keep is told
+-- the keep failed: the shelf counted one more fault, of this keep
 abbrev pub CountsKeep : ShelfTells → ShelfTells → List ℕ → Type 0
-CountsKeep old new name = (new.faults ≡ counted_on old.faults 1) × (new.last_fault ≡ Some (Writing name))
+CountsKeep old new name = (new.faults ≡ capped_sum old.faults 1) × (new.last_fault ≡ Some (Writing name))
 
 part_counts : (old new : ShelfTells) (name text : List ℕ) → KeptPart old new name text → CountsKeep old new name
 part_counts old new name text k = (ap (λ x. x.faults) k.2, ap (λ x. x.last_fault) k.2)
@@ -20,7 +20,7 @@ second_counts : (o : Option (List ℕ)) (old new : ShelfTells) (name : List ℕ)
 second_counts None old new name k = absurd k
 second_counts (Some text) old new name k = part_counts old new name text k
 
--- `solve --least` lost one of its texts
+-- `solve --least` failed to keep one of its texts
 minimum_counts : (out refutation name : List ℕ) (x : Minimum) (old new : ShelfTells)
     → ((name ≡ out) × KeptPart old new out (first_text x)) ⊎ ((name ≡ refutation) × LostSecond out refutation x old new) → CountsKeep old new name
 minimum_counts out refutation name x old new (inl k) =
@@ -28,7 +28,7 @@ minimum_counts out refutation name x old new (inl k) =
     (c.0, c.1 ∙ ap (λ n. Some (Writing n)) (sym k.0))
 minimum_counts out refutation name x old new (inr k) =
     let c = second_counts (second_text x) k.1.0 new refutation k.1.2 in
-    (c.0 ∙ ap (λ (s : ShelfTells). counted_on s.faults 1) k.1.1, c.1 ∙ ap (λ n. Some (Writing n)) (sym k.0))
+    (c.0 ∙ ap (λ (s : ShelfTells). capped_sum s.faults 1) k.1.1, c.1 ∙ ap (λ n. Some (Writing n)) (sym k.0))
 
 lost_minimum : (call : Called) (t : Texts) (old new : ShelfTells) (name : List ℕ) → LosesMinimum call t old new name → CountsKeep old new name
 lost_minimum (Minimizes p l out m b refutation) t old new name k = minimum_counts out refutation name k.0 old new k.2
@@ -39,7 +39,7 @@ pub lost_one : (call : Called) (t : Texts) (old new : ShelfTells) (name : List �
 lost_one call t old new name (inl k) = part_counts old new name k.1 k.3
 lost_one call t old new name (inr k) = lost_minimum call t old new name k
 
--- a text that was kept counts none
+-- a text that was kept counts no fault
 any_still : (o : Option (List ℕ)) (old new : ShelfTells) (name : List ℕ) → KeptIfAny o old new name → new.faults ≡ old.faults
 any_still None old new name k = ap (λ x. x.faults) k
 any_still (Some text) old new name k = ap (λ x. x.faults) k
@@ -55,7 +55,7 @@ kept_first_still (Minimizes p l out m b refutation) old new k =
     ∙ (given_still (inputs_of (Minimizes p l out m b refutation)) old k.1 k.0 k.2).1
 kept_first_still _ old new k = absurd k
 
--- what is held where both texts were kept
+-- the files after both texts were kept
 any_held : (o : Option (List ℕ)) (old new : ShelfTells) (name : List ℕ) → KeptIfAny o old new name → new.held ≡ put_if_any name o old.held
 any_held None old new name k = ap (λ x. x.held) k
 any_held (Some text) old new name k = ap (λ x. x.held) k

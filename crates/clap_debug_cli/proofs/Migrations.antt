@@ -1,4 +1,4 @@
--- What the text of a log in format 2 is, and what is read back from it.
+-- The text of a log in format 2, and what is read back from it.
 use Rattle.std.proofs.Common.{◌≡◌, ◌∙◌, ◌≤◌, ap, ap₂, sym, refl, arith, ℕ, zero, suc}
 use Rattle.std.proofs.Common.{Bool, true, false, cond, List, [], ◌∷◌, length, Option, Some, None, option_map}
 use Rattle.std.specs.Prelude.{◌&&◌, ◌/◌, ◌^◌, IsTrue, nat_le, nat_lt, slice_index}
@@ -22,7 +22,7 @@ use Rattle.clap_debug_cli.specs.Causes.{IsMigrateAnswer}
 use Rattle.clap_debug_cli.specs.Migrated.{IsMigrated, excess, excess_of, too_deep}
 use Rattle.clap_debug_cli.specs.Recorded.{with_digest}
 
--- what is kept is an answer, and an answer is kept
+-- a kept text is an answer, and each such answer is kept
 pub migrated_answer : (program log text : List ℕ) → IsMigrated program log text → IsMigrateAnswer program log Migrated
 migrated_answer program log text m = (m.code, m.programs, (m.run, m.logs, (m.recorded, (m.within, m.fits))))
 
@@ -62,7 +62,7 @@ pub sha256_is : (program : List ℕ) → IsTrue (is_digest (sha256 program))
 unfolding sha256
 sha256_is program = ap₂ (λ x y. x && y) (eq-eqb (length (sha256 program)) 32 (length-sha256 program)) (digest_bytes_are _ 8)
 
--- a log that has nothing too much is small
+-- a log within all limits is small
 
 shallow : (ts : List ThreadPath) → too_deep ts ≡ None → list_all (λ (t : ThreadPath). nat_le (length t.name) 8) ts ≡ true
 shallow [] e = refl
@@ -98,15 +98,15 @@ module _ (program log text : List ℕ) (m : IsMigrated program log text) where
       text = text_is;
     }
 
-    -- it is that log alone
+    -- the text is read back only as that log
     pub read_again : (again : StoredLog) → IsLog text again → again ≡ with_digest program run.log
     read_again again reads = one_log text again (with_digest program run.log) reads kept_log
 
-    -- where the log has that digest it is the same text
+    -- if the log has that digest, the text is the same
     pub kept_whole : run.digest ≡ Some (sha256 program) → text ≡ log
     kept_whole e = text_is ∙ ap (λ o. log_text (record { digest = o; log = run.log })) (sym e) ∙ sym is.text
 
-  -- it isn't too long to be read
+  -- the text isn't too long to be read
   pub kept_short : length text ≤ most_log_bytes
   kept_short =
       let size = recorded_size (sha256 program) m.run.log (sha256_is program) m.logs.has_text.is_of_format (small m.run.log m.within) in

@@ -1,4 +1,4 @@
--- All answers to what a command's inputs hold that have their cause have one status.
+-- All answers to the inputs' bytes that have a cause have one status.
 use Rattle.std.proofs.Common.{◌≡◌, ℕ, List, [], ◌∷◌, refl, ap, subst}
 use Rattle.memory_models.specs.declared.model.Model.{Model}
 use Rattle.store_buffers.specs.Buffers.{buffer_of}

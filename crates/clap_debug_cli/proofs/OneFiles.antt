@@ -1,4 +1,4 @@
--- Bytes are one schedule and one refutation at most, or break the form of each at one place.
+-- Bytes are at most one schedule and one refutation, or break the form of each at one place.
 use Rattle.std.proofs.Common.{◌≡◌, ◌∙◌, ◌+◌, ℕ, false, List, [], length, ne_eqb, arith, Some, None, ap, ap₂, sym, subst}
 use Rattle.std.specs.Prelude.{nat_eq, not, ◌||◌, if◌then◌else◌}
 use Rattle.std.proofs.lemmas.Option.{same_Some}
@@ -35,7 +35,7 @@ one_broken bytes m n f g =
 none_some : (k : ℕ) → None ≡ Some k → ⊥
 none_some k e = cc
 
--- a refutation is read to its end, and no line of it breaks the form
+-- a refutation is read to its end, and no line breaks the form
 module _ (bytes : List ℕ) (head : Head) (lines : List Line) (is : IsRefutation bytes head lines) where
   abbrev end_of : Reading
   end_of = record { unfinished = []; line = length lines + 2; fault = None }
@@ -54,7 +54,7 @@ module _ (bytes : List ℕ) (head : Head) (lines : List Line) (is : IsRefutation
   pub refutation_or_fault : (n : ℕ) → RefutationBreaksAt bytes n → ⊥
   refutation_or_fault n g = none_some n (sym (read_of g.0 g.1.0 g.1.1).1 ∙ g.1.2)
 
--- and so where a first line may name no number of switches
+-- the same if the header may name no number of switches
 pub one_plain : (bytes : List ℕ) (m n : Model) (ls ks : List Line) → IsRefutation bytes (head_of m) ls → IsRefutation bytes (head_of n) ks
     → (m ≡ n) × (ls ≡ ks)
 one_plain bytes m n ls ks f g =

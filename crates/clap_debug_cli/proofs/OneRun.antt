@@ -56,7 +56,7 @@ module _ {B : Type 0} (code : Code) (run : Ended B) where
   ended_once (Over v) Finished p q = let e : end.Over v ≡ end.Finished = sym p ∙ q in cc
   ended_once (Over v) (StepLimit n) p q = let e : end.Over v ≡ end.StepLimit = sym p ∙ q.0 in cc
 
-  -- by its status, a run that has a log has no other ending
+  -- a run with a log has no ending without one, by status
   no_zero : (e : Ending) → ending_status e ≡ 0 → ⊥
   no_zero Finished h = omega (arith, h)
   no_zero (StepLimit n) h = omega (arith, h)

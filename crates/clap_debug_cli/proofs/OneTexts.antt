@@ -1,4 +1,4 @@
--- At most one answer to texts that they decide has its cause.
+-- At most one answer that the texts decide has its cause.
 use Rattle.std.proofs.Common.{◌≡◌, ◌∙◌, ℕ, ℤ, suc, List, Option, Some, None, Ok, Err, ap, ap₂, sym, subst, refl, arith}
 use Rattle.std.proofs.lemmas.Option.{same_Some}
 use Rattle.tc_base.specs.Names.{Name}
@@ -45,7 +45,7 @@ use Rattle.clap_debug_cli.specs.Files.{head_of}
 use Rattle.clap_debug_cli.proofs.OneFiles.{one_refutation, one_broken, refutation_or_fault, one_plain, one_plain_broken, plain_or_fault}
 use Rattle.tc_compile.proofs.OnePrograms.{one_code, one_refusal, refused_no_code}
 
--- an answer of which this holds and which is decided is the only one
+-- a decided answer with this property is the only one
 abbrev pub IsOne : (Answer → Type 0) → Type 0
 IsOne P = (a b : Answer) → IsDecided a → P a → P b → a ≡ b
 
@@ -68,7 +68,7 @@ module _ (code : Code) (log : Log) where
   one_fit Migrated _ _ f g = absurd g
   one_fit _ b _ f g = absurd f
 
-  -- what is too much is one thing
+  -- only one limit is passed first
 
   one_over : (w v : Which) (n m : ℕ) → IsBuildFault code log (build.Limit w n (limit_of w)) → IsBuildFault code log (build.Limit v m (limit_of v))
       → excess w n ≡ excess v m
@@ -123,7 +123,7 @@ module _ (code : Code) (log : Log) where
   one_minimized model budget (Minimized x) b decided f g = absurd decided
   one_minimized model budget _ b decided f g = absurd f
 
--- the verdict on a derivation is one
+-- a derivation has one verdict
 module _ (f : Formula) (switches : Option ℕ) (lines : List Line) where
   same_fault : (p q : CheckFault) → check f lines ≡ Err p → check f lines ≡ Err q → p ≡ q
   same_fault p q x y = let e : Err p ≡ Err q = sym x ∙ y in cc
@@ -243,7 +243,7 @@ one_cnf_answer program log model =
     (λ code run. one_stored program run (IsLimitAnswer code run.log (IsClauseListAnswer model code run.log))
     (one_limit code run.log (IsClauseListAnswer model code run.log) (one_list model code run.log)))
 
--- what literals come to is one thing, but for the schedule
+-- literals have one result, up to the choice of schedule
 one_taken : (model : Option Model) (code : Code) (log : Log) (literals : List ℤ) → IsOne (IsTakenAnswer model code log literals)
 one_taken model code log literals (ClauseFalse m) (ClauseFalse n) _ x y =
     let f = clauses_for model code log in

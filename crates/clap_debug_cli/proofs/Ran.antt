@@ -1,4 +1,4 @@
--- From a run that has a log to the text of its log, and from one that has none to its ending.
+-- From a run with a log to the text of the log, and from a run without one to its ending.
 use Rattle.std.proofs.Common.{◌≡◌, refl, ℕ, List}
 use Rattle.memory_models.specs.declared.model.Model.{Model}
 use Rattle.tc_code.specs.Code.{Code}
@@ -23,7 +23,7 @@ module _ {B : Type 0} (model : Model) (run : Ended B) (log : StoredLog) (is : Is
     is_text = written;
   }
 
--- an end of the run of its code is one of the program's
+-- an end of the run of the code is one of the program's run
 module _ (program : List ℕ) (model : Model) (code : Code) (seed steps : ℕ) (found : IsCodeOf program code) where
   pub end_of : (a : Answer) → IsEndOf (run_of model code seed steps) a → Refuses (IsRecordAnswer program model seed steps) a
   end_of (RunEnded e) h = (code, found, h)

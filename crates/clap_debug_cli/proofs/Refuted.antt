@@ -1,4 +1,4 @@
--- What a closed refutation of a log means.
+-- The meaning of a closed refutation of a log.
 use Rattle.std.proofs.Common.{◌≡◌, ◌∙◌, refl, sym, ap, subst, arith, ℕ, true, List, Option, Some, None, Ok}
 use Rattle.store_buffers.specs.Buffers.{buffer_of}
 use Rattle.run_log.specs.Logs.{Log}
@@ -36,7 +36,7 @@ pub code_is_lawful : (program : List ℕ) (code : Code) → IsCodeOf program cod
 code_is_lawful program code f =
     subst IsLawful (sym f.lowers) (program_is_lawful program f.program f.is.cells (program_ints f.program (has_ints language program f.program f.is)))
 
--- each memory model is one
+-- each memory model obeys its laws
 pub model_laws : (m : Model) → Laws (buffer_of m) m (bound_of m)
 model_laws Sc = sc_laws
 model_laws Tso = tso_laws
@@ -46,7 +46,8 @@ open_so : (most : Option ℕ) → shown most Open ≡ StillOpen
 open_so None = refl
 open_so (Some most) = refl
 
--- where the lines are closed on the clauses, no moves reproduce the log, or none with so few switches
+-- if the lines are closed on the clauses, no moves with at most that many switches reproduce the
+-- log
 module _ (model : Model) (code : Code) (lawful : IsLawful code) (log : Log) (is : is_log log ≡ true) (within : IsWithin code log) (lines : List Line) where
   excluded : (most : Option ℕ) → IsClosed (clauses_up_to most model code log) lines → AreExcluded most model code log
   excluded None closed = closed_is_impossible (buffer_of model) model (bound_of model) code log (model_laws model) lawful is within lines closed

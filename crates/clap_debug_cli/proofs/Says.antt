@@ -1,4 +1,4 @@
--- What is said where there is no memory for the line.
+-- The effect of no memory for the line.
 use Rattle.std.proofs.Common.{◌≡◌, ◌⊎◌, refl, ℕ, List}
 use Rattle.tc_io.specs.Outside.{SinkTells}
 use Rattle.clap_debug_cli.specs.Call.{FailsToPut, PutsAtMostNoMemory, SaysNoMore}

@@ -1,4 +1,4 @@
--- What a search found, as an answer and as what is kept.
+-- The result of a search, as an answer and as what is kept.
 use Rattle.std.proofs.Common.{◌≡◌, ap, sym, subst, refl, arith, ℕ, List, length, Option, None, true, unwrap_or}
 use Rattle.sha2.specs.Sha256.{sha256}
 use Rattle.tc_base.specs.Buffers.{BufferOps}
@@ -36,7 +36,7 @@ use Rattle.clap_debug_cli.specs.declared.answer.Solution.{Solution}
 use Rattle.clap_debug_cli.proofs.Migrations.{sha256_is}
 use Rattle.clap_debug_cli.proofs.Refuted.{code_is_lawful, model_laws}
 
--- what is answered was found
+-- an answer's solution was found by the search
 pub solution_of : (program log : List ℕ) (model : Option Model) (budget : ℕ) (x : Solution) → IsSolveAnswer program log model budget (Solved x)
     → IsSolution program log model budget x
 solution_of program log model budget x w = record {
@@ -53,7 +53,7 @@ pub solved_answer : (program log : List ℕ) (model : Option Model) (budget : �
     → IsSolveAnswer program log model budget (Solved x)
 solved_answer program log model budget x s = (s.code, s.programs, (s.run, s.logs, (s.recorded, (s.within, s.searched))))
 
--- and so of searches for the fewest switches
+-- the same for searches for the fewest switches
 pub minimum_of : (program log : List ℕ) (model : Option Model) (budget : ℕ) (x : Minimum) → IsMinimizeAnswer program log model budget (Minimized x)
     → IsMinimum program log model budget x
 minimum_of program log model budget x w = record {
@@ -70,7 +70,7 @@ pub minimized_answer : (program log : List ℕ) (model : Option Model) (budget :
     → IsMinimizeAnswer program log model budget (Minimized x)
 minimized_answer program log model budget x s = (s.code, s.programs, (s.run, s.logs, (s.recorded, (s.within, s.minimized))))
 
--- but for how few the switches are, they found what a search for any schedule might have
+-- except for the number of switches, the search finds what one for any schedule may find
 answer_in : {B : Type 0} (ops : BufferOps B) (model : Model) (bound : Binding) (code : Code) (log : Log) (budget : ℕ) (x : Least)
     → IsLeastAnswer ops model bound code log budget x → IsAnswer ops model bound code log budget (found_in x)
 answer_in ops model bound code log budget (least.Found _ _ _) h = (h.0.model_is, h.0.reproduces)
@@ -95,7 +95,7 @@ solution_in program log model budget m b x s = record {
   };
 }
 
--- what is possible isn't called impossible
+-- a possible log isn't called impossible
 module _ (program log : List ℕ) (model : Option Model) (budget : ℕ) (m : Model) (ls : List Line)
     (s : IsSolution program log model budget (solution m budget (found.Impossible ls))) (p : IsPossible program log model) where
   there : Reproduces (buffer_of (model_for model s.run.log)) s.code s.run.log p.moves
@@ -106,7 +106,7 @@ module _ (program log : List ℕ) (model : Option Model) (budget : ℕ) (m : Mod
   pub possible_or_not : ⊥
   possible_or_not = s.searched.found.1 p.moves (subst (λ n. Reproduces (buffer_of n) s.code s.run.log p.moves) (sym s.searched.model_is) there)
 
--- a model that allows more lets a log be reproduced too
+-- a log that one model reproduces is reproduced by a model that allows more
 more : (m n : Model) → allows m n ≡ true → (code : Code) (log : Log) (moves : List Move) → Reproduces (buffer_of m) code log moves
     → (others : List Move) × Reproduces (buffer_of n) code log others
 more Sc Sc e code log moves r = (moves, r)
@@ -130,7 +130,7 @@ more Tso Sc e code log moves r = cc
 more Pso Sc e code log moves r = cc
 more Pso Tso e code log moves r = cc
 
--- what was recorded is reproduced by the moves of its run
+-- the moves of a recorded run reproduce its log
 pub recorded_reproduced : (program log : List ℕ) (made : Model) (seed steps : ℕ) → IsRecorded program made seed steps log
     → IsReproduced program made seed steps log
 recorded_reproduced program log made seed steps w =
@@ -156,7 +156,7 @@ recorded_reproduced program log made seed steps w =
       short = omega (arith, size, ap length is.is_text);
     }
 
--- so it is possible, under its model and under each that allows more
+-- a recorded log is possible under its model and under each model that allows more
 pub recorded_possible : (program log : List ℕ) (made : Model) (seed steps : ℕ) (model : Option Model) → IsRecorded program made seed steps log
     → allows made (unwrap_or model made) ≡ true → IsPossible program log model
 recorded_possible program log made seed steps model w e =

@@ -41,13 +41,13 @@ module _ (files : Files) (p l o program log : List ℕ) (model : Option Model) (
   abbrev Asked : Called
   Asked = Solves p l o model budget
 
-  -- where the status isn't a fault's or a limit's, the answer is the command's own
+  -- unless the status is that of a fault or a limit, the answer is the command's own
   own_answer : status ≢ 6 → status ≢ 7 → status ≢ 8 → status ≢ 9 → (status_of a ≡ status) × Puts j k a × IsSolveAnswer program log model budget a
   own_answer six seven eight nine =
       let w = plain_at Asked (program ∷ log ∷ []) a status j k says known seven eight nine in
       (sym w.0, w.1, work_of Asked (program ∷ log ∷ []) a w.2 (λ e. six (w.0 ∙ e)))
 
-  -- with these statuses something was found
+  -- with these statuses the search found something
   is_solved : (b : Answer) → IsSolveAnswer program log model budget b → (n : ℕ) → status_of b ≡ n → n ≢ 3 → n ≢ 4 → n ≢ 6 → (x : Solution) × (b ≡ Solved x)
   is_solved (Solved x) w n h three four six = (x, refl)
   is_solved (ProgramRefused r) w n h three four six = absurd (three (sym h))
@@ -66,7 +66,7 @@ module _ (files : Files) (p l o program log : List ℕ) (model : Option Model) (
         record { puts = subst (Puts j k) e.1 w.1; stands = kept e.0 e.1 },
       )
 
-  -- its parts are known
+  -- a solution consists of its model, the budget and its answer
   same : (x : Solution) (f : Found) → IsSolution program log model budget x → x.answer ≡ f → x ≡ solution x.model budget f
   same x f s e = ap₂ (λ (n : ℕ) (g : Found). solution x.model n g) s.searched.budget_is e
 
@@ -112,7 +112,7 @@ module _ (files : Files) (p l o program log : List ℕ) (model : Option Model) (
   possible_at : IsPossible program log model → status ≢ 1
   possible_at may h = let w = refutation_at h in possible_or_not program log model budget w.0 w.1 w.2 may
 
-  -- of a log that isn't of another program and fits within the limits nothing is refused
+  -- a log of this program within the limits isn't refused
 
   abbrev Searched : ℕ → Type 0
   Searched n = (n ≡ 0) ⊎ (n ≡ 1) ⊎ IsStatus n 10

@@ -44,7 +44,7 @@ module _ (files : Files) (p l o program log : List ℕ) (model : Option Model) (
   abbrev Wanted : Called
   Wanted = Exports p l o model
 
-  -- where the status isn't a fault's or a limit's, the answer is the command's own
+  -- unless the status is that of a fault or a limit, the answer is the command's own
   cnf_at : (n : ℕ) → status ≡ n → n ≢ 6 → n ≢ 7 → n ≢ 8 → n ≢ 9 → (status_of a ≡ n) × Puts j k a × IsCnfAnswer program log model a
   cnf_at n h six seven eight nine =
       let w = plain_at Wanted (program ∷ log ∷ []) a status j k says known (λ e. seven (sym h ∙ e)) (λ e. eight (sym h ∙ e)) (λ e. nine (sym h ∙ e)) in
@@ -185,7 +185,7 @@ module _ (files : Files) (p l r o program log bytes : List ℕ) (model : Option 
     run_is : (q : StoredLog) → IsLog log q → q ≡ is.run
     run_is q h = one_log log q is.run h is.logs
 
-    -- what is satisfied leaves no clause false
+    -- satisfied clauses have no false one
     all_true : (c : Code) (q : StoredLog) (ls : List ℤ) → c ≡ is.code → q ≡ is.run → ls ≡ is.literals → (n : ℕ) → IsTaken model (taken.False n) c q.log ls → ⊥
     all_true c q ls e f g n h =
         let f2 = clauses_for model is.code is.run.log in

@@ -1,4 +1,4 @@
--- Which answers have a status.
+-- The answers with each status.
 use Rattle.std.proofs.Common.{◌≡◌, ◌≢◌, ◌≤◌, ◌⊎◌, inl, inr, refl, sym, ap, arith, ℕ, List, Option, Bool, true, false, cond}
 use Rattle.clap_debug_cli.specs.Answers.{status_of, verdict_status, ending_status, found_status, least_status, shown_status, work_status}
 use Rattle.clap_debug_cli.specs.declared.answer.Answer.{Answer}
@@ -35,7 +35,7 @@ no_ending Finished k h one six ten = one (sym h)
 no_ending (StepLimit n) k h one six ten = ten (sym h)
 no_ending (Over which) k h one six ten = six (sym h)
 
--- and so has what a search found
+-- the result of a search has one of three statuses
 pub no_found : (x : Found) (k : ℕ) → found_status x ≡ k → (k ≡ 0 → ⊥) → (k ≡ 1 → ⊥) → (k ≡ 10 → ⊥) → ⊥
 no_found (found.Found _) k h zero one ten = zero (sym h)
 no_found (found.Impossible _) k h zero one ten = one (sym h)
@@ -47,13 +47,13 @@ no_least (least.Impossible _) k h zero one ten = one (sym h)
 no_least (least.Spent _) k h zero one ten = ten (sym h)
 no_least (least.SpentAt _ _ _) k h zero one ten = ten (sym h)
 
--- and what lines show one of two
+-- the result of accepted lines has status 0 or 10
 pub no_shown : (x : Shown) (k : ℕ) → shown_status x ≡ k → (k ≡ 0 → ⊥) → (k ≡ 10 → ⊥) → ⊥
 no_shown Impossible k h zero ten = zero (sym h)
 no_shown (MoreSwitches most) k h zero ten = zero (sym h)
 no_shown Open k h zero ten = ten (sym h)
 
--- and what came of a workload
+-- the result of a workload has one of two statuses
 pub no_worked : (x : Work) (k : ℕ) → work_status x ≡ k → (k ≡ 0 → ⊥) → (k ≡ 10 → ⊥) → ⊥
 no_worked x k h zero ten = by (has_spent x) h
   where
@@ -171,7 +171,7 @@ pub is_other : (v : Verdict) → verdict_status v ≡ 1 → v ≢ verdict.Reprod
 is_other verdict.Reproduces h e = absurd (omega (arith, h))
 is_other _ h e = cc
 
--- what was found by its status
+-- the result of a search, by status
 pub is_found : (x : Found) → found_status x ≡ 0 → (s : Schedule) × (x ≡ found.Found s)
 is_found (found.Found s) h = (s, refl)
 is_found _ h = absurd (omega (arith, h))

@@ -27,7 +27,7 @@ module _ (p l r program log refutation : List ℕ) (a : Answer) (status : ℕ) (
   abbrev Asked : Called
   Asked = Explains p l r
 
-  -- where the status isn't a fault's or a limit's, the answer is the command's own
+  -- unless the status is that of a fault or a limit, the answer is the command's own
   own_answer : status ≢ 6 → status ≢ 7 → status ≢ 8 → status ≢ 9 → (status_of a ≡ status) × Puts j k a × IsWhyAnswer program log refutation a
   own_answer six seven eight nine =
       let w = plain_at Asked (program ∷ log ∷ refutation ∷ []) a status j k says known seven eight nine in
@@ -143,7 +143,7 @@ module _ (p l r program log refutation : List ℕ) (a : Answer) (status : ℕ) (
       (inr (inr (inr (inr (inr (inr (inr (inl refl)))))))) (inr (inr (inr (inr (inr (inr (inr (inr (inl refl)))))))))
       (inr (inr (inr (inr (inr (inr (inr (inr (inr refl)))))))))
 
-  -- wherever `check` accepts the refutation as closed the status is 0
+  -- if `check` accepts the refutation as closed, the status is 0
   complete_status : IsCheckAnswer program log refutation (Accepted Impossible) → length program ≤ limit_of input.Program → length log ≤ limit_of input.Log
       → (b : Answer) → IsAnswerTo Asked (program ∷ log ∷ refutation ∷ []) b → status_of b ≡ 0
   complete_status closed short brief (TooLong i) w =

@@ -28,7 +28,7 @@ module _ (workers seed : ℕ) (a : Answer) (status : ℕ) (j k : SinkTells) (say
   abbrev Asked : Called
   Asked = Workloads workers seed
 
-  -- where the status isn't a fault's or a limit's, the answer is the command's own
+  -- unless the status is that of a fault or a limit, the answer is the command's own
   own_at : (n : ℕ) → status ≡ n → n ≢ 6 → n ≢ 7 → n ≢ 8 → n ≢ 9 → (status_of a ≡ n) × Puts j k a × IsWorkloadAnswer workers seed a
   own_at n h six seven eight nine =
       let w = plain_at Asked [] a status j k says known (λ e. seven (sym h ∙ e)) (λ e. eight (sym h ∙ e)) (λ e. nine (sym h ∙ e)) in

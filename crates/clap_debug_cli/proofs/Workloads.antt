@@ -1,4 +1,4 @@
--- From what `workload` comes to to the cause of that answer.
+-- From the result of `workload` to the cause of that answer.
 use Rattle.std.proofs.Common.{◌≡◌, refl, subst, ℕ, [], Result, Ok, Err}
 use Rattle.run_log.specs.Logs.{Log}
 use Rattle.tc_code.specs.Code.{Code}
@@ -19,12 +19,12 @@ use Rattle.clap_debug_cli.specs.declared.answer.Work.{Work}
 use Rattle.clap_debug_cli.proofs.Causes.{work_cause}
 
 module _ (workers seed : ℕ) where
-  -- a text without a code is refused so
+  -- a text without code is refused this way
   pub uncoded : (f : CompileFault) → IsWhyNoCode (seeded_text workers seed) f → Refuses (IsWorkloadAnswer workers seed) (compile_answer f)
   uncoded (compile.Refused r) h = h
   uncoded compile.Memory h = h
 
-  -- and so is a log that has no system
+  -- a log without a system is refused this way
   pub unbuilt : (code : Code) → IsCodeOf (seeded_text workers seed) code → (log : Log) → log ≡ workload_log workers → (a : Answer) → IsWhyUnbuilt code log a
       → Refuses (IsWorkloadAnswer workers seed) a
   unbuilt code f log same a h = by a (subst (λ l. IsWhyUnbuilt code l a) same h)
@@ -42,7 +42,7 @@ module _ (workers seed : ℕ) where
   pub worked_cause : (tells : ShelfTells) (x : Work) → IsWorkloadAnswer workers seed (Worked x) → IsCauseOf (Workloads workers seed) tells tells (Worked x)
   worked_cause tells x w = ([], tells, refl, (tt, w), refl)
 
--- either is an answer of which more holds
+-- both sides of a result have a weaker property
 pub either_weaker : (r : Result Answer Answer) (P Q : Answer → Type 0) → ((a : Answer) → P a → Q a) → IsEither r P → IsEither r Q
 either_weaker (Ok a) P Q f h = f a h
 either_weaker (Err a) P Q f h = f a h

@@ -1,4 +1,4 @@
--- Why an answer is given: the words, what the shelf did, and what the bytes that it gave say.
+-- The cause of an answer: the words, what the shelf did, and what the bytes that it gave say.
 use Rattle.std.specs.Prelude.{◌≡◌, ◌⊎◌, ℕ, ℤ, ◌≤◌, ◌-◌, List, [], ◌∷◌, length, Option, Some, None, Ok, Err, IsSomeAnd}
 use Rattle.tc_limits.specs.declared.limits.TheConstants.{SCHEDULE_BYTES}
 use Rattle.memory_models.specs.declared.model.Model.{Model}
@@ -168,7 +168,7 @@ IsLimitAnswer code log P (LogOver e) = IsBuildFault code log (build.Limit e.whic
 IsLimitAnswer code log P (LogRefused (Unfit name misfit)) = IsBuildFault code log (build.Walk (walk.Unfit name misfit))
 IsLimitAnswer code log P a = IsWithin code log × P a
 
--- then `solve` searches
+-- for a log within these limits, the answer of `solve` is that of its search
 abbrev pub IsSearchAnswer : Code → Log → Option Model → (budget : ℕ) → Answer → Type 0
 IsSearchAnswer code log model budget (Solved x) = IsSearched code log model budget x
 IsSearchAnswer code log model budget _ = ⊥
@@ -177,7 +177,7 @@ abbrev pub IsSolveAnswer : (program log : List ℕ) → Option Model → (budget
 IsSolveAnswer program log model budget =
     IsTextsAnswer program log (λ code run. IsStoredAnswer program run (IsLimitAnswer code run.log (IsSearchAnswer code run.log model budget)))
 
--- then `solve --least` searches
+-- for a log within these limits, the answer of `solve --least` is that of its searches
 abbrev pub IsMinimizedAnswer : Code → Log → Option Model → (budget : ℕ) → Answer → Type 0
 IsMinimizedAnswer code log model budget (Minimized x) = IsMinimized code log model budget x
 IsMinimizedAnswer code log model budget _ = ⊥
@@ -315,12 +315,12 @@ KeepsText call text old new = (name : List ℕ) × IsOutput call name × Kept ol
 
 -- What `solve --least`, which keeps two texts, does to the shelf.
 
--- it keeps both texts
+-- `solve --least` keeps both of its texts
 abbrev pub KeepsMinimum : Called → Minimum → ShelfTells → ShelfTells → Type 0
 KeepsMinimum (Minimizes _ _ out _ _ refutation) x old new = KeptBoth out refutation x old new
 KeepsMinimum _ x old new = ⊥
 
--- it keeps the first text, but there is no memory to keep the second
+-- `solve --least` keeps the first text, but there is no memory to keep the second
 abbrev pub KeepsFirst : Called → ShelfTells → ShelfTells → Type 0
 KeepsFirst (Minimizes program log out model budget refutation) old new =
     (t : Texts) × (s : ShelfTells) × GaveAll (inputs_of (Minimizes program log out model budget refutation)) old s t
@@ -354,7 +354,7 @@ FailsToKeep call t old new name = IsOutput call name × (text : List ℕ) × IsR
 abbrev pub HeldStill : ShelfTells → ShelfTells → Type 0
 HeldStill old new = (new.held ≡ old.held) × (new.faults ≡ old.faults)
 
--- why an answer is given to a call
+-- the cause of an answer to a call
 abbrev pub IsCauseOf : Called → ShelfTells → ShelfTells → Answer → Type 0
 IsCauseOf call old new (ReadFault name) = FailsToRead (inputs_of call) old new name
 IsCauseOf call old new (TooLong i) = PassesLimit (inputs_of call) old new i
@@ -364,7 +364,7 @@ IsCauseOf call old new (WriteFault name) =
     × (FailsToKeep call t s new name ⊎ LosesMinimum call t s new name)
 IsCauseOf call old new a = (t : Texts) × (s : ShelfTells) × GaveAll (inputs_of call) old s t × IsAnswerTo call t a × DoesWith call t a s new
 
--- why an answer is given to words
+-- the cause of an answer to words
 abbrev pub IsCause : List (List ℕ) → ShelfTells → ShelfTells → Answer → Type 0
 IsCause words old new Usage = (call_of words ≡ None) × (new ≡ old)
 IsCause words old new NoMemory = (new ≡ old) ⊎ IsSomeAnd (call_of words) (λ call. IsCauseOf call old new NoMemory)

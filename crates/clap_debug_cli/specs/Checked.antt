@@ -54,10 +54,9 @@ AreExcluded None model code log = IsImpossible (buffer_of model) code log
 AreExcluded (Some most) model code log =
     (moves : List Move) → Reproduces (buffer_of model) code log moves → most < switches (buffer_of model) code moves
 
--- The files have their forms, and the log isn't of another program and is within the limits. The
--- refutation, whoever made it, may name a number of switches. It is closed on the log's clauses
--- with at most that many, under its memory model, and no moves with at most that many reproduce the
--- log.
+-- The files have their forms, and the log is of this program and within the limits. The refutation
+-- may come from any tool and may name a number of switches. It is closed on the log's clauses with
+-- at most that many, under its memory model, and no moves with at most that many reproduce the log.
 pub record IsRefuted (program log refutation : List ℕ) (most : Option ℕ) : Type 0 where
   pub code : Code
   pub run : StoredLog

@@ -4,7 +4,7 @@ use Rattle.store_buffers.specs.Buffers.{buffer_of}
 use Rattle.run_log.specs.Logs.{Log}
 use Rattle.memory_models.specs.declared.model.Model.{Model}
 use Rattle.tc_code.specs.Code.{Code}
-use Rattle.tc_io.specs.Outside.{Files, ShelfTells, Kept, KeptPart, closed, put_under}
+use Rattle.tc_io.specs.Outside.{Files, ShelfTells, Kept, KeptPart, without_reading, put_under}
 use Rattle.run_log.specs.Logs.{StoredLog}
 use Rattle.path_log.specs.Texts.{IsLog, IsOfOther}
 use Rattle.refute_check.specs.Laws.{IsWhole}
@@ -25,7 +25,7 @@ use Rattle.clap_debug_cli.specs.declared.answer.Minimum.{Minimum}
 abbrev pub minimum : Model → ℕ → Least → Minimum
 minimum model budget result = record { model = model; budget = budget; least = result }
 
--- the result that `solve` would have had
+-- the result as `solve` without `--least` gives it
 abbrev pub found_in : Least → Found
 found_in (least.Found schedule _ _) = found.Found schedule
 found_in (least.Impossible lines) = found.Impossible lines
@@ -78,7 +78,7 @@ abbrev pub KeptIfAny : Option (List ℕ) → ShelfTells → ShelfTells → (name
 KeptIfAny None old new name = new ≡ old
 KeptIfAny (Some text) old new name = Kept old new name text
 
--- what is held after that
+-- the files after that
 abbrev pub put_if_any : (name : List ℕ) → Option (List ℕ) → Option Files → Option Files
 put_if_any name None held = held
 put_if_any name (Some text) held = put_under name text held
@@ -88,13 +88,13 @@ module _ (out refutation : List ℕ) (x : Minimum) where
   abbrev pub KeptBoth : ShelfTells → ShelfTells → Type 0
   KeptBoth old new = (s : ShelfTells) × Kept old s out (first_text x) × KeptIfAny (second_text x) s new refutation
 
-  -- what is held after both texts were kept
+  -- the files after both texts were kept
   abbrev pub put_both : Option Files → Option Files
   put_both held = put_if_any refutation (second_text x) (put_under out (first_text x) held)
 
   -- the first text was kept, and then there was no memory
   abbrev pub KeptFirst : ShelfTells → ShelfTells → Type 0
-  KeptFirst old new = (s : ShelfTells) × Kept old s out (first_text x) × (new ≡ closed s)
+  KeptFirst old new = (s : ShelfTells) × Kept old s out (first_text x) × (new ≡ without_reading s)
 
   -- the first text was kept, and then keeping the second failed
   abbrev pub LostSecond : ShelfTells → ShelfTells → Type 0

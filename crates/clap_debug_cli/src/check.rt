@@ -113,7 +113,7 @@ fn read_over<'a, H: Shelf>(alloc: Global, shelf: &mut H, name: &'a str) -> Resul
             Err(PieceFault::Failed) => return Err(Answer::ReadFault(FileName::new(name))),
         }
     }
-    // There is no memory that has so many pieces.
+    // No memory holds more pieces than the loop takes.
     Err(Answer::NoMemory)
 }
 
@@ -168,7 +168,7 @@ impl<'a> Incoming<'a> {
                 Err(PieceFault::Failed) => return Err(Answer::ReadFault(FileName::new(name))),
             }
         }
-        // There is no memory that has so many pieces.
+        // No memory holds more pieces than the loop takes.
         Err(Answer::NoMemory)
     }
 

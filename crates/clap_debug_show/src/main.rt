@@ -7,10 +7,10 @@ use std::io::{self, ErrorKind};
 use std::process::ExitCode;
 use tc_io::files::{FileShelf, StdSink};
 
-/// The status where the words find no memory.
+/// The status if there is no memory for the words.
 const NO_MEMORY: u8 = 9;
 
-/// The words. Where one is no text there are none, which is answered by the usage.
+/// The words. If one of them isn't text there are none, which is answered with the usage.
 fn words_of(rt: &(impl Env + AllocGlobal)) -> io::Result<Vec<String>> {
     match env::args(rt) {
         Ok(words) => Ok(words.collect(rt.alloc())?),

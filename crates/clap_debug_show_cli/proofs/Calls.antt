@@ -1,4 +1,4 @@
--- From what the frame says of a command to what every call answers.
+-- From the theorem of the frame to the answers of every call.
 use Rattle.std.proofs.Common.{◌≡◌, ◌≢◌, ◌∙◌, ◌⊎◌, inl, inr, ap, sym, subst, arith, ℕ, List, [], ◌∷◌, Option, Some, None, IfSome, string_bytes}
 use Rattle.std.specs.Borrow.{Bor}
 use Rattle.std.specs.Option.{IsSomeAnd}
@@ -24,7 +24,7 @@ use Rattle.clap_debug_show_cli.specs.declared.show.Showed.TheVariants.{Refused, 
 use Rattle.clap_debug_show_cli.specs.declared.shown.Shown.{Shown as AnyShown}
 use Rattle.clap_debug_show_cli.proofs.OneAnswer.{only_help, only_shown}
 
--- what the words ask for
+-- the call that the words ask for
 some_and : (P : Asked → Type 0) (o : Option Asked) (call : Asked) → o ≡ Some call → P call → IsSomeAnd o P
 some_and P o call taken p = subst (λ o. IsSomeAnd o P) (sym taken) p
 
@@ -38,7 +38,7 @@ if_any : (P : Asked → Type 0) (o : Option Asked) → ((call : Asked) → P cal
 if_any P None p = tt
 if_any P (Some call) p = p call
 
--- of files that are told
+-- an implication for all files holds for the known files of a shelf, if they are known
 for_told : {P Q : Files → Type 0} (o : Option Files) → ((files : Files) → P files → Q files) → IfSome o P → IfSome o Q
 for_told None h p = tt
 for_told (Some files) h p = h files p
@@ -62,7 +62,7 @@ no_memory_status status j k (inl h) = inr h.0
 no_memory_status status j k (inr h) = inl h.0
 
 module _ (call : Shows) where
-  -- the page that comes of two files is asked for, and text where none is
+  -- a page is made only if one is asked for, and a text only if none is
   page_asked : (shown : AnyShown) (own : Bor (List ℕ)) (page : _) (t : Texts) → ShowsOf call t (Page shown own page) → call.page ≡ Some own.now
   page_asked shown own page [] comes = absurd comes
   page_asked shown own page (program ∷ []) comes = absurd comes
@@ -76,7 +76,7 @@ module _ (call : Shows) where
   none_asked shown (program ∷ file ∷ more ∷ ts) comes = absurd comes
 
   module _ (old new : ShelfTells) where
-    -- what is held afterwards is as before, or the page is held too
+    -- the files are as before, or have the page too
     some_of : (x : Showed) → Finds (show_of call) old x (λ s. HoldsFirst (pages_of x) old.held new.held)
         → (new.held ≡ old.held) ⊎ ((name : List ℕ) × Holds call name old new)
     some_of (Refused r) found = inl found.4
@@ -93,7 +93,7 @@ module _ (call : Shows) where
     some_left (inl same) = inl same
     some_left (inr some) = some_of some.0 some.1
 
-    -- what was lost is the page
+    -- the failed keep is that of the page
     lost_of : (x : Showed) (name : List ℕ) → Finds (show_of call) old x (λ s. FailsToKeep (pages_of x) s new name) → Loses call name old new
     lost_of (Refused r) name found = absurd found.4
     lost_of (Text shown) name found = absurd found.4
@@ -122,7 +122,7 @@ module _ (call : Shows) where
     left_own name asked (inl same) = inl same
     left_own name asked (inr h) = inr (own_page h.0 name asked h.1)
 
-    -- an answer of status 0 keeps the page where one is asked for
+    -- an answer with status 0 keeps the page if one is asked for
     kept_of : (a : Answer Showed) (status : ℕ) (j k : SinkTells) (name : List ℕ) → call.page ≡ Some name → status ≡ 0
         → IsCause (show_of call) old new a → Puts (show_of call) a status j k → new.held ≡ put_all (kept_by (show_of call) a) old.held
         → Holds call name old new
@@ -137,7 +137,7 @@ module _ (call : Shows) where
     kept_of (WriteFault n) status j k name asked zero cause puts held = absurd (omega (arith, zero, puts.2))
     kept_of NoMemory status j k name asked zero cause puts held = absurd (omega (arith, zero, puts.2))
 
-    -- and one of another status nothing
+    -- an answer with another status keeps nothing
     none_of : (a : Answer Showed) (status : ℕ) (j k : SinkTells) → status ≢ 0 → Puts (show_of call) a status j k
         → new.held ≡ put_all (kept_by (show_of call) a) old.held → new.held ≡ old.held
     none_of (Gives (Refused r)) status j k some puts held = held
@@ -180,7 +180,7 @@ module _ (call : Shows) where
           | inr lost ↦ inr (inr (own_loss lost.0 name asked (lost_page lost.0 lost.1)))
         ]
 
--- help keeps nothing, and so loses nothing
+-- help keeps nothing, so it loses nothing
 module _ (program : List ℕ) (old new : ShelfTells) where
   none_left : HoldsSome (help_of program) old new → new.held ≡ old.held
   none_left (inl same) = same
@@ -192,12 +192,12 @@ module _ (program : List ℕ) (old new : ShelfTells) where
     | inr lost ↦ absurd lost.2.1.4
   ]
 
--- a shelf that is as before
+-- an unchanged shelf
 module _ (old new : ShelfTells) (same : new ≡ old) where
   same_held : new.held ≡ old.held
   same_held = ap (λ (x : ShelfTells). x.held) same
 
-  -- leaves what it should with a status that isn't 0
+  -- an unchanged shelf is right for a status other than 0
   same_left : (status : ℕ) → status ≢ 0 → (call : Asked) → Leaves call status old new
   same_left status some (Help name) = same_held
   same_left status some (Show call) = record {

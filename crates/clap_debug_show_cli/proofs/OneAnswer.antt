@@ -1,4 +1,4 @@
--- What two files hold has one answer, but for how what is shown is put in words.
+-- Two files have one answer, except for the wording of what is shown.
 use Rattle.std.proofs.Common.{◌≡◌, ◌∙◌, ◌≤◌, ap, ap₂, sym, subst, refl, arith, ℕ, List, [], ◌∷◌, length, true, false, true≢false, Option, Some, None}
 use Rattle.std.specs.Prelude.{◌++◌}
 use Rattle.std.proofs.lemmas.Option.{none-some}
@@ -87,7 +87,7 @@ log_begins log file is = ap begins_as_log is ∙ head_begins log.digest log.log.
 schedule_begins : (model : Model) (moves : List Move) (file : List ℕ) → file ≡ schedule_text model moves → begins_as_log file ≡ false
 schedule_begins model moves file is = ap begins_as_log is
 
--- a log whose ways are shown isn't refused
+-- a log whose paths are shown isn't refused
 stored_or_shown : (code : Code) (program : List ℕ) (log : StoredLog) (a : Refusal) → (IsOfOther program log → ⊥) → length log.log.threads ≤ limit_of Threads
     → Fits code log.log → IsStoredRefusal code program log a → ⊥
 stored_or_shown code program log OtherProgram recorded few fits h = recorded h
@@ -96,7 +96,7 @@ stored_or_shown code program log (Unfit n m) recorded few fits h = none-some m (
 stored_or_shown code program log _ recorded few fits h = h.1
 
 module _ (code : Code) (program file : List ℕ) where
-  -- nor is a file that shows something
+  -- a file that is shown isn't refused
   shown_or_refused : (story : Story) (a : Refusal) → IsStory code program file story → IsFileRefusal code program file a → ⊥
   shown_or_refused (Moves schedule told) (ScheduleRefused n) f g =
       schedules.schedule_or_fault file schedule.model schedule.moves.items n schedule.has_text f.0 g.1
@@ -119,14 +119,14 @@ module _ (program file : List ℕ) where
       shown_or_refused shown.code program file shown.story a f.story
       (subst (λ c. IsFileRefusal c program file a) (one_code program code shown.code is f.code) g)
 
-  -- of two refusals
+  -- two refusals are the same
   one_refusal_of : (a b : Refusal) → IsRefusalOf program file a → IsRefusalOf program file b → a ≡ b
   one_refusal_of (ProgramRefused r) (ProgramRefused q) f g = ap (λ x. ProgramRefused x) (one_refusal program r q f g)
   one_refusal_of (ProgramRefused r) _ f g = absurd (refused_no_code program r g.0 f g.1)
   one_refusal_of a (ProgramRefused q) f g = absurd (refused_no_code program q f.0 g f.1)
   one_refusal_of a b f g = one_refused a b f.0 g.0 f.1 g.1 f.2 g.2
 
-  -- of a refusal and something that is shown
+  -- there isn't both a refusal and something shown
   refused_or_shown : (shown : AnyShown) (a : Refusal) → IsShown program file shown → IsRefusalOf program file a → ⊥
   refused_or_shown shown (ProgramRefused r) f g = refused_no_code program r shown.code g f.code
   refused_or_shown shown a f g = no_refusal shown a g.0 f g.1 g.2
@@ -135,7 +135,7 @@ module _ (call : Shows) where
   said_itself : (a : Showed) → IsSaidAs (show_of call) a a
   said_itself a = record { text = λ text h. h; status = refl }
 
-  -- what comes of two files is said in one way
+  -- the outcome for two files is put in one way
   one_showing : (program file : List ℕ) (a b : Showed) → IsShowing call program file a → IsShowing call program file b → IsSaidAs (show_of call) a b
   one_showing program file (Refused r) (Refused q) f g =
       subst (λ x. IsSaidAs (show_of call) (Refused r) (Refused x)) (one_refusal_of program file r q f g) (said_itself (Refused r))

@@ -1,4 +1,4 @@
--- The texts and the statuses of what comes of a call.
+-- The texts and statuses of outcomes.
 use Rattle.std.specs.Prelude.{◌≡◌, ℕ, List, ◌++◌, codes}
 use Rattle.std.specs.Fmt.{decimal}
 use Rattle.tc_base.specs.Names.{name_text}
@@ -25,16 +25,16 @@ abbrev pub what_text : What → List ℕ
 what_text LogBytes = codes "log-bytes"
 what_text Threads = codes "threads"
 
--- there are so many of these, which are too many
+-- the log has this number of these, which is above the limit
 abbrev pub over_line : What → (number : ℕ) → List ℕ
 over_line what number =
     codes "limit " ++ (what_text what ++ (codes " " ++ (decimal number ++ (codes " of " ++ (decimal (limit_of what) ++ codes "\n")))))
 
--- a program's text is none
+-- the line for a program that was refused
 abbrev pub program_line : TextFault → List ℕ
 program_line fault = codes "program refused: " ++ (text_fault_text fault ++ codes "\n")
 
--- the line that says a refusal
+-- the line for a refusal
 abbrev pub refusal_line : Refusal → List ℕ
 refusal_line (Over what number) = over_line what number
 refusal_line (ProgramRefused fault) = program_line fault
@@ -43,7 +43,7 @@ refusal_line OtherProgram = codes "log refused: other program\n"
 refusal_line (Unfit name misfit) = codes "log refused: " ++ (misfit_text misfit ++ (codes " " ++ (name_text name ++ codes "\n")))
 refusal_line (ScheduleRefused line) = codes "schedule refused: line " ++ (decimal line ++ codes "\n")
 
--- its status
+-- the status of a refusal
 abbrev pub refusal_status : Refusal → Status
 refusal_status (Over _ _) = status.OverLimit
 refusal_status (ProgramRefused _) = status.ProgramRefused
@@ -52,7 +52,7 @@ refusal_status OtherProgram = status.LogRefused
 refusal_status (Unfit _ _) = status.LogRefused
 refusal_status (ScheduleRefused _) = status.InputRefused
 
--- the text of what is shown is any, since no clause says how it is put in words
+-- the text of a shown file may be any text: no clause says how it is worded
 abbrev pub IsShowText : Showed → List ℕ → Type 0
 IsShowText (Refused refusal) text = text ≡ refusal_line refusal
 IsShowText (Text _) text = Unit {0}
@@ -63,7 +63,7 @@ show_status (Refused refusal) = refusal_status refusal
 show_status (Text _) = status.Done
 show_status (Page _ _ _) = status.Done
 
--- so is that of help; why a text is no program is said after the line of its refusal
+-- the text of a description may be any text; an explanation begins with the line of the refusal
 abbrev pub IsHelpText : Helped → List ℕ → Type 0
 IsHelpText (Explained why) text = (more : List ℕ) × (text ≡ program_line why.fault ++ more)
 IsHelpText (Described _) text = Unit {0}

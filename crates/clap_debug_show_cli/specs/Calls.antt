@@ -1,4 +1,4 @@
--- What words ask for.
+-- The call that words ask for.
 use Rattle.std.specs.Prelude.{Bool, true, false, List, [], ◌∷◌, Option, Some, None, codes, bytes_eq, unwrap_or, if◌then◌else◌, option_map}
 use Rattle.std.specs.Option.{option_map_or}
 use Rattle.std.specs.Borrow.{Bor}
@@ -10,27 +10,27 @@ use Rattle.clap_debug_show_cli.specs.declared.words.Call.{Call}
 use Rattle.clap_debug_show_cli.specs.declared.words.Call.TheVariants as call
 use Rattle.clap_debug_show_cli.specs.declared.words.Showing.{Showing}
 
--- to show this file of a program, as a page that is kept under a name, or as text, move by move or statement by statement
+-- shows this file of a program, as a page kept under a name or as text, by moves or by statements
 pub record Shows : Type 0 where
   pub program : Text
   pub file : Text
   pub page : Option Text
   pub moves : Bool
 
--- what is asked for: to say what is wrong with a program or what it has, or to show a file of it
+-- a call asks to explain or describe a program, or to show a file of it
 pub data Asked : Type 0 where
   Help : (program : Text) → Asked
   Show : (call : Shows) → Asked
 
--- a required positional
+-- a required positional argument
 abbrev pub positional : Text → Rule
 positional name = record (new_rule name) { required = true }
 
--- an option with a value
+-- an option that takes a value
 abbrev pub option : Text → Rule
 option name = record (new_rule name) { long = Some name }
 
--- an option without one
+-- an option without a value
 abbrev pub flag : Text → Rule
 flag name = record (option name) { action = Some SetTrue }
 
@@ -47,15 +47,15 @@ command_line = record (new_app (codes "clap_debug_show")) {
   };
 }
 
--- whether `clap` finds no fault in the words
+-- whether `clap` accepts the words
 abbrev pub words_taken : List Text → Bool
 words_taken words = is_empty (fault_of command_line words)
 
--- the text that stands for a positional
+-- the value of a positional argument
 abbrev pub text_of : Text → List Row → Text
 text_of id rows = unwrap_or (first_of id rows) []
 
--- whether a flag's value is that of one that is given
+-- whether the value of a flag says that the flag is given
 abbrev pub is_true : Option Text → Bool
 is_true word = option_map_or (λ t. bytes_eq t (codes "true")) word false
 
@@ -63,17 +63,17 @@ is_true word = option_map_or (λ t. bytes_eq t (codes "true")) word false
 abbrev pub is_given : Text → List Row → Bool
 is_given id rows = is_true (first_of id rows)
 
--- with a file that is shown, and else help with the program, which takes no option
+-- a call with a file shows it; a call with no file and no option asks for help with the program
 abbrev pub asked : (program : Text) → (file page : Option Text) → (moves : Bool) → Option Asked
 asked program (Some file) page moves = Some (Show (record { program = program; file = file; page = page; moves = moves }))
 asked program None None false = Some (Help program)
 asked program None _ _ = None
 
--- what matches say
+-- the call that matched words ask for
 abbrev pub call_in : List Row → Option Asked
 call_in rows = asked (text_of (codes "program") rows) (first_of (codes "file") rows) (first_of (codes "html") rows) (is_given (codes "moves") rows)
 
--- what the words ask for, where they are taken
+-- the call that the words ask for, if they are accepted
 abbrev pub call_of : List Text → Option Asked
 call_of words = if words_taken words then call_in (matches_of command_line words) else None
 

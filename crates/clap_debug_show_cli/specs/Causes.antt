@@ -1,4 +1,4 @@
--- What comes of the bytes of the inputs.
+-- The outcome of a call, by the bytes of its inputs.
 use Rattle.std.specs.Prelude.{◌≡◌, ℕ, ◌<◌, ◌≤◌, true, false, List, [], ◌∷◌, length, Some, None}
 use Rattle.run_log.specs.Logs.{Log}
 use Rattle.tc_code.specs.Code.{Code}
@@ -22,7 +22,7 @@ use Rattle.clap_debug_show_cli.specs.declared.show.Showed.TheVariants.{Refused, 
 use Rattle.clap_debug_show_cli.specs.declared.help.Helped.{Helped}
 use Rattle.clap_debug_show_cli.specs.declared.help.Helped.TheVariants.{Explained, Described}
 
--- why a log shows nothing of the code of a program: the first of these tests that it fails is told
+-- the refusal names the first test that the log fails against the code of a program
 abbrev pub IsThreadsRefusal : Code → Log → Refusal → Type 0
 IsThreadsRefusal code log (Over Threads number) = (number ≡ length log.threads) × (limit_of Threads < number)
 IsThreadsRefusal code log (Unfit name misfit) = (length log.threads ≤ limit_of Threads) × IsFirst code log name misfit
@@ -45,27 +45,27 @@ abbrev pub IsFileRefusal : Code → (program file : List ℕ) → Refusal → Ty
 IsFileRefusal code program file (ScheduleRefused line) = (begins_as_log file ≡ false) × ScheduleBreaksAt file line
 IsFileRefusal code program file r = (begins_as_log file ≡ true) × IsLogRefusal code program file r
 
--- why a program and a file show nothing: of the two that isn't of its form the first is told
+-- a faulty program is reported before a faulty file
 abbrev pub IsRefusalOf : (program file : List ℕ) → Refusal → Type 0
 IsRefusalOf program file (ProgramRefused fault) = IsRefusal program fault
 IsRefusalOf program file r = (code : Code) × IsCodeOf program code × IsFileRefusal code program file r
 
--- what comes of a program and a file: of what they show a page, where one is asked for, and else the text
+-- the outcome for a program and a file: a refusal, the text, or the page if one is asked for
 abbrev pub IsShowing : Shows → (program file : List ℕ) → Showed → Type 0
 IsShowing call program file (Refused refusal) = IsRefusalOf program file refusal
 IsShowing call program file (Text shown) = (call.page ≡ None) × IsShown program file shown
 IsShowing call program file (Page shown name page) = (call.page ≡ Some name.now) × IsShown program file shown
 
--- why a text is no program, and what could stand where it stops being one
+-- why a text isn't a program, and the tokens possible where it stops being one
 abbrev pub IsExplained : (program : List ℕ) → Why → Type 0
 IsExplained program why = IsRefusal program why.fault × Tells program why.fault why.stuck
 
--- what is said of a text: why it is no program, or what the program has
+-- help with a text: why it isn't a program, or what the program has
 abbrev pub IsHelpTo : (program : List ℕ) → Helped → Type 0
 IsHelpTo program (Explained why) = IsExplained program why
 IsHelpTo program (Described has) = IsCodeOf program has.code
 
--- the same of the bytes of inputs
+-- the same for the bytes of inputs
 abbrev pub ShowsOf : Shows → Texts → Showed → Type 0
 ShowsOf call (program ∷ file ∷ []) showed = IsShowing call program file showed
 ShowsOf call _ showed = ⊥

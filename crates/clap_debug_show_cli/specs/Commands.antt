@@ -11,7 +11,7 @@ use Rattle.clap_debug_show_cli.specs.declared.show.Showed.{Showed}
 use Rattle.clap_debug_show_cli.specs.declared.show.Showed.TheVariants.{Page}
 use Rattle.clap_debug_show_cli.specs.declared.help.Helped.{Helped}
 
--- help with a program over these inputs
+-- help with a program, given these inputs
 abbrev pub help_over : List Wanted → Meaning Helped
 help_over inputs = record {
   inputs = inputs;
@@ -25,12 +25,12 @@ help_over inputs = record {
 abbrev pub help_of : (name : List ℕ) → Meaning Helped
 help_of name = help_over (Whole program_limit name ∷ [])
 
--- what is kept: the page
+-- the page, if there is one, is kept
 abbrev pub pages_of : Showed → List Keep
 pages_of (Page _ name page) = record { name = name.now; bytes = string_bytes page } ∷ []
 pages_of _ = []
 
--- a call that shows a file, over these inputs
+-- a call that shows a file, given these inputs
 abbrev pub show_over : Shows → List Wanted → Meaning Showed
 show_over call inputs = record {
   inputs = inputs;

@@ -18,22 +18,22 @@ use Rattle.clap_debug_show_cli.specs.declared.shown.Shown.{Shown}
 use Rattle.clap_debug_show_cli.specs.declared.shown.Story.{Story}
 use Rattle.clap_debug_show_cli.specs.declared.shown.Story.TheVariants.{Moves, Ways}
 
--- a second file that begins with `CLPL` is to be a log, and any other a schedule
+-- a file that begins with `CLPL` is read as a log, and any other as a schedule
 abbrev pub begins_as_log : List ℕ → Bool
 begins_as_log file = starts_with nat_eq file (codes "CLPL")
 
--- the rows are the history of the schedule's moves in the code, under the memory model that it names, as far as they can be made, and so it ends
+-- the rows are the history of the schedule's moves as far as they can be made, with this end
 abbrev pub IsTold : Code → Schedule → Told → Type 0
 IsTold code schedule told = AreTold (buffer_of schedule.model) code schedule.moves.items told.rows.items told.end
 
--- the bytes are those of a log that isn't too long, nor another program's, nor has too many threads
+-- the bytes are a short enough log of this program, with few enough threads
 pub record IsLogOf (program bytes : List ℕ) (log : StoredLog) : Type 0 where
   pub is_log : IsLog bytes log
   pub short : length bytes ≤ limit_of LogBytes
   pub few : length log.log.threads ≤ limit_of Threads
   pub recorded : IsOfOther program log → ⊥
 
--- of a schedule what its moves did, and of a log the ways that its threads went in the code
+-- a schedule shows what its moves did, and a log shows the paths of its threads in the code
 abbrev pub IsStory : Code → (program file : List ℕ) → Story → Type 0
 IsStory code program file (Moves schedule told) = (file ≡ schedule_text schedule.model schedule.moves.items) × IsTold code schedule told
 IsStory code program file (Ways log paths) = IsLogOf program file log × Fits code log.log × (paths ≡ paths_of code log.log)

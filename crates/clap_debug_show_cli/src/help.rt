@@ -1,4 +1,4 @@
-//! Help with the text of a program: why it is none, or what the program has.
+//! Help with the text of a program: why it isn't a program, or what the program has.
 ghost use Rattle.std.specs.Prelude.{◌≡◌, ◌≤◌, ◌++◌, ℕ, List, length, IfErr, IfOk};
 ghost use Rattle.tc_limits.specs.declared.limits.TheConstants.{PROGRAM_BYTES};
 ghost use Rattle.tc_compile.specs.Programs.{IsCodeOf, IsRefusal, IsWhyNoCode};
@@ -12,7 +12,7 @@ ghost use Rattle.clap_debug_show_cli.specs.helpers.Meanings.{help_meaning};
 use crate::asked::Help;
 use crate::limits::program_limit;
 use crate::refusal::program_line;
-use command_frame::{Command, Keep, Status, Whole};
+use command_frame::{Command, Keep, Status, Whole, Work};
 use next_tokens::{Stuck, stuck_of};
 use program_help::{describe, explain};
 use std::alloc::{AllocError, Global};
@@ -22,28 +22,28 @@ use tc_lower::lower;
 use tc_parser::{TextFault, read};
 use tc_tree::Tree;
 
-/// Why a text is no program.
+/// Why a text isn't a program.
 #[derive(Drop)]
 pub(crate) struct Explained {
     pub(crate) fault: TextFault,
-    /// What could stand at the fault, where it is one of syntax.
+    /// The tokens possible at the fault, if it is a syntax fault.
     pub(crate) stuck: Option<Stuck>,
-    /// What is said of both.
+    /// The words about both.
     pub(crate) words: String,
 }
 
-/// What a program has.
+/// The contents of a program.
 #[derive(Drop)]
 pub(crate) struct Described {
     pub(crate) code: Code,
-    /// What is said of it.
+    /// The words about it.
     pub(crate) words: String,
 }
 
-/// What is said of the text of a program.
+/// Help with the text of a program.
 #[derive(Drop)]
 pub(crate) enum Helped {
-    /// Why the text is no program.
+    /// Why the text isn't a program.
     Explained(Explained),
     /// What the program has.
     Described(Described),
@@ -63,23 +63,9 @@ impl<'a> Help<'a> {
 }
 
 impl<'a> Command for Help<'a> {
-    type Inputs = Whole<'a>;
-
     type Outcome = Helped;
 
     ghost meaning = { help_meaning };
-
-    fn inputs(&self) -> &Whole<'a> {
-        &self.program
-    }
-
-    fn work(&self, alloc: Global, text: &Vec<u8>) -> Result<Helped, AllocError> {
-        match describe_text(alloc, text) {
-            Ok(described) => Ok(Helped::Described(described)),
-            Err(CompileFault::Refused(fault)) => explain_fault(alloc, text, fault),
-            Err(CompileFault::Memory) => Err(AllocError),
-        }
-    }
 
     fn keeps<'n, 'b>(
         &'n self,
@@ -104,6 +90,22 @@ impl<'a> Command for Help<'a> {
     }
 }
 
+impl<'a> Work for Help<'a> {
+    type Inputs = Whole<'a>;
+
+    fn inputs(&self) -> &Whole<'a> {
+        &self.program
+    }
+
+    fn work(&self, alloc: Global, text: &Vec<u8>) -> Result<Helped, AllocError> {
+        match describe_text(alloc, text) {
+            Ok(described) => Ok(Helped::Described(described)),
+            Err(CompileFault::Refused(fault)) => explain_fault(alloc, text, fault),
+            Err(CompileFault::Memory) => Err(AllocError),
+        }
+    }
+}
+
 /// Why a text is no program: the line that says it, and what is said of it.
 fn explained_text(alloc: Global, why: &Explained) -> Result<Vec<u8>, AllocError>
     ensures { IfOk result (λ text. (more : List ℕ) × (text.items ≡ program_line why.now.fault ++ more)) }
@@ -113,7 +115,7 @@ fn explained_text(alloc: Global, why: &Explained) -> Result<Vec<u8>, AllocError>
     Ok(text)
 }
 
-/// What the program of a text has.
+/// The contents of the program of a text.
 fn describe_text(alloc: Global, text: &[u8]) -> Result<Described, CompileFault>
     requires { length text.now ≤ PROGRAM_BYTES }
     ensures found { IfOk result (λ has. IsCodeOf text.now has.code) }
@@ -124,7 +126,7 @@ fn describe_text(alloc: Global, text: &[u8]) -> Result<Described, CompileFault>
     Ok(Described { code, words })
 }
 
-/// Why a text with this fault is no program.
+/// Why a text with this fault isn't a program.
 fn explain_fault(alloc: Global, text: &[u8], fault: TextFault) -> Result<Helped, AllocError>
     requires size { length text.now ≤ PROGRAM_BYTES }
     requires refused { IsRefusal text.now fault }
@@ -139,7 +141,7 @@ fn explain_fault(alloc: Global, text: &[u8], fault: TextFault) -> Result<Helped,
     }))
 }
 
-/// The program that a text is, and its code.
+/// The program of a text, and its code.
 pub(crate) fn read_code(alloc: Global, text: &[u8]) -> Result<(Tree<'_>, Code), CompileFault>
     requires { length text.now ≤ PROGRAM_BYTES }
     ensures found { IfOk result (λ both. IsCodeOf text.now both.1) }

@@ -1,5 +1,5 @@
-//! The top call of the program that shows a run: from the words and the files that come in to the text or the page that goes
-//! out, and the status.
+//! The top call of the program that shows a run: from the words and the input files to the text or
+//! the page, and the status.
 #![tactic(auto)]
 
 ghost use Rattle.std.specs.Prelude.{IfSome, map, string_bytes};
@@ -32,11 +32,13 @@ const USAGE: &str = concat!(
     "usage: clap_debug_show PROGRAM\n",
 );
 
-/// Shows the schedule or the log that the words name, or helps with the program that they name alone, over the files of the
-/// shelf: puts a text into the sink, or keeps a page, and gives the status that the program ends with.
+/// Shows the schedule or the log that the words name, or helps with the program if they name only
+/// that. Reads the files from the shelf, puts a text into the sink or keeps a page, and returns the
+/// status of the program.
 ///
-/// The first of the words is the program's own name. [`show_rows::tell`] and [`path_walk::walk`] say what is shown, and
-/// [`next_tokens::stuck_of`] what could stand where a text stops being a program; no clause says how it is put in words.
+/// The first word is the program's own name. [`show_rows::tell`] and [`path_walk::walk`] define
+/// what is shown, and [`next_tokens::stuck_of`] the tokens possible where a text stops being a
+/// program; no clause says how it is worded.
 pub fn clap_debug_show<H: Shelf, K: Sink>(
     alloc: Global,
     words: &[String],

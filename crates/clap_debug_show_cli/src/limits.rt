@@ -1,4 +1,4 @@
-//! Limits, and what they are called.
+//! Limits, and their names.
 ghost use Rattle.std.specs.Prelude.{◌≡◌, codes};
 ghost use Rattle.clap_debug_show_cli.specs.Answers.{what_text};
 ghost use Rattle.clap_debug_show_cli.specs.Limits.{limit_of, program_limit, file_limit};
@@ -7,7 +7,7 @@ ghost use Rattle.command_frame.specs.helpers.Failures.{plain_limit};
 use command_frame::Limit;
 use tc_limits::limits::{LOG_BYTES, PROGRAM_BYTES, SCHEDULE_BYTES, THREADS};
 
-/// What a log may have only so many of.
+/// A count that has a limit.
 #[derive(Clone, Copy)]
 pub(crate) enum What {
     LogBytes,
@@ -15,7 +15,7 @@ pub(crate) enum What {
 }
 
 impl What {
-    /// How many there may be.
+    /// The limit.
     pub(crate) fn limit(self) -> u64
         ensures { result ≡ limit_of self }
     {
@@ -25,7 +25,7 @@ impl What {
         }
     }
 
-    /// What they are called.
+    /// The name.
     pub(crate) fn text(self) -> &'static str
         ensures { result.now ≡ what_text self }
     {

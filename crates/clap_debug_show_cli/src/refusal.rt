@@ -1,4 +1,4 @@
-//! Refusals of inputs: what they are, and the line and the status of each.
+//! Refusals of inputs, with the line and the status of each.
 ghost use Rattle.std.specs.Prelude.{◌≡◌, IfOk, string_bytes};
 ghost use Rattle.clap_debug_show_cli.specs.Answers.{over_line, program_line, refusal_line, refusal_status};
 
@@ -12,12 +12,12 @@ use tc_base::ThreadName;
 use tc_compile::CompileFault;
 use tc_parser::TextFault;
 
-/// Why an input is refused.
+/// Why an input was refused.
 #[derive(Drop)]
 pub(crate) enum Refusal {
-    /// The log has so many of these, which are too many.
+    /// The log has this number of these, which is above the limit.
     Over(What, u64),
-    /// The first file is no program.
+    /// The first file isn't a program.
     ProgramRefused(TextFault),
     /// The field of the log at this offset is the first that is cut short or breaks its rule.
     LogBroken(usize),
@@ -25,7 +25,7 @@ pub(crate) enum Refusal {
     OtherProgram,
     /// The thread of this name in the log doesn't fit the program.
     Unfit(ThreadName, Misfit),
-    /// The second file is no schedule, from the line of this number on.
+    /// The second file isn't a schedule, from the line with this number on.
     ScheduleRefused(u32),
 }
 
@@ -33,7 +33,7 @@ pub(crate) enum Refusal {
 #[derive(Drop)]
 pub(crate) enum Fault {
     Refused(Refusal),
-    /// There is no memory.
+    /// Memory ran out.
     Memory,
 }
 
@@ -105,7 +105,7 @@ impl From<ScheduleFault> for Fault {
 }
 
 impl Refusal {
-    /// The line that says it.
+    /// The line for a refusal.
     pub(crate) fn line(&self, alloc: Global) -> Result<String, AllocError>
         ensures { IfOk result (λ text. string_bytes text ≡ refusal_line self.now) }
     {
@@ -121,7 +121,7 @@ impl Refusal {
         }
     }
 
-    /// Its status.
+    /// The status of a refusal.
     pub(crate) fn status(&self) -> Status
         ensures { result ≡ refusal_status self.now }
     {
@@ -136,7 +136,7 @@ impl Refusal {
     }
 }
 
-/// The line that a text is no program.
+/// The line for a text that isn't a program.
 pub(crate) fn program_line(alloc: Global, fault: &TextFault) -> Result<String, AllocError>
     ensures { IfOk result (λ text. string_bytes text ≡ program_line fault.now) }
 {

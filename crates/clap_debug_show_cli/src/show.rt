@@ -12,17 +12,17 @@ use crate::limits::{file_limit, program_limit};
 use crate::refusal::{Fault, Refusal};
 use crate::shown::{Shown, read_shown};
 use crate::words::Showing;
-use command_frame::{Command, Keep, Status, Whole};
+use command_frame::{Command, Keep, Status, Whole, Work};
 use std::alloc::{AllocError, Global};
 
-/// What comes of a program and a file.
+/// The outcome for a program and a file.
 #[derive(Drop)]
 pub(crate) enum Showed<'a> {
-    /// One of the two is refused.
+    /// One of the two was refused.
     Refused(Refusal),
-    /// This is to be shown as text.
+    /// To be shown as text.
     Text(Shown<'a>),
-    /// This is to be kept under a name as this page.
+    /// To be kept under this name as this page.
     Page(Shown<'a>, &'a str, String),
 }
 
@@ -45,7 +45,7 @@ impl<'a> Show<'a> {
         }
     }
 
-    /// What the two show, or why they show nothing.
+    /// What the two files show, or why they show nothing.
     fn showed(&self, alloc: Global, program: &[u8], file: &[u8]) -> Result<Showed<'a>, Fault>
         requires { length program.now ≤ PROGRAM_BYTES }
         ensures showed { IfOk result (IsShowing (plain_showing self.now.showing) program.now file.now) }
@@ -61,23 +61,9 @@ impl<'a> Show<'a> {
 }
 
 impl<'a> Command for Show<'a> {
-    type Inputs = (Whole<'a>, Whole<'a>);
-
     type Outcome = Showed<'a>;
 
     ghost meaning = { show_meaning };
-
-    fn inputs(&self) -> &(Whole<'a>, Whole<'a>) {
-        &self.inputs
-    }
-
-    fn work(&self, alloc: Global, bytes: &(Vec<u8>, Vec<u8>)) -> Result<Showed<'a>, AllocError> {
-        match self.showed(alloc, &bytes.0, &bytes.1) {
-            Ok(showed) => Ok(showed),
-            Err(Fault::Refused(refusal)) => Ok(Showed::Refused(refusal)),
-            Err(Fault::Memory) => Err(AllocError),
-        }
-    }
 
     fn keeps<'n, 'b>(
         &'n self,
@@ -103,6 +89,22 @@ impl<'a> Command for Show<'a> {
         match outcome {
             Showed::Refused(refusal) => refusal.status(),
             Showed::Text(_) | Showed::Page(_, _, _) => Status::Done,
+        }
+    }
+}
+
+impl<'a> Work for Show<'a> {
+    type Inputs = (Whole<'a>, Whole<'a>);
+
+    fn inputs(&self) -> &(Whole<'a>, Whole<'a>) {
+        &self.inputs
+    }
+
+    fn work(&self, alloc: Global, bytes: &(Vec<u8>, Vec<u8>)) -> Result<Showed<'a>, AllocError> {
+        match self.showed(alloc, &bytes.0, &bytes.1) {
+            Ok(showed) => Ok(showed),
+            Err(Fault::Refused(refusal)) => Ok(Showed::Refused(refusal)),
+            Err(Fault::Memory) => Err(AllocError),
         }
     }
 }

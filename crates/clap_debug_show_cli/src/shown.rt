@@ -1,4 +1,4 @@
-//! What a file shows: the moves of a schedule, or the ways of a log's threads.
+//! What a file shows: the moves of a schedule, or the paths of a log's threads.
 ghost use Rattle.std.specs.Prelude.{◌≡◌, ◌<◌, ◌≤◌, ℕ, List, true, false, length, IfErr, IfOk, OnOk};
 ghost use Rattle.tc_limits.specs.declared.limits.TheConstants.{PROGRAM_BYTES};
 ghost use Rattle.path_log.specs.Texts.{IsOfOther};
@@ -28,16 +28,16 @@ use store_buffers::{PsoModel, Sc, TsoModel};
 use tc_code::Code;
 use tc_compile::CompileFault;
 
-/// What a file tells of the code.
+/// What a file says about the code.
 #[derive(Drop)]
 pub(crate) enum Story {
-    /// What the moves of a schedule did.
+    /// The effects of a schedule's moves.
     Moves(Schedule, Told),
-    /// The ways of a log's threads.
+    /// The paths of a log's threads.
     Ways(Log, Paths),
 }
 
-/// What the rows of a call are.
+/// The kind of rows that a call asks for.
 fn detail_of(call: Showing<'_>) -> Detail {
     if call.moves {
         Detail::Moves
@@ -86,7 +86,7 @@ impl Shown<'_> {
     }
 }
 
-/// What the file of a call shows of the program. Of the two that isn't of its form the first is told.
+/// What the file of a call shows of the program. A faulty program is reported before a faulty file.
 pub(crate) fn read_shown<'a>(
     alloc: Global,
     call: Showing<'a>,
@@ -111,7 +111,7 @@ pub(crate) fn read_shown<'a>(
     })
 }
 
-/// The code of a program, and what its text calls the parts of that.
+/// The code of a program, and the names of its parts in the text.
 fn compile_named(alloc: Global, text: &[u8]) -> Result<(Code, Names), CompileFault>
     requires { length text.now ≤ PROGRAM_BYTES }
     ensures found { IfOk result (λ both. IsCodeOf text.now both.0) }
@@ -122,14 +122,14 @@ fn compile_named(alloc: Global, text: &[u8]) -> Result<(Code, Names), CompileFau
     Ok((code, names))
 }
 
-/// Whether a file is to be a log, by its first bytes.
+/// Whether a file is read as a log, by its first bytes.
 fn begins_as_log(file: &[u8]) -> bool
     ensures { result ≡ begins_as_log file.now }
 {
     file.starts_with(b"CLPL")
 }
 
-/// The ways of the threads of a log.
+/// The paths of the threads of a log.
 fn log_story(alloc: Global, code: &Code, program: &[u8], file: &[u8]) -> Result<Story, Fault>
     requires { begins_as_log file.now ≡ true }
     ensures story { IfOk result (IsStory code.now program.now file.now) }
@@ -155,7 +155,7 @@ fn check_program(program: &[u8], log: &Log) -> Result<(), Fault>
     }
 }
 
-/// Refuses more of something than there may be.
+/// Refuses a number above its limit.
 fn check_limit(what: What, number: usize) -> Result<(), Fault>
     ensures within { OnOk result (number ≤ limit_of what) }
     ensures over { IfErr result (λ a. (a ≡ Refused (Over what number)) × (limit_of what < number)) }
@@ -167,7 +167,7 @@ fn check_limit(what: What, number: usize) -> Result<(), Fault>
     }
 }
 
-/// What the moves of a schedule did.
+/// The effects of a schedule's moves.
 fn schedule_story(alloc: Global, code: &Code, file: &[u8]) -> Result<Story, Fault>
     requires { begins_as_log file.now ≡ false }
     ensures story { (program : List ℕ) → IfOk result (IsStory code.now program file.now) }
@@ -178,7 +178,7 @@ fn schedule_story(alloc: Global, code: &Code, file: &[u8]) -> Result<Story, Faul
     Ok(Story::Moves(schedule, told))
 }
 
-/// What the moves of a schedule did, under the memory model that it names.
+/// The effects of a schedule's moves, under the memory model that it names.
 fn tell_under(alloc: Global, code: &Code, schedule: &Schedule) -> Result<Told, AllocError>
     ensures { IfOk result (IsTold code.now schedule.now) }
 {

@@ -9,28 +9,30 @@ use clap::error::ErrorKind;
 use clap::{Arg, ArgAction, ArgMatches, Command};
 use std::alloc::{AllocError, Global};
 
-/// What is asked for: to show a schedule or a log of a program, as text, in which each move may have a row, or as a page.
+/// A call that shows a schedule or a log of a program, as text, optionally with a row for each
+/// move, or as a page.
 #[derive(Clone, Copy)]
 pub(crate) struct Showing<'a> {
     pub(crate) program: &'a str,
     /// The name of the schedule, or of the log.
     pub(crate) file: &'a str,
-    /// The name under which a page is to be kept, if one is.
+    /// The name under which to keep a page, if any.
     pub(crate) page: Option<&'a str>,
-    /// Whether each move is to have a row.
+    /// Whether each move gets a row.
     pub(crate) moves: bool,
 }
 
-/// What the words ask for.
+/// The call that the words ask for.
 #[derive(Clone, Copy)]
 pub(crate) enum Call<'a> {
-    /// To say why the text under this name is no program, or what the program has.
+    /// Explains why the text under this name isn't a program, or describes the program.
     Help(&'a str),
-    /// To show a file.
+    /// Shows a file.
     Show(Showing<'a>),
 }
 
-/// What the words ask for, or `None` where they are no words of the program. An `Err` is want of memory.
+/// The call that the words ask for, or `None` if the words aren't accepted. An `Err` means that
+/// memory ran out.
 pub(crate) fn call_of<'a>(
     alloc: Global,
     words: &'a [String],
@@ -46,7 +48,7 @@ pub(crate) fn call_of<'a>(
     }
 }
 
-/// The call that the matches say, if they say one.
+/// The call that the matches ask for, if any.
 fn call_in<'a>(matches: &ArgMatches<'a>) -> Option<Call<'a>>
     ensures { option_map plain_call result ≡ call_in (rows_of (found_of matches.now)) }
 {
@@ -55,7 +57,7 @@ fn call_in<'a>(matches: &ArgMatches<'a>) -> Option<Call<'a>>
     asked(program, file, page, is_given(matches, "moves"))
 }
 
-/// The call of a program, with a file that is to be shown, or alone.
+/// The call for a program, with a file to show or without one.
 fn asked<'a>(
     program: &'a str,
     file: Option<&'a str>,
@@ -83,7 +85,7 @@ fn is_given(matches: &ArgMatches<'_>, id: &str) -> bool
     is_true(matches.get_str(id))
 }
 
-/// Whether a flag's value is that of one that is given.
+/// Whether the value of a flag says that the flag is given.
 fn is_true(word: Option<&str>) -> bool
     ensures { result ≡ spec.is_true (plain_text word.entry) }
 {
@@ -93,7 +95,7 @@ fn is_true(word: Option<&str>) -> bool
     }
 }
 
-/// The value of a positional.
+/// The value of a positional argument.
 fn text<'a>(matches: &ArgMatches<'a>, id: &str) -> &'a str
     ensures { result.now ≡ spec.text_of id.now (rows_of (found_of matches.now)) }
 {
@@ -119,7 +121,7 @@ fn names_line<'a>(alloc: Global) -> Result<Command<'a>, AllocError>
         .arg(optional(alloc, "file"))
 }
 
-/// A required positional.
+/// A required positional argument.
 fn positional<'a>(alloc: Global, name: &'a str) -> Arg<'a>
     ensures rule { rule_of result ≡ spec.positional name.entry.now }
     ensures local { result.global ≡ false }
@@ -127,7 +129,7 @@ fn positional<'a>(alloc: Global, name: &'a str) -> Arg<'a>
     Arg::new(alloc, name).required(true)
 }
 
-/// A positional that may be left out.
+/// An optional positional argument.
 fn optional<'a>(alloc: Global, name: &'a str) -> Arg<'a>
     ensures rule { rule_of result ≡ new_rule name.entry.now }
     ensures local { result.global ≡ false }
@@ -143,7 +145,7 @@ fn option<'a>(alloc: Global, name: &'a str) -> Arg<'a>
     Arg::new(alloc, name).long(name)
 }
 
-/// An option without one.
+/// An option without a value.
 fn flag<'a>(alloc: Global, name: &'a str) -> Arg<'a>
     ensures rule { rule_of result ≡ spec.flag name.entry.now }
     ensures local { result.global ≡ false }

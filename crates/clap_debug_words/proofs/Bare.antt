@@ -1,4 +1,4 @@
--- A parse doesn't hang on where the names that a value may be lie.
+-- A parse doesn't depend on the places of a value's possible names.
 use Rattle.std.proofs.Common.{◌≡◌, ◌∙◌, ap, ap₂, sym, refl, ℕ, zero, suc, Bool, true, false, not, ◌&&◌, ◌||◌, cond, List, [], ◌∷◌, Option, Some, None}
 use Rattle.std.proofs.Common.{is_some, length, find, min, drop, map, fold, option_map}
 use Rattle.std.specs.Prelude.{encode_utf8, slice_get, nat_le, ◌+◌, ◌==◌}
@@ -31,7 +31,7 @@ use Rattle.clap.specs.declared.builder.value_parser.ValueParser.TheVariants as v
 use Rattle.clap.proofs.WalkLemmas.{find-map, list_any-map}
 use Rattle.clap_debug_words.specs.CommandLine.{lent, lent_texts}
 
--- the parser with its names at no place
+-- the parser without the places of its names
 abbrev pub bare_parser : ValueParser → ValueParser
 bare_parser (vp.Names names) = vp.Names (lent_texts (map (λ n. n.now) names.now))
 bare_parser p = p
@@ -431,7 +431,7 @@ stop_bare a h words =
     ap (λ (names : Names). (walk (bare_rules a.top.rules) names h words).stopped) (names_bare a.subs)
     ∙ ap (λ (w : Walk). w.stopped) (walk_bare a.top.rules (names_of a) (walk_from h) words)
 
--- a built command enters the same, and takes the same words
+-- a built command without these places enters the same subcommand and takes the same words
 pub enters_bare : (a : App) (words : List Text)
     → entered (bare_app a) (stop_after (bare_rules a.top.rules) (names_of (bare_app a)) words) ≡ entered a (stop_after a.top.rules (names_of a) words)
 enters_bare a words = ap (entered (bare_app a)) (stop_bare a nothing_held words) ∙ entered_bare a (stop_after a.top.rules (names_of a) words)

@@ -1,4 +1,4 @@
--- What a parse that passes holds: each argument that was used has values, and they passed.
+-- In a parse that passes, each argument that was used has values, and its values passed.
 use Rattle.std.proofs.Common.{◌≡◌, ◌∙◌, ap, sym, refl, subst, ℕ, zero, suc, Bool, true, false, not, ◌&&◌, ◌||◌, cond, List, [], ◌∷◌, ◌++◌, Option, Some, None, is_some, length, find, arith, drop, fold, unwrap_or, ne_eqb, option_and_then}
 use Rattle.std.specs.Prelude.{encode_utf8, slice_get, nat_le, ⊤}
 use Rattle.std.specs.List.{list_all}
@@ -116,7 +116,7 @@ use Rattle.clap.specs.declared.builder.value_parser.Reading.TheVariants as readi
 use Rattle.clap.specs.declared.builder.action.ArgAction.TheVariants.{Set}
 use Rattle.clap.proofs.WalkLemmas.{both}
 
--- which texts are fit for an id
+-- which texts fit an id
 abbrev pub Fitness : Type 0
 Fitness = Text → Text → Bool
 
@@ -128,14 +128,14 @@ abbrev pub as_written : Reading → Bool
 as_written AsWritten = true
 as_written _ = false
 
--- the row has values, read as they were written, and they are fit for its id
+-- the values of the row are read as written, and they fit its id
 abbrev pub is_fit : Fitness → Row → Bool
 is_fit t r = as_written r.reading && (has_some r.values && list_all (t r.id) r.values)
 
 abbrev pub all_fit : Fitness → List Row → Bool
 all_fit t = list_all (is_fit t)
 
--- an option or a positional that takes at least one value, and takes those that are fit
+-- an option or a positional argument that takes at least one value, and only fitting ones
 pub record IsSetter (t : Fitness) (a : Rule) : Type 0 where
   pub sets : action_of a ≡ Set
   pub least : (unwrap_or_range a.range).start_inclusive ≡ 1
@@ -375,7 +375,7 @@ defaults_fit t (a ∷ rest) rows set e fit =
     let p = both (default_passes a) _ e in
     defaults_fit t rest (with_default rows a) set.1 p.1 (default_fit t a rows set.0 p.0 fit)
 
--- at a level that passes, each argument that has matches has values, and they passed
+-- at a level that passes, each argument with matches has values, and its values passed
 pub level_fit : (t : Fitness) (s : Shape) (names : Names) (words : List Text) (has : Bool) → AreSetters t s.rules →
     level_passes s names nothing_held words has ≡ true
     → all_fit t (rows_after s.rules names words) ≡ true
@@ -387,7 +387,7 @@ level_fit t s names words has set e =
     defaults_fit t s.rules (settled s.rules end).rows set d.0
     (settled_fit t s.rules s.args_override_self end set (walk_fit t s names set (walk_from nothing_held) words refl a.0) b.0)
 
--- the text that is read is fit
+-- a text that was read fits
 pub read_fit : (t : Fitness) (id : Text) (rows : List Row) (v : Text) → all_fit t rows ≡ true → one_of id rows ≡ Some v → t id v ≡ true
 read_fit t id [] v fit e = cc
 read_fit t id (r ∷ rs) v fit e =
@@ -408,7 +408,7 @@ read_fit t id (r ∷ rs) v fit e =
     go true at reading.Falsey vs h all e rec = cc
     go false at how vs h all e rec = rec e
 
--- an argument that is there has a first value
+-- an argument that was given has a first value
 given_some : (t : Fitness) (id : Text) (rows : List Row) → all_fit t rows ≡ true → is_given id rows ≡ true → is_some (first_of id rows) ≡ true
 given_some t id [] fit e = cc
 given_some t id (r ∷ rs) fit e = go (bytes_eq r.id id) r.values (both (has_some r.values) _ (both (as_written r.reading) _ (both (is_fit t r) _ fit).0).1).0

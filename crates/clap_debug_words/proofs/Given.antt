@@ -1,4 +1,4 @@
--- Words that are taken name a command and each of its files.
+-- Words that the command takes name a subcommand and each of its files.
 use Rattle.std.proofs.Common.{
   ℕ,
   ◌≡◌,
@@ -42,7 +42,7 @@ use Rattle.clap_debug_words.specs.CommandLine.{command_line, words_taken, last_s
 use Rattle.clap_debug_words.specs.Given.{HasFiles, HasValues}
 use Rattle.clap_debug_words.proofs.Fits.{AreSetters, Fitness, all_fit, level_fit, level_given, read_fit}
 
--- what each option takes
+-- what fits each option
 abbrev fitness : Fitness
 fitness id v = if bytes_eq id (codes "model") then accepts false (parser.Names (lent_texts model_names)) v
     else if bytes_eq id (codes "seed") then is_unsigned_in 0 last_seed v
@@ -51,7 +51,7 @@ fitness id v = if bytes_eq id (codes "model") then accepts false (parser.Names (
     else if bytes_eq id (codes "workers") then is_unsigned_in 1 WORKERS v
     else true
 
--- the files and the values that stand there
+-- the given files and values
 abbrev pub HasBoth : Text × List Row → Type 0
 HasBoth p = HasFiles p × HasValues p
 
@@ -150,7 +150,7 @@ if_some : (o : Option Text) (P : Text → Type 0) → ((v : Text) → o ≡ Some
 if_some None P h = tt
 if_some (Some v) P h = h v refl
 
--- values that are fit are values that the options take
+-- fitting values are values that the options take
 fit_values : (name : Text) (rows : List Row) → all_fit fitness rows ≡ true → HasValues (name, rows)
 fit_values name rows fit = record {
   model = if_some _ _ (λ v at. read_fit fitness (codes "model") rows v fit at);
@@ -312,7 +312,7 @@ taken_in : (a : App) (words : List Text) (p : Text × List Row) → AllHave a.su
 taken_in a words p all e at =
     entered_has a (stop_after a.top.rules (names_of a) words) p all (both (entered_passes a (stop_after a.top.rules (names_of a) words)) _ e).0 at
 
--- a built command that wants a subcommand enters one
+-- a built command that requires a subcommand enters one
 wanted : (required has : Bool) → required ≡ true → (not required || has) ≡ true → has ≡ true
 wanted true has r e = e
 wanted false has r e = cc
@@ -332,7 +332,7 @@ there : (o : Option (Text × List Row)) → is_some o ≡ true → ((p : Text ×
 there None some has = cc
 there (Some p) some has = has p refl
 
--- words that are taken enter a command
+-- words that the command takes enter a subcommand
 pub taken_enters : (words : List Text) → words_taken words ≡ true → is_some (subcommand_of command_line words) ≡ true
 taken_enters words e = enters (built command_line) (argument_words command_line words) refl (both (is_simple command_line) _ e).1
 
@@ -345,10 +345,10 @@ weaken : (o : Option (Text × List Row)) (P : Text × List Row → Type 0) → (
 weaken None P f h = absurd h
 weaken (Some p) P f h = f p h
 
--- words that are taken have the files of their command
+-- words that the command takes have the files of their subcommand
 pub taken_has : (words : List Text) → words_taken words ≡ true → IsSomeAnd (subcommand_of command_line words) HasFiles
 taken_has words e = weaken (subcommand_of command_line words) HasFiles (λ p h. h.0) (both_taken words e)
 
--- and values that its options take
+-- words that the command takes have values that its options take
 pub taken_has_values : (words : List Text) → words_taken words ≡ true → IsSomeAnd (subcommand_of command_line words) HasValues
 taken_has_values words e = weaken (subcommand_of command_line words) HasValues (λ p h. h.1) (both_taken words e)

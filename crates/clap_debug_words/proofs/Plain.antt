@@ -1,4 +1,4 @@
--- Plain words are taken, with the values that stand there.
+-- The command takes plain words, with the values written in them.
 use Rattle.std.proofs.Common.{◌≡◌, ◌∙◌, ◌==◌, ◌&&◌, ◌≤◌, ◌<◌, ℕ, ap, ap₂, refl, Bool, true, false, not, cond, List, [], ◌∷◌, Option, Some, None, codes}
 use Rattle.std.proofs.Common.{option_map, slice_index_or, unwrap_or, arith, ne_eqb, drop}
 use Rattle.std.specs.Prelude.{◌^◌, ◌++◌, IfSome, nat_le}
@@ -62,11 +62,11 @@ written low high default n small least most =
       value = ap (λ b. cond b (digits_value 10 (without_leading_plus (decimal n))) default) passes ∙ is_n;
     }
 
--- the subcommand at a place, as it is built
+-- the built subcommand at a place
 abbrev pub sub_at : ℕ → Shape
 sub_at k = slice_index_or (built command_line).subs k command_line.top
 
--- the words are taken, and say this call
+-- the command takes the words, and they mean this call
 abbrev pub Says : List Text → Called → Type 0
 Says words c = (words_taken words ≡ true) × (option_map called (subcommand_of command_line words) ≡ Some c)
 
@@ -395,6 +395,6 @@ plain_says first (Explains p l r) e =
     let b = both _ _ a.1 in
     why_says first p l r (name_plain p a.0) (name_plain l b.0) (name_plain r b.1)
 
--- plain words are taken, with the values that stand there
+-- the command takes plain words, with the values written in them
 pub plain_taken : (first : Text) (w : Written) → is_plain w ≡ true → call_of (words_of first w) ≡ Some (asked w)
 plain_taken first w e = said (words_of first w) (asked w) (plain_says first w e)

@@ -1,4 +1,4 @@
--- A walk over words of which some are plain: they are no flags.
+-- A walk over words of which some are plain, that is, aren't flags.
 use Rattle.std.proofs.Common.{◌≡◌, ℕ, refl, ap, ap₂, ◌∙◌, Bool, true, false, List, [], ◌∷◌, Option, Some, None, fold, is_some, ◌&&◌, ◌||◌, sym, map, cond}
 use Rattle.std.specs.Prelude.{⊤}
 use Rattle.std.specs.List.{list_all}
@@ -32,12 +32,12 @@ use Rattle.clap.specs.Walk.{
 use Rattle.clap.specs.Simple.{Shape}
 use Rattle.clap.specs.Takes.{default_passes, word_passes, is_valid, level_passes, settle_passes, step_passes, turn_passes, walk_passes}
 
--- the word is no flag
+-- the word isn't a flag
 pub record IsPlainWord (p : Text) : Type 0 where
   pub no_dash : strip_byte 45 p ≡ None
   pub no_end : bytes_eq p (45 ∷ 45 ∷ []) ≡ false
 
--- what a plain word is, before it goes to a positional
+-- what the walk does at a plain word before a positional argument takes it
 abbrev pub plain_met : List Rule → Bool → Waiting → Text → Held → Held × Step
 plain_met c true waiting p h = (h, value)
 plain_met c false waiting p h = plain_word c waiting p h
@@ -96,7 +96,7 @@ word_passes_plain s false idle h p is = other_passes_plain s h p is
 word_passes_plain s false (option id) h p is = other_passes_plain s h p is
 word_passes_plain s false positional h p is = other_passes_plain s h p is
 
--- what a plain word asks
+-- whether a plain word passes at its turn
 abbrev pub plain_turn : Shape → Walk → Text → Bool
 plain_turn s w p = is_some w.stopped
     || step_passes s w.position (plain_met s.rules w.is_trailing w.waiting p w.held).0 (plain_met s.rules w.is_trailing w.waiting p w.held).1
@@ -121,7 +121,7 @@ all_walk c w (m ∷ rest) = all_walk c (marked_walk c w m) rest
 abbrev pub words_in : List Marked → List Text
 words_in = map (λ m. m.1)
 
--- those that are marked plain are plain
+-- the words that are marked plain are plain
 abbrev pub ArePlain : List Marked → Type 0
 ArePlain [] = ⊤
 ArePlain ((true, p) ∷ rest) = IsPlainWord p × ArePlain rest

@@ -1,4 +1,4 @@
--- Where no kind of error may come, the words are taken.
+-- If no kind of error may occur, the command takes the words.
 use Rattle.std.proofs.Common.{◌≡◌, ◌∙◌, ap, sym, refl, ℕ, zero, suc, Bool, true, false, not, ◌&&◌, ◌||◌, cond, List, [], ◌∷◌, Option, Some, None, is_some, length, find, codes, arith, drop, unwrap_or}
 use Rattle.std.specs.Prelude.{◌==◌, nat_le, nat_lt, encode_utf8, slice_get}
 use Rattle.std.specs.List.{list_all, list_any}

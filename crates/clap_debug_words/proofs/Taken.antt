@@ -1,4 +1,4 @@
--- What a parse that succeeds, or fails for another cause than memory, says of the words.
+-- What follows for the words if a parse succeeds, or fails for another cause than memory.
 use Rattle.std.proofs.Common.{◌≡◌, ◌∙◌, ap, sym, refl, subst, Bool, true, false, cond, List, [], ◌∷◌, Option, None, option_map, codes, drop}
 use Rattle.std.specs.List.{list_all, list_any}
 use Rattle.std.specs.Str.{bytes_eq}
@@ -15,7 +15,7 @@ use Rattle.clap_debug_words.specs.CommandLine.{AreModelNames, ModelNames, comman
 use Rattle.clap_debug_words.proofs.Quiet.{has_quiet_rules, quiet_takes}
 use Rattle.clap_debug_words.proofs.Bare.{enters_bare, takes_bare}
 
--- the texts of the names alone say which of them are accepted
+-- which names are accepted depends only on their texts
 pub accepts_name : (names : ModelNames) (t : Text) → AreModelNames names
     → accepts false (parser.Names names) t ≡ list_any (λ m. bytes_eq m t) (codes "sc" ∷ codes "tso" ∷ codes "pso" ∷ [])
 accepts_name names t are = list_any-map (λ m. bytes_eq m t) (λ m. m.now) names.now ∙ ap (list_any (λ m. bytes_eq m t)) are
@@ -25,7 +25,7 @@ quiet_subs names are =
     let sc : accepts false (parser.Names names) (codes "sc") ≡ true = accepts_name names (codes "sc") are in
     rw sc refl
 
--- where the names lie doesn't matter
+-- the places of the names don't matter
 takes_anywhere : (names : ModelNames) (words : List Text) → AreModelNames names → takes (command_line_at names) words ≡ takes command_line words
 takes_anywhere names words are =
     sym (takes_bare (built (command_line_at names)) nothing_held (drop 1 words))
@@ -45,7 +45,7 @@ refused_call : (b : Bool) (o : Option Called) → (b ≡ true → ⊥) → cond 
 refused_call true o bad = absurd (bad refl)
 refused_call false o bad = refl
 
--- words at which the command has no fault give the call of the subcommand
+-- words without a fault give the call of the subcommand
 pub call_made : (names : ModelNames) (a : App) (words : List Text) → AreModelNames names → a ≡ command_line_at names → fault_of a words ≡ []
     → (r : Option (Text × List Row)) → r ≡ subcommand_of a words → option_map called r ≡ call_of words
 call_made names a words are app quiet r at =
@@ -55,7 +55,7 @@ call_made names a words are app quiet r at =
     let entered : r ≡ subcommand_of command_line words = at ∙ ap (λ x. subcommand_of x words) app ∙ enters_anywhere names words are in
     ap (option_map called) entered ∙ sym (taken_call (words_taken words) _ taken)
 
--- words that the command doesn't take give none
+-- words that the command doesn't take give no call
 pub no_call : (names : ModelNames) (a : App) (words : List Text) → AreModelNames names → a ≡ command_line_at names → (takes a words ≡ true → ⊥)
     → None ≡ call_of words
 no_call names a words are app bad =

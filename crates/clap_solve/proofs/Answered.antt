@@ -1,4 +1,4 @@
--- What a search of a log's clauses comes to is an answer about the log.
+-- The result of a search of a log's clauses is an answer about the log.
 use Rattle.std.proofs.Common.{◌≡◌, ◌<◌, ℕ, ℤ, Bool, false, IsTrue, List, ap, sym, subst, arith}
 use Rattle.tc_base.specs.Buffers.{BufferOps}
 use Rattle.run_log.specs.Logs.{Log}
@@ -63,7 +63,7 @@ module _ {B : Type 0} (ops : BufferOps B) (model : Model) (bound : Binding) (cod
   is_solved (solved.Spent lines) (Found schedule) spent on = absurd on
   is_solved (solved.Spent lines) (Impossible own) spent on = absurd on
 
--- so is what other values come to
+-- the result for imported values is an answer too
 pub is_imported : {B : Type 0} (ops : BufferOps B) (model : Model) (bound : Binding) (code : Code) (log : Log) → IsGiven code log → (posed : Posed)
     → posed ≡ posed_of ops.buffered bound code log → (literals : List ℤ) (values : List Bool) → values ≡ assigned posed.blasted.clauses.vars literals
     → (i : Imported) → IsImportedOn ops code posed model values i → IsImported ops model bound code log literals i

@@ -1,4 +1,4 @@
--- What satisfies the clauses of a log says a world that has a schedule.
+-- Values that satisfy the clauses of a log give a world that has a schedule.
 use Rattle.std.proofs.Common.{◌≡◌, ◌∙◌, true, false, List, [], Bool, sym, ap, subst}
 use Rattle.std.specs.Prelude.{IsTrue, if◌then◌else◌}
 use Rattle.tc_base.specs.Buffers.{BufferOps}
@@ -23,11 +23,11 @@ use Rattle.clap_solve.specs.Posed.{Posed, posed_of}
 use Rattle.clap_solve.specs.Solved.{IsWithin}
 use Rattle.clap_solve.proofs.Meaning.{possible}
 
--- what satisfies the clauses of one satisfies those of the other
+-- values that satisfy the clauses of one satisfy those of the other, which is equal
 pub own_satisfied : (p q : Posed) (v : Valuation) → p ≡ q → IsTrue (satisfies v p.blasted.clauses.clauses) → IsTrue (satisfies v q.blasted.clauses.clauses)
 own_satisfied p q v same satisfied = subst (λ (x : Posed). IsTrue (satisfies v x.blasted.clauses.clauses)) same satisfied
 
--- and then the paths aren't dead
+-- values that satisfy the clauses exist only if the paths aren't dead
 pub lives : (buffered : Bool) (bound : Binding) (code : Code) (log : Log) → IsLawful code → IsWithin code log → (p : Posed)
     → p ≡ posed_of buffered bound code log → (v : Valuation) → IsTrue (satisfies v p.blasted.clauses.clauses) → p.paths.dead ≡ false
 lives buffered bound code log lawful within p by v satisfied =

@@ -1,4 +1,4 @@
--- What the loads of a run take are ints.
+-- The loads of a run take ints.
 use Rattle.std.proofs.Common.{◌≡◌, ℕ, ◌&&◌, ◌==◌, ℤ, pos, List, Option, Some, None, refl, subst}
 use Rattle.std.specs.Prelude.{slice_get, unwrap_or}
 use Rattle.std.specs.List.{All, filter_map}

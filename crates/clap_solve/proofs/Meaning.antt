@@ -1,4 +1,4 @@
--- What the clauses of a log mean: a world of its paths in which its formula is true, and so a run.
+-- The meaning of a log's clauses: a world of its paths in which its formula is true, and so a run.
 use Rattle.std.proofs.Common.{◌≡◌, ◌∙◌, ℕ, ◌<◌, ◌≤◌, Bool, true, false, List, length, map, refl, sym, subst, arith}
 use Rattle.std.specs.Bool.{IsTrue}
 use Rattle.std.specs.Prelude.{if◌then◌else◌}
@@ -26,7 +26,7 @@ use Rattle.sym_exec.specs.Ints.{HasInt}
 use Rattle.order_formula.specs.declared.formula.Body.{Body}
 use Rattle.order_formula.specs.declared.formula.Body.TheVariants as body
 use Rattle.order_formula.specs.declared.formula.Conjunct.{Conjunct}
-use Rattle.order_formula.specs.Orders.{IsOrder, unasked}
+use Rattle.order_formula.specs.Orders.{IsOrder, order_without_questions}
 use Rattle.order_formula.specs.Worlds.{World}
 use Rattle.order_formula.proofs.Asked.{grows_formula}
 use Rattle.lawful_order.specs.Events.{all_events, all_sleeps}
@@ -76,12 +76,12 @@ module _ (buffered : Bool) (bound : Binding) (code : Code) (log : Log) (lawful :
   pub ready : IsReady s
   ready = is_ready buffered bound code paths lawful are
 
-  -- its order is of the events and sleeps of the paths
+  -- the order has the events and sleeps of the paths
   pub events : s.order.events ≡ length (all_events paths)
-  events = (grows_formula (unasked (length (all_events paths)) (length (all_sleeps paths))) s.formula).events
+  events = (grows_formula (order_without_questions (length (all_events paths)) (length (all_sleeps paths))) s.formula).events
 
   pub sleeps : s.order.sleeps ≡ length (all_sleeps paths)
-  sleeps = (grows_formula (unasked (length (all_events paths)) (length (all_sleeps paths))) s.formula).sleeps
+  sleeps = (grows_formula (order_without_questions (length (all_events paths)) (length (all_sleeps paths))) s.formula).sleeps
 
   pub few : length (all_events paths) ≤ 256
   few = omega (arith, (whole code paths are).counted, within.events)
@@ -90,7 +90,7 @@ module _ (buffered : Bool) (bound : Binding) (code : Code) (log : Log) (lawful :
   apart c i (body.Any cases) is = tt
   apart c i (body.Read r) is = ready.differ c r i is
 
-  -- it has all that its clauses rest on
+  -- the order has all questions that the clauses need
   pub posed : IsPosed s.nodes s.formula s.order
   posed = record {
     events = omega (arith, events, few);
@@ -102,7 +102,7 @@ module _ (buffered : Bool) (bound : Binding) (code : Code) (log : Log) (lawful :
 
   pub ordered : IsOrder s.order
   ordered =
-      (formula_for s.order (unasked (length (all_events paths)) (length (all_sleeps paths))) s.formula
+      (formula_for s.order (order_without_questions (length (all_events paths)) (length (all_sleeps paths))) s.formula
       (unasked_for s.order (length (all_events paths)) (length (all_sleeps paths)) (sym events) (sym sleeps)) ready.within).lawful
 
   abbrev y : Layout
@@ -112,7 +112,7 @@ module _ (buffered : Bool) (bound : Binding) (code : Code) (log : Log) (lawful :
   means = blast_means s.nodes s.formula s.order s.symbolic.loads posed
       (completed_lawful s.order (contended s.formula) ordered (contended_within s.order s.formula ready.within))
 
-  -- what satisfies the clauses of a system says such a world
+  -- values that satisfy the clauses of a system give such a world
   said : paths.dead ≡ false → (v : Valuation) → IsTrue (satisfies v (blasted_by s).clauses.clauses) → IsPossible buffered bound code log
   said lives v satisfied =
       let m = means.to v satisfied in
@@ -131,7 +131,7 @@ module _ (buffered : Bool) (bound : Binding) (code : Code) (log : Log) (lawful :
   abbrev pub world_said : Valuation → World
   world_said v = world_of y v
 
-  -- so does what satisfies those of the log
+  -- values that satisfy the clauses of the log give such a world
   pub possible : (v : Valuation) → IsTrue (satisfies v (clauses_of buffered bound code log).clauses)
       → (p : IsPossible buffered bound code log) × (p.world ≡ world_said v)
   unfolding said
@@ -163,7 +163,7 @@ module _ {B : Type 0} (ops : BufferOps B) (model : Model) (bound : Binding) (cod
     pub same : p.world ≡ world_in ops.buffered ways t.symbolic h
     same = run_world_is (setting_of ops model bound code log laws lawful is) within.fits moves again
 
-    -- is one that values of the variables can say
+    -- values of the variables can give the world of a run
     pub world_for : IsWorldFor (record { order = t.order; loads = t.symbolic.loads }) p.world
     world_for = record {
       world = p.is;
@@ -179,7 +179,7 @@ module _ {B : Type 0} (ops : BufferOps B) (model : Model) (bound : Binding) (cod
       chosen = (choices_are_enders ops.buffered bound code ways p.world p.of.events p.of.loads p.of.sleeps).0 p.of;
     }
 
-    -- so something satisfies the clauses
+    -- some values satisfy the clauses
     pub run_is_said : (v : Valuation) × IsTrue (satisfies v (clauses_of ops.buffered bound code log).clauses)
     run_is_said = by ways.dead refl
       where
@@ -193,7 +193,7 @@ module _ {B : Type 0} (ops : BufferOps B) (model : Model) (bound : Binding) (cod
   said_is_run v satisfied =
       possible_is_run (setting_of ops model bound code log laws lawful is) within.fits (possible ops.buffered bound code log lawful within v satisfied).0
 
-  -- and where a derivation is closed nothing reproduces the log
+  -- if a derivation is closed, no moves reproduce the log
   pub closed_is_impossible : (lines : List Line) → IsClosed (clauses_of ops.buffered bound code log) lines → IsImpossible ops code log
   closed_is_impossible lines closed moves again =
       let v = run_is_said moves again in closed-means-unsatisfiable (clauses_of ops.buffered bound code log) lines closed v.0 v.1

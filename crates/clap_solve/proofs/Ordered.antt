@@ -1,4 +1,4 @@
--- Orders that are asked of what is theirs stay lawful.
+-- Orders stay lawful when they are asked about their own events and sleeps.
 use Rattle.std.proofs.Common.{◌≡◌, ℕ, ◌<◌, ◌==◌, ◌&&◌, Bool, true, false, List, [], ◌∷◌, map, fold, refl, ap, ap₂, arith}
 use Rattle.std.specs.Cmp.{IsEquivalence, decided}
 use Rattle.std.specs.List.{All, IsDistinct, list_any}
@@ -15,7 +15,7 @@ use Rattle.order_formula.specs.declared.literal.Literal.{Literal}
 use Rattle.order_formula.specs.declared.order.Choice.{Choice}
 use Rattle.order_formula.specs.declared.order.Pair.{Pair}
 use Rattle.order_formula.specs.Orders.{AtomIsIn, BodyIsIn, ChoiceIsOf, ConjunctIsIn, IsOrder, LiteralIsIn, Order, PairIsOf, pair_of, same_choice, same_pair}
-use Rattle.order_formula.specs.Orders.{unasked, with_atom, with_body, with_case, with_choice, with_conjunct, with_formula, with_pair}
+use Rattle.order_formula.specs.Orders.{order_without_questions, with_atom, with_body, with_case, with_choice, with_conjunct, with_formula, with_pair}
 use Rattle.bit_order.specs.Comparators.{completed, pairs_among}
 use Rattle.clap_system.proofs.Choices.{each_key}
 
@@ -68,13 +68,13 @@ with_choice_lawful o c is of = record {
 pair_is : (n first second : ℕ) → first < n → second < n → PairIsOf n (pair_of first second)
 pair_is n first second one other = record { ordered = omega arith; within = omega (arith, one, other) }
 
--- a lawful order of as many events and sleeps as another
+-- a lawful order with the same numbers of events and sleeps as another
 pub record IsFor (r o : Order) : Type 0 where
   pub lawful : IsOrder o
   pub events : o.events ≡ r.events
   pub sleeps : o.sleeps ≡ r.sleeps
 
-pub unasked_for : (r : Order) (events sleeps : ℕ) → events ≡ r.events → sleeps ≡ r.sleeps → IsFor r (unasked events sleeps)
+pub unasked_for : (r : Order) (events sleeps : ℕ) → events ≡ r.events → sleeps ≡ r.sleeps → IsFor r (order_without_questions events sleeps)
 unasked_for r events sleeps as_events as_sleeps = record {
   lawful = record {
     pairs = none_twice same_pair;
@@ -115,11 +115,11 @@ module _ (r : Order) where
   body_for o (body.Any cases) is within = all_for with_case (All (LiteralIsIn r)) case_for o cases is within
   body_for o (body.Read _) is within = is
 
-  -- asked of a formula that names what is the order's
+  -- the order that is asked a formula's questions about its own events and sleeps
   pub formula_for : (o : Order) (formula : List Conjunct) → IsFor r o → All (ConjunctIsIn r) formula → IsFor r (with_formula o formula)
   formula_for = all_for with_conjunct (ConjunctIsIn r) (λ o c. body_for o c.body)
 
--- and of every two of some events
+-- the order that is asked about every two of some events
 among_within : (n : ℕ) (events : List ℕ) → All (λ e. e < n) events → All (PairIsOf n) (pairs_among events)
 among_within n [] all = All-nil (PairIsOf n)
 among_within n (event ∷ events) all =

@@ -1,4 +1,4 @@
--- What is made of the parts of a log's system, and what is told of a derivation over its clauses.
+-- The clauses made of the parts of a log's system, and what a derivation over them proves.
 use Rattle.std.proofs.Common.{◌≡◌, ◌≢◌, ◌∙◌, ℕ, ◌+◌, ◌<◌, ◌≤◌, Bool, List, Result, Ok, Err, ap, sym, subst}
 use Rattle.std.specs.Prelude.{if◌then◌else◌}
 use Rattle.run_log.specs.Logs.{Log}
@@ -54,7 +54,7 @@ within_by buffered bound code log s of shallow fits events operators = record {
   operators = subst (λ (t : System). t.paths.operators ≤ OPERATORS) of operators;
 }
 
--- there is room for the clauses of the parts of a system that has room
+-- there is room for the clauses made of a system's parts
 module _ (buffered : Bool) (bound : Binding) (code : Code) (log : Log) (s : System) where
   abbrev Room : Order → ℕ → List Node → List Conjunct → Type 0
   Room order loads nodes formula = whole_size (record { order = order; loads = loads }) nodes formula + levels.size_of EVENTS 255 < LIMIT
@@ -84,20 +84,20 @@ posed_by buffered bound code log s paths symbolic nodes formula b of as_paths as
     ∙ ap (λ (x : Blasted). parts (paths_of code log) (system_of buffered bound code log).symbolic (system_of buffered bound code log).nodes
     (system_of buffered bound code log).formula x) is
 
--- the clauses that are lent are the log's
+-- the borrowed clauses are the log's
 pub own_clauses : (buffered : Bool) (bound : Binding) (code : Code) (log : Log) (p : Posed) (f : Formula) → f ≡ p.blasted.clauses
     → p ≡ posed_of buffered bound code log → f ≡ clauses_of buffered bound code log
 own_clauses buffered bound code log p f is of = is ∙ ap (λ (q : Posed). q.blasted.clauses) of
 
 module _ (buffered : Bool) (bound : Binding) (code : Code) (log : Log) (lines : List Line) (f : Formula) (own : f ≡ clauses_of buffered bound code log) where
-  -- a verdict on the derivation over them
+  -- the verdict on the derivation over these clauses
   abbrev told : Result Checked CheckFault → Type 0
   told verdict = verdict ≢ Err fault.Memory → verdict ≡ check f lines
 
   told_here : (verdict : Result Checked CheckFault) → told verdict → verdict ≢ Err fault.Memory → check (clauses_of buffered bound code log) lines ≡ verdict
   told_here verdict is not = ap (λ (g : Formula). check g lines) (sym own) ∙ sym (is not)
 
-  -- a fault of the check is one here
+  -- a fault of the check is a fault here
   pub check_cause : (why : CheckFault) → IsWithin code log → told (Err why) → IsCheckImpossibleFault buffered bound code log lines (from_check why)
   check_cause (fault.NoVariable n) within is = (λ e. cc, within, told_here (Err (fault.NoVariable n)) is (λ e. cc))
   check_cause (fault.NoClause n) within is = (λ e. cc, within, told_here (Err (fault.NoClause n)) is (λ e. cc))

@@ -1,5 +1,5 @@
--- A schedule has room for the paths of a log within the limits: the number of a child is at most that of threads, since each child before it is
--- a thread of its own.
+-- A schedule has room for the paths of a log within the limits: a child's number is at most the
+-- number of threads, since each child before it is a thread of its own.
 use Rattle.std.proofs.Common.{◌≡◌, ◌∙◌, ℕ, zero, suc, ◌<◌, ◌≤◌, ◌&&◌, Bool, true, false, cond, List, [], ◌∷◌, length, map, Option, Some, None, inl, inr}
 use Rattle.std.proofs.Common.{refl, sym, ap, ap₂, subst, arith, get_or, Ok}
 use Rattle.std.specs.Prelude.{nat_le, nat_lt, option_and_then, option_map, slice_get, unwrap_or}
@@ -41,7 +41,7 @@ use Rattle.formula_sizes.specs.Small.{ClausesHaveRoom}
 use Rattle.formula_sizes.proofs.Room as sizes
 use Rattle.clap_solve.specs.Solved.{IsWithin}
 
--- where none is found, none passes
+-- if a search finds nothing, no element passes
 none_found : {X : Type 0} (p : X → Bool) (xs : List X) (k : ℕ) (x : X) → find p xs ≡ None → slice_get xs k ≡ Some x → p x ≡ false
 none_found p [] k x none at = absurd (none-some x at)
 none_found {X} p (y ∷ ys) k x none at = by (p y) refl none (none_found p ys) k at
@@ -52,7 +52,7 @@ none_found {X} p (y ∷ ys) k x none at = by (p y) refl none (none_found p ys) k
     by false is none later zero at = ap p (sym (same_Some y x at)) ∙ is
     by false is none later (suc k) at = later k x none at
 
--- a child of a number comes before the next
+-- the child with a number comes before the next child
 next_child : (p : Name) (k : ℕ) → by_name (child p k) (child p (suc k)) ≡ Less
 next_child p k = elim (not_less (by_name (child p (suc k)) (child p k)) (later_child p (suc k) k (omega arith))) [
   | inl equal ↦
@@ -70,7 +70,7 @@ module _ (code : Code) (log : Log) (is : is_log log ≡ true) (fits : Fits code 
     there : slice_get log.threads place ≡ Some thread
     name : thread.name ≡ n
 
-  -- each name that has a function is one
+  -- each name with a function is a thread
   thread_of : (n : Name) (f : ℕ) → function_of code log n ≡ Some f → HasThread n
   thread_of n f function = by (path_under n log.threads) refl
     where
@@ -94,7 +94,7 @@ module _ (code : Code) (log : Log) (is : is_log log ≡ true) (fits : Fits code 
     ]
   ]
 
-  -- a child's parent has a function, and has created it
+  -- the parent of a child has a function and has created the child
   record IsCreated (p : Name) (k f : ℕ) : Type 0 where
     function : ℕ
     parent : function_of code log p ≡ Some function
@@ -107,7 +107,7 @@ module _ (code : Code) (log : Log) (is : is_log log ≡ true) (fits : Fits code 
       by None none made = absurd (none-some f made)
       by (Some g) one made = record { function = g; parent = one; created = made }
 
-  -- so was each child of the same thread before it
+  -- the parent created each earlier child too
   earlier : (p : Name) (k f : ℕ) → function_of code log (child p (suc (suc k))) ≡ Some f → (g : ℕ) × (function_of code log (child p (suc k)) ≡ Some g)
   earlier p k f function =
       let c = is_created p (suc (suc k)) f function in
@@ -118,7 +118,7 @@ module _ (code : Code) (log : Log) (is : is_log log ≡ true) (fits : Fits code 
             ∙ slice_get-get_or made k f (omega (arith, within)),
       )
 
-  -- and each is a thread, in order
+  -- each created child is a thread, in order
   child_place : (p : Name) (k f : ℕ) → function_of code log (child p (suc k)) ≡ Some f → (t : HasThread (child p (suc k))) × (k ≤ t.place)
   child_place p zero f function = (thread_of (child p 1) f function, omega arith)
   child_place p (suc k) f function =
@@ -148,7 +148,7 @@ module _ (code : Code) (log : Log) (is : is_log log ≡ true) (fits : Fits code 
           ∙ ap₂ (λ b d. b && (d && true)) (children_fit m q.parent c.function shorter c.parent) (child_fits q.parent q.number f own)
     ]
 
--- the places of a thread are as many as its steps
+-- a thread has as many places as steps
 places_count : (code : Code) (log : Log) (t : ThreadPath) (f : ℕ) → Fits code log → function_of code log t.name ≡ Some f
     → path_under t.name log.threads ≡ Some t.path → length (places_in code log t.name f) ≡ t.path.steps
 places_count code log t f fits function under =
@@ -192,7 +192,7 @@ have_room code log is within few = record {
     each P of = each_in P (map (walk_of code log) log.threads) (λ q j.
         let o = of_map (walk_of code log) q log.threads j in subst P o.2 (of o.0 o.1))
 
--- there is room for its clauses, and for levels over them
+-- there is room for the log's clauses, and for levels over them
 pub clauses_have_room : (buffered : Bool) (bound : Binding) (code : Code) (log : Log) → IsWithin code log → All (λ t. t.path.steps ≤ STEPS) log.threads
     → ClausesHaveRoom (system_of buffered bound code log)
 clauses_have_room buffered bound code log within few =

@@ -33,7 +33,7 @@ pub fn check_start<M: MemoryModel>(
     Ok(Checker::new(alloc, &clauses)?)
 }
 
-/// What a whole derivation proves over the clauses of a log, whoever made it.
+/// What a whole derivation proves over the clauses of a log. Any tool may have made it.
 pub fn check_impossible<M: MemoryModel>(
     alloc: Global,
     code: &Code,

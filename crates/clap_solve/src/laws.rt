@@ -25,7 +25,7 @@ pub fn clauses_are_runs<B>()
         ↔ ((moves : List Move) × Reproduces ops code log moves) }
 {}
 
-/// If a derivation is closed on the clauses of a log, whoever made it, no moves reproduce the log.
+/// If a derivation, from any tool, is closed on the clauses of a log, no moves reproduce the log.
 pub fn closed_is_impossible<B>()
     ensures { (ops : BufferOps B) (model : Model) (bound : Binding) (code : Code) (log : Log) (lines : List Line)
         → Laws ops model bound → IsLawful code → is_log log ≡ true → IsWithin code log

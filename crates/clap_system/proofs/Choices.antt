@@ -1,4 +1,4 @@
--- What may end a sleep is what the order of a system is asked of.
+-- The order of a system is asked about exactly the possible enders of each sleep.
 use Rattle.std.proofs.Common.{◌≡◌, ◌∙◌, ℕ, ◌==◌, Bool, true, false, List, [], ◌∷◌, ◌++◌, map, length, fold, Some, inl, inr, refl, sym, ap, ap₂, subst}
 use Rattle.std.specs.Prelude.{◌↔◌, slice_get}
 use Rattle.std.specs.List.{All, Contains, list_any}
@@ -22,7 +22,7 @@ use Rattle.order_formula.specs.declared.literal.Atom.{Atom}
 use Rattle.order_formula.specs.declared.literal.Atom.TheVariants.{Before, Ends, Test}
 use Rattle.order_formula.specs.declared.literal.Literal.{Literal}
 use Rattle.order_formula.specs.declared.order.Choice.{Choice}
-use Rattle.order_formula.specs.Orders.{Order, AtomIsAsked, IsAsked, LiteralIsAsked, ConjunctIsAsked, same_choice, unasked}
+use Rattle.order_formula.specs.Orders.{Order, AtomIsAsked, IsAsked, LiteralIsAsked, ConjunctIsAsked, same_choice, order_without_questions}
 use Rattle.order_formula.specs.Orders.{with_atom, with_case, with_body, with_conjunct, with_formula}
 use Rattle.order_formula.specs.Worlds.{World}
 use Rattle.order_formula.proofs.Asked.{formula_asked}
@@ -51,7 +51,7 @@ use Rattle.clap_system.specs.Systems.{rules_of, system_by, with_needs}
 use Rattle.clap_system.specs.Tests.{test_formula}
 use Rattle.clap_system.proofs.Tests.{of_test}
 
--- a sleep, and a signal or a broadcast of its condition
+-- a sleep, and a signal or a broadcast on its condition
 pub record MayEnd (paths : Paths) (s g : ℕ) : Type 0 where
   pub sleep : Of Sleep
   pub at : slice_get (all_sleeps paths) s ≡ Some sleep
@@ -66,12 +66,12 @@ each_key P e ks k all own = by (list_any (e k) ks) refl
     by true is = rw is all
     by false is = rw is (All-push P ks k all own)
 
--- a world, of which nothing matters here
+-- some world, the same for all
 abbrev nowhere : World
 nowhere = record { positions = []; loads = []; enders = [] }
 
 module _ (paths : Paths) where
-  -- a part of a formula asks only of such a sleep and event whether it ends it
+  -- a part of a formula asks only about the possible enders of sleeps
   abbrev AtomAsks : Atom → Type 0
   AtomAsks (Before first second) = Unit {0}
   AtomAsks (Ends s g) = MayEnd paths s g
@@ -84,7 +84,7 @@ module _ (paths : Paths) where
   BodyAsks (body.Any cases) = All (All LiteralAsks) cases
   BodyAsks (body.Read r) = Unit {0}
 
-  -- so the order has only such choices
+  -- the order has only such choices
   abbrev pub HasEnders : Order → Type 0
   HasEnders o = All (λ c. MayEnd paths c.sleep c.by) o.choices
 
@@ -143,7 +143,7 @@ module _ (paths : Paths) where
     unended = λ s x g at among. record { sleep = x; at = at; ender = g; among = among; event = refl };
   }
 
-  -- those on the condition of a wait are sleeps
+  -- the sleeps on the condition of a wait are sleeps that its enders may end
   other_may : (c r : ℕ) (g : Ender) → Contains (sleeps_on (all_waits paths) c) r → Contains (enders (all_events paths) c) g → MayEnd paths r g.event
   other_may c r g i j =
       let s = sleep_is paths nowhere r c i in
@@ -211,7 +211,7 @@ module _ (paths : Paths) where
         reads_ask)
         (each_in P (test_formula symbolic) (λ c i. body_asks c.body (tests_ask symbolic c i)))
 
-    -- each choice that the formula asks is of a sleep, and of what may end it
+    -- each choice that the formula asks about is of a sleep and one of its possible enders
     pub choice_may : (o : Order) → HasEnders o → (s g : ℕ) → Contains (with_formula o (rules_of buffered bound code paths symbolic nodes)).choices (record { sleep = s; by = g })
         → MayEnd paths s g
     choice_may o has s g i =
@@ -219,7 +219,7 @@ module _ (paths : Paths) where
         All-contains (λ (c : Choice). MayEnd paths c.sleep c.by) after.choices (record { sleep = s; by = g })
         (formula_kept o (rules_of buffered bound code paths symbolic nodes) has rules_ask) i
 
-    -- and each of these is asked
+    -- each possible ender is asked about
     begun_in : (s : ℕ) (x : Of Sleep) (e : Ender) → slice_get (all_sleeps paths) s ≡ Some x → Contains (enders (all_events paths) x.it.condition) e
         → Contains (rules_of buffered bound code paths symbolic nodes) (begun (wait_of (all_events paths) (s, x)) e)
     begun_in s x e at among =
@@ -254,7 +254,8 @@ module _ (paths : Paths) where
             let same : a.0 ≡ own = ap₂ (λ m n. record { sleep = m; by = n }) (sym (eqb-true s a.0.sleep p.0)) (sym (eqb-true g a.0.by p.1)) in
             subst (Contains o.choices) same a.1
 
--- so a world of as many events, loads and sleeps as the paths is theirs exactly where each of its enders was asked
+-- a world with as many events, loads and sleeps as the paths is theirs exactly if its enders are
+-- choices of the order
 module _ (paths : Paths) (symbolic : Symbolic) (w : World) where
   pub chosen_where_theirs : IsWorldOf paths symbolic w → (s g : ℕ) → ender_of w s ≡ Some g → MayEnd paths s g
   chosen_where_theirs of s g ends =
@@ -279,7 +280,7 @@ module _ (paths : Paths) (symbolic : Symbolic) (w : World) where
         ];
   }
 
--- so it is with the system of paths
+-- the same for the system of paths
 pub choices_are_enders : (buffered : Bool) (bound : Binding) (code : Code) (paths : Paths) (w : World)
     → length w.positions ≡ length (all_events paths) → length w.loads ≡ (system_by buffered bound code paths).symbolic.loads
     → length w.enders ≡ length (all_sleeps paths)
@@ -288,7 +289,7 @@ pub choices_are_enders : (buffered : Bool) (bound : Binding) (code : Code) (path
 choices_are_enders buffered bound code paths w events loads sleeps =
     let x = executed code paths [] in
     let nodes = with_needs buffered bound code paths x.symbolic x.nodes in
-    let first = unasked (length (all_events paths)) (length (all_sleeps paths)) in
+    let first = order_without_questions (length (all_events paths)) (length (all_sleeps paths)) in
     let order = (system_by buffered bound code paths).order in
     let asked = formula_asked first (rules_of buffered bound code paths x.symbolic nodes) in (
       λ of s g ends. may_choice paths buffered bound code x.symbolic nodes order asked s g (chosen_where_theirs paths x.symbolic w of s g ends),

@@ -21,7 +21,8 @@ use Rattle.clap_system.specs.Systems.{rules_of}
 use Rattle.clap_system.specs.Tests.{test_formula}
 use Rattle.clap_system.proofs.Groups.{Apart, own_exact, sync_exact, read_exact, test_exact}
 
--- what the parts of a system show of the worlds of its paths, over terms in which all that they need is there
+-- the parts of a system are exact for the worlds of its paths, over terms that include all that
+-- they need
 pub record ArePartsExact (buffered : Bool) (bound : Binding) (code : Code) (paths : Paths) (symbolic : Symbolic) (nodes : List Node) (w : World)
     : Type 0 where
   pub own : (t : ℕ) → IsExactly nodes w (own_formula buffered bound paths symbolic nodes) (Own t) (MeetsRule buffered bound code paths symbolic nodes w (Own t))

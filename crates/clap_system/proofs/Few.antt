@@ -1,4 +1,4 @@
--- Paths of a log have no more sleeps than events.
+-- Paths of a log have at most as many sleeps as events.
 use Rattle.std.proofs.Common.{ℕ, ◌+◌, ◌≤◌, List, [], ◌∷◌, map, length, Option, Some, None, sym, subst, arith, length-append}
 use Rattle.std.specs.Prelude.{slice_get}
 use Rattle.std.specs.List.{cons_option}

@@ -1,4 +1,4 @@
--- Four formulas one after another, no two of which have a group in common.
+-- Four formulas together, no two of which share a group.
 use Rattle.std.proofs.Common.{◌≡◌, ◌∙◌, Bool, true, false, List, ◌++◌, sym, ap}
 use Rattle.std.specs.List.{Contains}
 use Rattle.std.proofs.lemmas.Bool.{true≢false}
@@ -23,7 +23,7 @@ abbrev pub is_test : Group → Bool
 is_test (Test t line) = true
 is_test _ = false
 
--- each conjunct is of a group that passes
+-- the group of each conjunct passes
 abbrev pub HaveGroups : (Group → Bool) → List Conjunct → Type 0
 HaveGroups is formula = (c : Conjunct) → Contains formula c → is c.group ≡ true
 

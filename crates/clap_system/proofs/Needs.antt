@@ -1,4 +1,4 @@
--- What the parts of a system need is there.
+-- All terms that the parts of a system need exist.
 use Rattle.std.proofs.Common.{◌≡◌, Bool, true, List, [], fold, sym, ap, subst}
 use Rattle.std.specs.List.{All, Contains}
 use Rattle.std.proofs.lemmas.List.Elements.{All-contains}
@@ -38,7 +38,7 @@ use Rattle.clap_system.proofs.Groups.{Apart, HaveGroups, is_own, is_read, is_tes
 use Rattle.clap_system.proofs.Tests.{of_test, tests_exact}
 
 module _ (buffered : Bool) (bound : Binding) (code : Code) (paths : Paths) (symbolic : Symbolic) (nodes : List Node) where
-  -- the terms with those that the order of a thread's events needs
+  -- the terms, with those that the order of a thread's events needs
   abbrev pub with_own : List Node
   with_own = fold with_node nodes (own_needs buffered bound paths symbolic nodes)
 
@@ -55,7 +55,7 @@ module _ (buffered : Bool) (bound : Binding) (code : Code) (paths : Paths) (symb
     pub have_own : HaveTerms with_own symbolic
     have_own = have_later nodes with_own symbolic (grows_all nodes (own_needs buffered bound paths symbolic nodes)) have
 
-    -- what was needed at first is needed while there are more terms, and is there
+    -- the terms needed at first are still needed with more terms, and exist
     needed_at : (later : List Node) → Grows nodes later → Grows with_own later → All (Contains later) (own_needs buffered bound paths symbolic later)
     needed_at later grows grown =
         let needs = own_needs buffered bound paths symbolic nodes in
@@ -71,7 +71,7 @@ module _ (buffered : Bool) (bound : Binding) (code : Code) (paths : Paths) (symb
     pub reads_needed : All (Contains with_all) (read_needs code symbolic with_all)
     reads_needed = needs_there code symbolic with_own with_all have_own (grows_none with_all)
 
-    -- the formula of a thread's own events stays as it was made
+    -- the formula of a thread's own events stays the same
     pub own_stays : own_formula buffered bound paths symbolic with_all ≡ own_formula buffered bound paths symbolic with_own
     own_stays = formula_later symbolic with_own have_own with_all own_grows buffered bound paths own_needed
 
@@ -100,7 +100,7 @@ apart buffered bound code paths symbolic nodes = record {
   test = test_groups symbolic;
 }
 
--- so each part of the system of paths is exact
+-- each part of the system of paths is exact
 pub parts_exact : (buffered : Bool) (bound : Binding) (code : Code) (paths : Paths) (w : World) → ((barred : Bool) → bound true barred ≡ true)
     → IsLawful code → ArePaths code paths → AreTerms (with_needs buffered bound code paths (executed code paths []).symbolic (executed code paths []).nodes)
     → IsWorld w → IsWorldOf paths (executed code paths []).symbolic w

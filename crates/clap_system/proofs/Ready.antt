@@ -1,4 +1,4 @@
--- What whoever turns a system into clauses builds on, of its parts and of all of it.
+-- Facts on a system and its parts, for crates that turn a system into clauses.
 use Rattle.std.proofs.Common.{◌≡◌, ◌∙◌, ℕ, ◌<◌, ◌==◌, pos, Bool, true, false, not, cond, ◌&&◌, List, [], ◌∷◌, ◌++◌, map, fold, length, get_or, Some, None}
 use Rattle.std.proofs.Common.{Option, inl, inr, refl, ap, sym, subst, arith}
 use Rattle.std.specs.Prelude.{is_none, option_and_then, slice_get}
@@ -28,7 +28,7 @@ use Rattle.sym_exec.specs.declared.symbolic.Test.{Test}
 use Rattle.sym_exec.proofs.Constants.{executed_ints}
 use Rattle.sym_exec.proofs.Grown.{stays_within}
 use Rattle.order_formula.specs.Formulas.{BodyIsOf, ConjunctIsOf, IsOf, LiteralIsOf, ReadIsOf}
-use Rattle.order_formula.specs.Orders.{ConjunctIsIn, LiteralIsIn, Order, unasked, with_formula}
+use Rattle.order_formula.specs.Orders.{ConjunctIsIn, LiteralIsIn, Order, order_without_questions, with_formula}
 use Rattle.order_formula.specs.Reads.{Read}
 use Rattle.order_formula.specs.declared.formula.Body.TheVariants as body
 use Rattle.order_formula.specs.declared.formula.Conjunct.{Conjunct}
@@ -71,7 +71,7 @@ tests_in symbolic o = each_in (ConjunctIsIn o) (test_formula symbolic) (λ c i.
     let t = of_test symbolic c i in
     subst (ConjunctIsIn o) t.is (one_of_one (LiteralIsIn o) (literal_of t.test) tt))
 
--- the terms of tests are there
+-- the terms of tests exist
 abbrev pub HaveTests : List Node → Symbolic → Type 0
 HaveTests nodes symbolic = (t : ℕ) (c : Course) (x : Test) → slice_get symbolic.threads t ≡ Some c → Contains c.tests x → x.term < length nodes
 
@@ -91,14 +91,14 @@ with_ints nodes (n ∷ ns) are more = with_ints (with_node nodes n) ns (one (lis
     one true is = rw is are
     one false is = rw is (All-push HasInt nodes n are (All-head HasInt n ns more))
 
--- the test of two indexes is no constant
+-- the constants in the test of two indexes are ints
 test_int : (nodes : List Node) (a b : Cell) (n : Node) → same_test nodes a b ≡ Some n → HasInt n
 test_int nodes (Element f m i) (Element g k j) n is =
     subst HasInt (cond_some (is_none (known_same nodes (Element f m i) (Element g k j))) (Binary Eq i j) n is).1 tt
 test_int nodes (Element f m i) (Fixed c) n is = absurd (none-some n is)
 test_int nodes (Fixed c) b n is = absurd (none-some n is)
 
--- those that the order of a thread's events needs
+-- the terms that the order of a thread's events needs
 kept_int : (buffered : Bool) (bound : Binding) (symbolic : Symbolic) (nodes : List Node) (t : ℕ) (p : Two Event) (n : Node)
     → kept_test buffered bound symbolic nodes t p ≡ Some n → HasInt n
 kept_int buffered bound symbolic nodes t p n is =
@@ -116,7 +116,7 @@ own_ints buffered bound paths symbolic nodes = each_in HasInt (own_needs buffere
     let p = of_flat_map (two_tests buffered bound symbolic nodes o.place) n (twos o.element.events) o.there in
     kept_int buffered bound symbolic nodes o.place p.0 n (of_option (kept_test buffered bound symbolic nodes o.place p.0) n p.2))
 
--- those that loads need
+-- the terms that loads need
 get_or_all : {X : Type 0} (P : X → Type 0) (xs : List X) (k : ℕ) (d : X) → All P xs → P d → P (get_or xs k d)
 get_or_all P xs k d all own = elim (cases_lt k (length xs)) [
   | inl within ↦ All-get_or P xs k d within all
@@ -162,7 +162,7 @@ module _ (buffered : Bool) (bound : Binding) (code : Code) (paths : Paths) (symb
   abbrev rules : List Conjunct
   rules = rules_of buffered bound code paths symbolic nodes
 
-  -- what holds of each part holds of all
+  -- what holds for each part holds for the whole
   each_rule : (P : Conjunct → Type 0) → All P own → All P (sync_formula paths) → All P read → All P (test_formula symbolic) → All P rules
   each_rule P of_own of_sync of_read of_test =
       All-append P (own ++ sync_formula paths ++ read) (test_formula symbolic)
@@ -224,7 +224,7 @@ module _ (buffered : Bool) (bound : Binding) (code : Code) (paths : Paths) (lawf
   all = with_needs buffered bound code paths symbolic first
 
   abbrev order : Order
-  order = with_formula (unasked (length (all_events paths)) (length (all_sleeps paths))) (rules_of buffered bound code paths symbolic all)
+  order = with_formula (order_without_questions (length (all_events paths)) (length (all_sleeps paths))) (rules_of buffered bound code paths symbolic all)
 
   have : HaveTerms first symbolic
   have = have_terms code lawful paths []
@@ -244,12 +244,12 @@ module _ (buffered : Bool) (bound : Binding) (code : Code) (paths : Paths) (lawf
       let is_whole : AreWhole paths = whole code paths are in
       let is_done : IsExecutedBy paths symbolic = is_executed code paths [] are in
       let rules = rules_of buffered bound code paths symbolic all in
-      let grown = grows_formula (unasked (length (all_events paths)) (length (all_sleeps paths))) rules in
+      let grown = grows_formula (order_without_questions (length (all_events paths)) (length (all_sleeps paths))) rules in
       let own = own_needs buffered bound paths symbolic first in
       record {
         events = grown.events ∙ sym is_whole.counted;
         within = rules_in buffered bound code paths symbolic all order is_whole is_done grown.events grown.sleeps;
-        asked = formula_asked (unasked (length (all_events paths)) (length (all_sleeps paths))) rules;
+        asked = formula_asked (order_without_questions (length (all_events paths)) (length (all_sleeps paths))) rules;
         differ = rules_differ buffered bound code paths symbolic all is_done;
         terms = terms_there;
         ints = with_ints (fold with_node first own) (read_needs code symbolic (fold with_node first own))

@@ -1,4 +1,4 @@
--- Tests come out as the paths have them exactly where their conjuncts are true.
+-- Tests have the outcomes of the paths exactly if their conjuncts are true.
 use Rattle.std.proofs.Common.{◌≡◌, ◌∙◌, ℕ, Bool, true, false, List, [], ◌∷◌, map, Some, refl, sym, ap}
 use Rattle.std.specs.Prelude.{slice_get}
 use Rattle.std.specs.Bool.{beq}
@@ -40,7 +40,7 @@ same_thread t u l m e = cc
 same_line : (t u l m : ℕ) → group.Test t l ≡ group.Test u m → l ≡ m
 same_line t u l m e = cc
 
--- a conjunct is that of a test
+-- a conjunct belongs to a test
 pub record IsOfTest (symbolic : Symbolic) (c : Conjunct) : Type 0 where
   pub thread : ℕ
   pub course : Course

@@ -7,7 +7,7 @@ use Rattle.store_buffers.specs.Pending.{Binding}
 use Rattle.sym_terms.specs.Terms.{with_node}
 use Rattle.sym_terms.specs.declared.node.Node.{Node}
 use Rattle.sym_exec.specs.Executed.{Symbolic, executed}
-use Rattle.order_formula.specs.Orders.{Order, unasked, with_formula}
+use Rattle.order_formula.specs.Orders.{Order, order_without_questions, with_formula}
 use Rattle.order_formula.specs.declared.formula.Conjunct.{Conjunct}
 use Rattle.lawful_order.specs.Events.{all_events, all_sleeps}
 use Rattle.memory_order.specs.Own.{own_formula, own_needs}
@@ -41,7 +41,7 @@ module _ (buffered : Bool) (bound : Binding) (code : Code) (paths : Paths) where
     paths = paths;
     symbolic = symbolic;
     nodes = nodes;
-    order = with_formula (unasked (length (all_events paths)) (length (all_sleeps paths))) (rules_of symbolic nodes);
+    order = with_formula (order_without_questions (length (all_events paths)) (length (all_sleeps paths))) (rules_of symbolic nodes);
     formula = rules_of symbolic nodes;
   }
 

@@ -8,7 +8,7 @@ ghost use Rattle.path_walk.specs.Paths.{ArePaths};
 ghost use Rattle.tc_code.specs.Code as spec;
 ghost use Rattle.clap_system.specs.Faults.{IsBuildFault, IsShallow, first_deep, limit_of};
 ghost use Rattle.clap_system.specs.declared.fault.BuildFault.TheVariants.{Limit};
-ghost use Rattle.order_formula.specs.Orders.{unasked, with_formula};
+ghost use Rattle.order_formula.specs.Orders.{order_without_questions, with_formula};
 ghost use Rattle.lawful_order.specs.Events.{all_events, all_sleeps};
 ghost use Rattle.lawful_order.specs.Whole.{AreWhole, IsExecutedBy};
 ghost use Rattle.order_cells.specs.Terms.{HaveTerms};
@@ -123,7 +123,7 @@ fn no_questions(alloc: Global, paths: &Paths) -> Result<Order, AllocError>
     requires counted { paths.now.events ≡ length (all_events paths.now) }
     requires few { paths.now.events ≤ EVENTS }
     requires sleeps { length (all_sleeps paths.now) ≤ EVENTS }
-    ensures { IfOk result (λ order. order ≡ unasked (length (all_events paths.now)) (length (all_sleeps paths.now))) }
+    ensures { IfOk result (λ order. order ≡ order_without_questions (length (all_events paths.now)) (length (all_sleeps paths.now))) }
 {
     let sleeps = Sleeps::of(alloc, paths)?;
     let count = sleeps.all().len() as u32;

@@ -42,8 +42,8 @@ pub fn systems_are_ready()
         → IsLawful code → ArePaths code paths → IsReady (system_by buffered bound code paths) }
 {}
 
-/// A world with the paths' numbers of events, loads and sleeps is a world of the paths exactly when
-/// every event that ends a sleep is among the order's choices for that sleep.
+/// Take a world with the paths' numbers of events, loads and sleeps. It is a world of the paths
+/// exactly when every event that ends a sleep is among the order's choices for that sleep.
 pub fn choices_are_enders()
     ensures { (buffered : Bool) (bound : Binding) (code : Code) (paths : Paths) (w : World)
         → length w.positions ≡ length (all_events paths) → length w.loads ≡ (system_by buffered bound code paths).symbolic.loads

@@ -1,4 +1,4 @@
--- What satisfies the clauses of a gate, and of a block of gates.
+-- Values that satisfy the clauses of a gate, and of a block of gates.
 use Rattle.std.proofs.Common.{
   ◌≡◌,
   ℕ,
@@ -185,7 +185,7 @@ var_of-neg (negsuc n) = refl
 or-values : (p q x : Bool) → same (not x) (not p && not q) ≡ same x (p || q)
 or-values p q x = grind arith
 
--- the clauses of a gate are satisfied exactly where its variable has its value
+-- the clauses of a gate are satisfied exactly if its variable has the gate's value
 clauses_for-mean : (v : Valuation) (n : ℕ) (g : Gate) (a b : ℤ) → 0 < var_of a → 0 < var_of b
     → satisfies v (clauses_for n g a b) ≡ same (v (suc n)) (gate_value g (literal_true v a) (literal_true v b))
 clauses_for-mean v n And a b ha hb = and_clauses-mean v a b (pos (suc n)) ha hb (omega arith)
@@ -196,7 +196,7 @@ clauses_for-mean v n Or a b ha hb =
     ∙ or-values (literal_true v a) (literal_true v b) (v (suc n))
 clauses_for-mean v n Xor a b ha hb = xor_clauses-mean v a b (pos (suc n)) ha hb (omega arith)
 
--- values that agree on the first variables give literals, clauses and lists over these the same value
+-- values that agree on the first variables agree on literals, clauses and lists over these
 pub literal_true-agree : (n : ℕ) (v w : Valuation) (l : ℤ) → Agree n v w → var_of l ≤ n → literal_true v l ≡ literal_true w l
 literal_true-agree n v w (pos zero) h b = refl
 literal_true-agree n v w (pos (suc k)) h b = h (suc k) b
@@ -300,7 +300,7 @@ within-more n [] h = refl
 within-more n (c ∷ cs) h = and_from _ _ (is_within-upto n (suc n) c (omega arith) (and_parts (is_within n c) _ h).0)
     (within-more n cs (and_parts (is_within n c) _ h).1)
 
--- the parts of a gate's being over the first variables
+-- the literals of a gate are over the first variables
 pub record IsGateOver (n : ℕ) (g : Wired) : Type 0 where
   pub first-positive : 0 < var_of g.first
   pub first-within : var_of g.first ≤ n
@@ -371,7 +371,7 @@ block-keeps f (g ∷ gs) v h o s =
     let r = block-keeps (after_gate f g) gs w (IsOver-gate f g over h) rest (gate-keeps f g v over h s) in
     (r.0, Agree-trans f.vars v w (extended w (suc f.vars) gs) (with_value-other v f.vars (value_of v g)) (Agree-less f.vars w (extended w (suc f.vars) gs) r.1))
 
--- satisfying a block satisfies what was before it
+-- values that satisfy a block satisfy what came before it
 block-after : (f : Formula) (gs : List Wired) (w : Valuation) → satisfies w (after_gates f gs).clauses ≡ true → satisfies w f.clauses ≡ true
 block-after f [] w s = s
 block-after f (g ∷ gs) w s =

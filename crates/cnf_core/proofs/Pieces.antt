@@ -1,4 +1,4 @@
--- The pieces of a list, as a formula lies in memory.
+-- The pieces of a list, as a formula is stored in memory.
 use Rattle.std.proofs.Common.{
   subst,
   add-one,
@@ -88,7 +88,7 @@ pieces-push from (e ∷ es) xs ys h =
     let q : pieces e (es ++ (length xs + length ys) ∷ []) (xs ++ ys) ≡ pieces e es xs ++ ys ∷ [] = pieces-push e es xs ys h.1 in
     cc
 
--- a test that each element passes is passed by the one at a place
+-- if each element passes a test, the one at a place does
 pub list_all-at : {X : Type 0} (p : X → Bool) (xs : List X) (k : ℕ) (d : X) → IsTrue (list_all p xs) → k < length xs → IsTrue (p (get_or xs k d))
 list_all-at p [] k d h b = absurd (omega arith)
 list_all-at p (x ∷ xs) zero d h b = grind arith
@@ -102,7 +102,7 @@ pub are_clauses-more : (vars : ℕ) (cs : List (List ℤ)) → IsTrue (are_claus
 are_clauses-more vars [] h = refl
 are_clauses-more vars (c ∷ cs) h = grind (arith, are_clauses-more vars cs, is_within-upto vars (vars + 1) c (omega arith))
 
--- where the clause at a place lies, and what it is
+-- the range of the clause at a place, and its literals
 pub record LiesAt (i : Inside) (f : Formula) (place : ℕ) : Type 0 where
   pub there : place < length i.ends.items
   pub ordered : get_or (0 ∷ i.ends.items) place 0 ≤ get_or i.ends.items place 0
@@ -138,7 +138,7 @@ lies_at i f place is laid h =
 one-more : (a b c : Bool) → a ≡ true → b ≡ true → c ≡ true → (a && (b && c && true)) ≡ true
 one-more a b c p q r = grind arith
 
--- what is laid out after one clause more at the end
+-- the stored formula with one more clause
 pub IsLaidOut-push : (i : Inside) (f : Formula) (es : List ℕ) (xs ys : List ℤ) → formula_of i ≡ f → IsLaidOut i
     → es ≡ i.ends.items ++ (length i.literals.items + length ys) ∷ [] → xs ≡ i.literals.items ++ ys → IsTrue (is_clause ys)
     → IsTrue (is_within f.vars ys) → length f.clauses + 1 < LIMIT → (EndAt 0 es (length xs)) × (IsTrue (are_clauses i.vars (pieces 0 es xs)))
@@ -165,7 +165,7 @@ IsLaidOut-push i f es xs ys is laid e x rises within room =
       now ∙ ap (λ cs. cs ++ ys ∷ []) same,
     )
 
--- satisfying one clause more
+-- satisfying one more clause
 satisfies-suc : (v : Valuation) (cs : List (List ℤ)) (k : ℕ) (c : List ℤ) → slice_get cs k ≡ Some c
     → satisfies v (take (suc k) cs) ≡ (satisfies v (take k cs) && clause_true v c)
 satisfies-suc v [] k c h = absurd (cc)
@@ -204,7 +204,7 @@ pieces-append from (e ∷ es) xs ys h =
     let q : pieces e es (xs ++ ys) ≡ pieces e es xs = pieces-append e es xs ys h.1 in
     cc
 
--- what is laid out once the last clauses are cut off
+-- the stored formula without its last clauses
 pub IsLaidOut-take : (i : Inside) (f : Formula) (n vars : ℕ) (es : List ℕ) (xs : List ℤ) → formula_of i ≡ f → IsLaidOut i → n ≤ length f.clauses
     → es ≡ take n i.ends.items → xs ≡ take (get_or (0 ∷ i.ends.items) n 0) i.literals.items → IsTrue (are_clauses vars (take n f.clauses))
     → (EndAt 0 es (length xs)) × (IsTrue (are_clauses vars (pieces 0 es xs))) × (length es < LIMIT) × (pieces 0 es xs ≡ take n f.clauses)
@@ -227,11 +227,11 @@ IsLaidOut-take i f n vars es xs is laid b e x good =
     in
     (subst E (sym e) ends, ap (are_clauses vars) now ∙ good, omega (arith, ap length e, length-take n i.ends.items, laid.few_clauses), now)
 
--- a formula's clauses are clauses over its variables
+-- the stored clauses are over the formula's variables
 pub clauses_of_laid : (i : Inside) (f : Formula) → formula_of i ≡ f → IsLaidOut i → IsTrue (are_clauses f.vars f.clauses)
 clauses_of_laid i f is laid = let P : Formula → Type 0 = λ g. IsTrue (are_clauses g.vars g.clauses) in subst P is laid.clauses
 
--- each of some lent clauses is one
+-- each of some borrowed clauses is over the variables
 pub good-at : (n : ℕ) (cs : List (Bor (List ℤ))) (k : ℕ) (d : Bor (List ℤ)) → IsTrue (are_clauses n (all_now cs)) → k < length cs
     → (IsTrue (is_clause (get_or cs k d).now)) × IsTrue (is_within n (get_or cs k d).now)
 good-at n [] k d h b = absurd (omega arith)
@@ -239,7 +239,7 @@ good-at n (c ∷ cs) zero d h b = let g : IsTrue (is_clause c.now && is_within n
     in ((and_parts (is_clause c.now) _ g).0, (and_parts (is_clause c.now) _ g).1)
 good-at n (c ∷ cs) (suc k) d h b = good-at n cs k d (and_parts (is_clause c.now && is_within n c.now) _ h).1 (omega arith)
 
--- what is kept of a list of clauses that was added to
+-- the old clauses of a list to which others were added
 pub clauses-kept : (n m k : ℕ) (old new : List (List ℤ)) → IsTrue (are_clauses n old) → take (length old) new ≡ old → m ≡ n → k ≡ length old
     → IsTrue (are_clauses m (take k new))
 clauses-kept n m k old new h t e l = ap (λ j. are_clauses j (take k new)) e ∙ ap (λ j. are_clauses n (take j new)) l ∙ ap (are_clauses n) t ∙ h

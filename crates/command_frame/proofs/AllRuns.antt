@@ -1,4 +1,4 @@
--- From an answer with its cause, as it was said, to what every run of a command does.
+-- From an answer with its cause to the theorem about every run of a command.
 use Rattle.std.proofs.Common.{arith, ◌≡◌, ◌≢◌, ◌∙◌, ◌⊎◌, inl, inr, ap, refl, sym, subst, ℕ, List, Option, Some, None, IfSome}
 use Rattle.tc_io.specs.Outside.{Files, Reading, Writing, ShelfTells, SinkTells}
 use Rattle.command_frame.specs.Inputs.{Texts, GaveAll, texts_under}
@@ -19,7 +19,7 @@ read_or_written name lost same = cc
 same_lost : (name lost : List ℕ) → Some (Writing name) ≡ Some (Writing lost) → name ≡ lost
 same_lost name lost same = cc
 
--- where there was no memory for the text the status is 8 or 9
+-- if there was no memory for the text, the status is 8 or 9
 no_memory_status : (status : ℕ) (j k : SinkTells) → SaysNoMemory status j k → (status ≡ 8) ⊎ (status ≡ 9)
 no_memory_status status j k (inl h) = inr h.0
 no_memory_status status j k (inr h) = inl h.0
@@ -38,7 +38,7 @@ module _ {A : Type 0} (m : Meaning A) where
   said a status j k (inr (inl fails)) = inr (inl fails.2)
   said a status j k (inr (inr none)) = inr (no_more_status a status j k none)
 
-  -- after a failed keep it is 8
+  -- after a failed keep the status is 8
   lost_status : (name : List ℕ) (status : ℕ) (j k : SinkTells) → Says m (WriteFault name) status j k → status ≡ 8
   lost_status name status j k (inl puts) = puts.2
   lost_status name status j k (inr (inl fails)) = fails.2
@@ -60,14 +60,14 @@ module _ {A : Type 0} (m : Meaning A) where
   failure_said failure.Memory status j k (inr (inr h)) = inr (inr h)
 
   module _ (old new : ShelfTells) where
-    -- why the inputs couldn't be read is the cause of the answer that says so
+    -- the reason why inputs couldn't be read is the cause of the answer
     pub missing_cause : (f : Failure) → IsWhyMissing m.inputs old new f → IsCause m old new (failed_answer f)
     missing_cause (failure.Read name) h = h
     missing_cause (failure.TooLong limit) h = h
     missing_cause (failure.Write name) h = absurd h
     missing_cause failure.Memory h = (h.1, inl h.0)
 
-    -- and so is why not all was kept
+    -- the reason why not all was kept is the cause of the answer
     pub unkept_cause : (f : Failure) (s : ShelfTells) (t : Texts) (x : A) → GaveAll m.inputs old s t → m.ComesOf t x
         → IsWhyUnkept (m.keeps_of x) s new f → IsCause m old new (failed_answer f)
     unkept_cause (failure.Write name) s t x gave comes h = (x, (t, s, gave, comes, h))
@@ -77,7 +77,7 @@ module _ {A : Type 0} (m : Meaning A) where
     unkept_cause (failure.Read name) s t x gave comes h = absurd h
     unkept_cause (failure.TooLong limit) s t x gave comes h = absurd h
 
-    -- what an answer leaves on the shelf, but for failed keeps and want of memory
+    -- the files after an answer, except after failed keeps and lack of memory
     held_whole : (a : Answer A) → IsCause m old new a → status_of m a ≢ 8 → status_of m a ≢ 9 → new.held ≡ put_all (kept_by m a) old.held
     held_whole (Gives x) c eight nine = (all_held (m.keeps_of x) c.1 new c.4).0 ∙ ap (put_all (m.keeps_of x)) (given_still m.inputs old c.1 c.0 c.2).0
     held_whole (ReadFault name) c eight nine = (failed_still m.inputs old new name c).0
@@ -95,7 +95,7 @@ module _ {A : Type 0} (m : Meaning A) where
     left (WriteFault name) c = inr (name, refl, c)
     left NoMemory c = inl c.1
 
-    -- where the shelf counted a fault, and its last is of a keep, the answer is that of a keep that failed
+    -- if the shelf counted a fault and the last was of a keep, the answer is that of a failed keep
     keep_failed : (a : Answer A) → IsCause m old new a → new.faults ≢ old.faults → (name : List ℕ) → new.last_fault ≡ Some (Writing name)
         → (lost : List ℕ) × (a ≡ WriteFault lost) × LosesOne m old new name
     keep_failed (Gives x) c rose name last =
@@ -148,7 +148,7 @@ module _ {A : Type 0} (m : Meaning A) where
               (lost_status lost.0 status j k (subst (λ b. Says m b status j k) lost.1 says), lost.2)
 
     -- an answer with its cause is one to what the inputs hold, or its status is that of a fault
-    answers_to : (files : Files) → old.held ≡ Some files → (a : Answer A) → IsCause m old new a
+    pub answers_to : (files : Files) → old.held ≡ Some files → (a : Answer A) → IsCause m old new a
         → IsAnswerTo m (texts_under files m.inputs) a ⊎ IsFaultStatus (status_of m a)
     answers_to files told (Gives x) c =
         let same = all_told files m.inputs old c.1 c.0 c.2 told in
@@ -158,7 +158,7 @@ module _ {A : Type 0} (m : Meaning A) where
     answers_to files told (WriteFault name) c = inr (inr (inl refl))
     answers_to files told NoMemory c = inr (inr (inr refl))
 
-  -- where an answer is put, the only one is
+  -- if an answer is put, the only one is
   only_put : (t : Texts) (a b : Answer A) (status : ℕ) (j k : SinkTells) → IsAnswerTo m t a → IsOnlyAnswer m t b → Puts m a status j k
       → Puts m b status j k
   only_put t (Gives x) (Gives y) status j k is only puts =
@@ -178,7 +178,7 @@ module _ {A : Type 0} (m : Meaning A) where
   only_put t (WriteFault name) b status j k is only puts = absurd is
   only_put t NoMemory b status j k is only puts = absurd is
 
-  same_fault : (a : Answer A) (status : ℕ) → status ≡ status_of m a → IsFaultStatus (status_of m a) → IsFaultStatus status
+  pub same_fault : (a : Answer A) (status : ℕ) → status ≡ status_of m a → IsFaultStatus (status_of m a) → IsFaultStatus status
   same_fault a status same fault = subst IsFaultStatus (sym same) fault
 
   module _ (old new : ShelfTells) (a : Answer A) (status : ℕ) (j k : SinkTells) (cause : IsCause m old new a) (says : Says m a status j k) where

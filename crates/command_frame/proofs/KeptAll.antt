@@ -2,21 +2,21 @@
 use Rattle.std.proofs.Common.{arith, ◌≡◌, ◌∙◌, inl, inr, ap, refl, sym, subst, ℕ, suc, ◌+◌, ◌<◌, List, [], ◌∷◌, ◌++◌, length, map, take, drop, get_or, Option, Some}
 use Rattle.std.proofs.Math.Seq.{split_at, take-suc}
 use Rattle.std.proofs.lemmas.List.{map-append, take-append-drop}
-use Rattle.tc_io.specs.Outside.{Files, ShelfTells, Kept, KeptPart, Writing, closed, put_under}
+use Rattle.tc_io.specs.Outside.{Files, ShelfTells, Kept, KeptPart, Writing, without_reading, put_under}
 use Rattle.command_frame.specs.Keeps.{Keep, FailsToKeep, HoldsFirst, KeptAll, put_all}
 
--- those that were kept, and the next
+-- some keeps were made, and then one more
 kept_push : (ks : List Keep) (k : Keep) (old s new : ShelfTells) → KeptAll ks old s → Kept s new k.name k.bytes → KeptAll (ks ++ k ∷ []) old new
 kept_push [] k old s new all one = (new, subst (λ o. Kept o new k.name k.bytes) all one, refl)
 kept_push (x ∷ ks) k old s new all one = (all.0, all.1, kept_push ks k all.0 s new all.2 one)
 
--- those that were kept, and the next that wasn't
+-- some keeps were made, and then one failed
 fails_after : (ks more : List Keep) (k : Keep) (old s new : ShelfTells) → KeptAll ks old s → KeptPart s new k.name k.bytes
     → FailsToKeep (ks ++ k ∷ more) old new k.name
 fails_after [] more k old s new all one = inl (refl, subst (λ o. KeptPart o new k.name k.bytes) all one)
 fails_after (x ∷ ks) more k old s new all one = inr (all.0, all.1, fails_after ks more k all.0 s new all.2 one)
 
--- a keep counts no fault
+-- a keep that is made counts no fault
 kept_held : (k : Keep) (old new : ShelfTells) → Kept old new k.name k.bytes → (new.held ≡ put_under k.name k.bytes old.held) × (new.faults ≡ old.faults)
 kept_held k old new kept = (ap (λ (s : ShelfTells). s.held) kept, ap (λ (s : ShelfTells). s.faults) kept)
 
@@ -24,8 +24,8 @@ pub first_none : (ks : List Keep) (held : Option Files) → HoldsFirst ks held h
 first_none [] held = refl
 first_none (k ∷ ks) held = inl refl
 
--- those that were kept, and then no memory
-first_after : (ks more : List Keep) (old s new : ShelfTells) → KeptAll ks old s → new ≡ closed s
+-- some keeps were made, and then there was no memory
+first_after : (ks more : List Keep) (old s new : ShelfTells) → KeptAll ks old s → new ≡ without_reading s
     → (new.faults ≡ old.faults) × HoldsFirst (ks ++ more) old.held new.held
 first_after [] more old s new all none = (
   ap (λ (x : ShelfTells). x.faults) none ∙ ap (λ (x : ShelfTells). x.faults) all,
@@ -56,7 +56,7 @@ failed_last (k ∷ ks) old new name (inl fails) =
     ap (λ (s : ShelfTells). s.last_fault) fails.1.2 ∙ ap (λ n. Some (Writing n)) (sym fails.0)
 failed_last (k ∷ ks) old new name (inr later) = failed_last ks later.0 new name later.2
 
--- the same of a list of which the first were kept, and then this one or not
+-- the same for a list whose first keeps were made, and then this one or not
 module _ {X : Type 0} (plain : X → Keep) (keeps : List X) (i : ℕ) (d : X) (small : i < length keeps) where
   split_keeps : map plain keeps ≡ map plain (take i keeps) ++ plain (get_or keeps i d) ∷ map plain (drop (suc i) keeps)
   split_keeps = ap (map plain) (split_at keeps i d small) ∙ map-append plain (take i keeps) (get_or keeps i d ∷ drop (suc i) keeps)
@@ -75,7 +75,7 @@ module _ {X : Type 0} (plain : X → Keep) (keeps : List X) (i : ℕ) (d : X) (s
     next_failed one = subst (λ ks. FailsToKeep ks old new (plain (get_or keeps i d)).name) (sym split_keeps) (fails_after _ _ _ old s new all one)
 
 pub next_none : {X : Type 0} (plain : X → Keep) (keeps : List X) (i : ℕ) (old s new : ShelfTells) → KeptAll (map plain (take i keeps)) old s
-    → new ≡ closed s → (new.faults ≡ old.faults) × HoldsFirst (map plain keeps) old.held new.held
+    → new ≡ without_reading s → (new.faults ≡ old.faults) × HoldsFirst (map plain keeps) old.held new.held
 next_none plain keeps i old s new all none =
     let split = sym (map-append plain (take i keeps) (drop i keeps)) ∙ ap (map plain) (take-append-drop i keeps) in
     subst (λ ks. (new.faults ≡ old.faults) × HoldsFirst ks old.held new.held) split (first_after _ _ old s new all none)

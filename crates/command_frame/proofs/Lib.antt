@@ -1,3 +1,5 @@
 pub mod KeptAll
 pub mod ReadAll
 pub mod AllRuns
+pub mod PieceByPiece
+pub mod Statuses

@@ -1,7 +1,7 @@
--- From the reading of one input to the reading of all, and from what the shelf gave to what it tells.
+-- From reading one input to reading all, and from the bytes given to those in the shelf's files.
 use Rattle.std.proofs.Common.{arith, ◌≡◌, ◌∙◌, ◌⊎◌, inl, inr, ap, ap₂, refl, sym, subst, ℕ, ◌<◌, List, [], ◌∷◌, ◌++◌, length, Some}
 use Rattle.std.specs.Prelude.{IfSome}
-use Rattle.tc_io.specs.Outside.{Files, Reading, ShelfTells, bytes_at, counted_on}
+use Rattle.tc_io.specs.Outside.{Files, Reading, ShelfTells, bytes_at, capped_sum}
 use Rattle.command_frame.specs.Inputs.{Limit, Wanted, Whole, Entire, InPieces, Texts, name_of, texts_under}
 use Rattle.command_frame.specs.Inputs.{GaveInput, FailedInput, PassedLimit, IsWithinLimit, IsPastLimit}
 use Rattle.command_frame.specs.Inputs.{GaveAll, FailsToRead, PassesLimit, IsTooLong, AreWithin}
@@ -9,7 +9,7 @@ use Rattle.command_frame.specs.helpers.Failures.{HeldStill, IsWhyMissing}
 use Rattle.command_frame.specs.declared.failure.Failure.{Failure}
 use Rattle.command_frame.specs.declared.failure.Failure.TheVariants.{Read, TooLong, Write, Memory}
 
--- some inputs, and then others
+-- some inputs were given, and then others
 pub gave_both : (ws vs : List Wanted) (old s new : ShelfTells) (t u : Texts) → GaveAll ws old s t → GaveAll vs s new u
     → GaveAll (ws ++ vs) old new (t ++ u)
 gave_both [] vs old s new [] u g h = subst (λ o. GaveAll vs o new u) g h
@@ -41,7 +41,7 @@ passes_later [] vs old s new (t ∷ ts) limit g p = absurd g
 passes_later (w ∷ ws) vs old s new [] limit g p = absurd g
 passes_later (w ∷ ws) vs old s new (t ∷ ts) limit g p = inr (g.0, t, g.1, passes_later ws vs g.0 s new ts limit g.2 p)
 
--- a shelf that gave an input holds what it held, and counted no fault
+-- a shelf that gave an input keeps its files and counts no fault
 gave_still : (w : Wanted) (old new : ShelfTells) (bytes : List ℕ) → GaveInput w old new bytes → HeldStill old new
 gave_still (Whole limit name) old new bytes g = (ap (λ (x : ShelfTells). x.held) g.1, ap (λ (x : ShelfTells). x.faults) g.1)
 gave_still (Entire name) old new bytes g = (ap (λ (x : ShelfTells). x.held) g.1, ap (λ (x : ShelfTells). x.faults) g.1)
@@ -56,7 +56,7 @@ given_still (w ∷ ws) old s (t ∷ ts) g =
     let first = gave_still w old g.0 t g.1 in
     (rest.0 ∙ first.0, rest.1 ∙ first.1)
 
--- why the first of two couldn't be read, or the second
+-- the first or the second part of the inputs couldn't be read
 pub missing_first : (ws vs : List Wanted) (old new : ShelfTells) (f : Failure) → IsWhyMissing ws old new f → IsWhyMissing (ws ++ vs) old new f
 missing_first ws vs old new (Read name) h = fails_first ws vs old new name.now h
 missing_first ws vs old new (TooLong limit) h = passes_first ws vs old new _ h
@@ -70,15 +70,15 @@ missing_later ws vs old s new t (TooLong limit) g h = passes_later ws vs old s n
 missing_later ws vs old s new t (Write name) g h = absurd h
 missing_later ws vs old s new t Memory g h = let still = given_still ws old s t g in (h.0 ∙ still.0, h.1 ∙ still.1)
 
--- one fault was counted, and that read is the last; or none was
+-- one more fault was counted, of this read, or none was
 abbrev pub CountsRead : ShelfTells → ShelfTells → List ℕ → Type 0
-CountsRead old new name = ((new.faults ≡ counted_on old.faults 1) × (new.last_fault ≡ Some (Reading name))) ⊎ (new.faults ≡ old.faults)
+CountsRead old new name = ((new.faults ≡ capped_sum old.faults 1) × (new.last_fault ≡ Some (Reading name))) ⊎ (new.faults ≡ old.faults)
 
 counts_later : (old s new : ShelfTells) (name : List ℕ) → s.faults ≡ old.faults → CountsRead s new name → CountsRead old new name
-counts_later old s new name still (inl c) = inl (c.0 ∙ ap (λ n. counted_on n 1) still, c.1)
+counts_later old s new name still (inl c) = inl (c.0 ∙ ap (λ n. capped_sum n 1) still, c.1)
 counts_later old s new name still (inr c) = inr (c ∙ still)
 
--- one that failed to give it holds what it held
+-- a shelf that failed to give an input keeps its files
 input_failed : (w : Wanted) (old new : ShelfTells) → FailedInput w old new → (new.held ≡ old.held) × CountsRead old new (name_of w)
 input_failed (Whole limit name) old new f =
     (ap (λ (x : ShelfTells). x.held) f.2, inl (ap (λ (x : ShelfTells). x.faults) f.2, ap (λ (x : ShelfTells). x.last_fault) f.2))
@@ -99,7 +99,7 @@ failed_still (w ∷ ws) old new name (inr f) =
     let first = gave_still w old f.0 f.1 f.2 in
     (rest.0 ∙ first.0, counts_later old f.0 new name first.1 rest.1)
 
--- and one that has one too long holds what it held, and counted no fault
+-- a shelf with too long an input keeps its files and counts no fault
 input_passed : (w : Wanted) (old new : ShelfTells) (limit : Limit) → PassedLimit w old new limit → HeldStill old new
 input_passed (Whole own name) old new limit p = (ap (λ (x : ShelfTells). x.held) p.1.0, ap (λ (x : ShelfTells). x.faults) p.1.0)
 input_passed (InPieces name) old new limit p = absurd p
@@ -113,7 +113,7 @@ passed_still (w ∷ ws) old new limit (inr p) =
     let first = gave_still w old p.0 p.1 p.2 in
     (rest.0 ∙ first.0, rest.1 ∙ first.1)
 
--- what is given isn't longer than its limit
+-- the bytes given aren't longer than the input's limit
 gave_within : (w : Wanted) (old new : ShelfTells) (bytes : List ℕ) → GaveInput w old new bytes → IsWithinLimit w bytes
 gave_within (Whole limit name) old new bytes g = g.0
 gave_within (InPieces name) old new bytes g = tt
@@ -125,7 +125,7 @@ all_within [] old new (t ∷ ts) g = absurd g
 all_within (w ∷ ws) old new [] g = absurd g
 all_within (w ∷ ws) old new (t ∷ ts) g = (gave_within w old g.0 t g.1, all_within ws g.0 new ts g.2)
 
--- where the shelf tells what it holds, these are the bytes of the name
+-- if the shelf tells its files, these are the bytes of the name
 gave_told : (files : Files) (w : Wanted) (old new : ShelfTells) (bytes : List ℕ) → GaveInput w old new bytes → old.held ≡ Some files
     → bytes ≡ bytes_at files (name_of w)
 gave_told files (Whole limit name) old new bytes g told = subst (λ o. IfSome o (λ f. bytes ≡ bytes_at f name)) told g.2
@@ -147,7 +147,7 @@ passed_told files (Whole own name) old new limit p told = (p.0, subst (λ o. IfS
 passed_told files (InPieces name) old new limit p told = absurd p
 passed_told files (Entire name) old new limit p told = absurd p
 
--- an input that passes its limit is the first of those that the shelf tells
+-- an input past its limit is the first such one in the shelf's files
 pub passes_told : (files : Files) (ws : List Wanted) (old new : ShelfTells) (limit : Limit) → PassesLimit ws old new limit → old.held ≡ Some files
     → IsTooLong ws (texts_under files ws) limit
 passes_told files [] old new limit p told = absurd p
@@ -158,7 +158,7 @@ passes_told files (w ∷ ws) old new limit (inr p) told =
       passes_told files ws p.0 new limit p.3 ((gave_still w old p.0 p.1 p.2).0 ∙ told),
     )
 
--- an input that is past its limit isn't within it
+-- an input past its limit isn't within it
 past_or_within : (w : Wanted) (text : List ℕ) (limit : Limit) → IsPastLimit w text limit → IsWithinLimit w text → ⊥
 past_or_within (Whole own name) text limit p h = omega (arith, p.1, h)
 past_or_within (InPieces name) text limit p h = p

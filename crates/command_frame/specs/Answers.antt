@@ -1,4 +1,4 @@
--- The answers of a command, their texts and statuses, and how they are said.
+-- The answers of a command, with their texts and statuses, and how they are put.
 use Rattle.std.specs.Prelude.{◌≡◌, ◌⊎◌, ℕ, ◌+◌, List, ◌++◌, codes}
 use Rattle.std.specs.Fmt.{decimal}
 use Rattle.tc_io.specs.Outside.{SinkTells, Wrote, WrotePart}
@@ -21,7 +21,7 @@ number_of status.WriteFault = 8
 number_of status.NoMemory = 9
 number_of status.Open = 10
 
--- an answer: an outcome, or why there is none or not all of it is kept
+-- an outcome, or why there is no outcome or not all of it was kept
 pub data Answer (A : Type 0) : Type 0 where
   Gives : (outcome : A) → Answer A
   -- the file of this name couldn't be read
@@ -45,7 +45,7 @@ write_line name = codes "write fault: " ++ (name ++ codes "\n")
 abbrev pub memory_line : List ℕ
 memory_line = codes "no memory\n"
 
--- the text says the answer
+-- the text is one for this answer
 abbrev pub IsTextOf : {A : Type 0} → Meaning A → Answer A → List ℕ → Type 0
 IsTextOf m (Gives outcome) text = m.IsTextOf outcome text
 IsTextOf m (ReadFault name) text = text ≡ read_line name
@@ -61,7 +61,7 @@ status_of m (TooLong limit) = 6
 status_of m (WriteFault name) = 8
 status_of m NoMemory = 9
 
--- the statuses of devices that fail and of want of memory
+-- the statuses of failed devices and of lack of memory
 abbrev pub IsFaultStatus : ℕ → Type 0
 IsFaultStatus status = (status ≡ 7) ⊎ (status ≡ 8) ⊎ (status ≡ 9)
 
@@ -70,7 +70,7 @@ abbrev pub Puts : {A : Type 0} → Meaning A → Answer A → ℕ → SinkTells 
 Puts m a status old new =
     (text : List ℕ) × IsTextOf m a text × (status ≡ status_of m a) × Wrote old new text
 
--- the put of the answer's text failed after a part of it
+-- the put failed after a part of the answer's text
 abbrev pub FailsToPut : {A : Type 0} → Meaning A → Answer A → ℕ → SinkTells → SinkTells → Type 0
 FailsToPut m a status old new =
     (text : List ℕ) × IsTextOf m a text × (status ≡ 8) × WrotePart old new text
@@ -89,7 +89,7 @@ abbrev pub SaysLine : List ℕ → Status → ℕ → SinkTells → SinkTells �
 SaysLine text wanted status old new = ((status ≡ number_of wanted) × Wrote old new text)
     ⊎ ((status ≡ 8) × WrotePart old new text) ⊎ SaysNoMemory status old new
 
--- what is said where there is no memory for the text: after a failed keep nothing
+-- the effect of no memory for the text: after a failed keep, nothing was put
 abbrev pub SaysNoMore : {A : Type 0} → Answer A → ℕ → SinkTells → SinkTells → Type 0
 SaysNoMore (WriteFault _) status old new = (status ≡ 8) × (new ≡ old)
 SaysNoMore _ status old new = SaysNoMemory status old new

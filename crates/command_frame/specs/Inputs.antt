@@ -2,9 +2,9 @@
 use Rattle.std.specs.Prelude.{◌≡◌, ◌⊎◌, ℕ, ◌<◌, ◌≤◌, List, [], ◌∷◌, length, map}
 use Rattle.tc_io.specs.Outside.{Files, ShelfTells, Gave, FailedToGive, WasTooLong, GaveReading, FailedReading, bytes_at}
 
--- the most bytes that an input of a kind may have
+-- the greatest number of bytes of inputs of a kind
 pub record Limit : Type 0 where
-  -- what the kind is called, as `program` or `log`
+  -- the name of the kind, such as `program` or `log`
   pub kind : List ℕ
   pub most : ℕ
 
@@ -19,7 +19,7 @@ name_of (Whole limit name) = name
 name_of (Entire name) = name
 name_of (InPieces name) = name
 
--- the greatest number of bytes that is counted
+-- the greatest number of bytes that can be counted
 abbrev pub no_limit : ℕ
 no_limit = 18446744073709551615
 
@@ -27,7 +27,7 @@ no_limit = 18446744073709551615
 abbrev pub Texts : Type 0
 Texts = List (List ℕ)
 
--- what files hold under the names of inputs
+-- the contents of the files with the inputs' names
 abbrev pub texts_under : Files → List Wanted → Texts
 texts_under files ws = map (λ w. bytes_at files (name_of w)) ws
 
@@ -43,7 +43,7 @@ FailedInput (Whole limit name) old new = FailedToGive old new name limit.most
 FailedInput (Entire name) old new = FailedToGive old new name no_limit ⊎ WasTooLong old new name no_limit
 FailedInput (InPieces name) old new = FailedReading old new name
 
--- the input has this limit, and was longer
+-- the input has this limit, and was longer than that
 abbrev pub PassedLimit : Wanted → ShelfTells → ShelfTells → Limit → Type 0
 PassedLimit (Whole own name) old new limit = (limit ≡ own) × WasTooLong old new name own.most
 PassedLimit _ old new limit = ⊥
@@ -53,7 +53,7 @@ abbrev pub IsWithinLimit : Wanted → List ℕ → Type 0
 IsWithinLimit (Whole limit name) bytes = length bytes ≤ limit.most
 IsWithinLimit _ bytes = Unit {0}
 
--- the input has this limit, and the bytes are longer
+-- the input has this limit, and the bytes are more than that
 abbrev pub IsPastLimit : Wanted → List ℕ → Limit → Type 0
 IsPastLimit (Whole own name) bytes limit = (limit ≡ own) × (own.most < length bytes)
 IsPastLimit _ bytes limit = ⊥
@@ -74,7 +74,7 @@ FailsToRead [] old new name = ⊥
 FailsToRead (w ∷ ws) old new name =
     ((name ≡ name_of w) × FailedInput w old new) ⊎ GoesOn w old (λ s. FailsToRead ws s new name)
 
--- the shelf gave the inputs before the one that was longer than this limit, its own
+-- the shelf gave the inputs before one that was longer than its own limit, which is this one
 abbrev pub PassesLimit : List Wanted → ShelfTells → ShelfTells → Limit → Type 0
 PassesLimit [] old new limit = ⊥
 PassesLimit (w ∷ ws) old new limit =
@@ -86,7 +86,7 @@ AreWithin [] [] = Unit {0}
 AreWithin (w ∷ ws) (t ∷ ts) = IsWithinLimit w t × AreWithin ws ts
 AreWithin _ _ = ⊥
 
--- the first bytes that are longer than the limit of their input pass this one
+-- the first bytes that are longer than their input's limit are longer than this one
 abbrev pub IsTooLong : List Wanted → Texts → Limit → Type 0
 IsTooLong (w ∷ ws) (t ∷ ts) limit = IsPastLimit w t limit ⊎ (IsWithinLimit w t × IsTooLong ws ts limit)
 IsTooLong _ _ limit = ⊥

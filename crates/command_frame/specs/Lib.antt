@@ -4,4 +4,5 @@ pub mod Meaning
 pub mod Answers
 pub mod Causes
 pub mod Run
+pub mod ByStatus
 pub mod helpers

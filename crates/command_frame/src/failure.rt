@@ -2,7 +2,7 @@
 use crate::limit::Limit;
 use std::alloc::AllocError;
 
-/// Why a command has no outcome, or not all of it is kept.
+/// Why a command has no outcome, or not all of its outcome was kept.
 #[derive(Clone, Copy)]
 pub enum Failure<'a> {
     /// The file of this name couldn't be read.
@@ -11,7 +11,7 @@ pub enum Failure<'a> {
     TooLong(Limit),
     /// The file of this name couldn't be written.
     Write(&'a str),
-    /// There is no memory.
+    /// Memory ran out.
     Memory,
 }
 

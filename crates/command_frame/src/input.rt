@@ -2,7 +2,7 @@
 ghost use Rattle.std.specs.Prelude.{◌≡◌, List, [], ◌∷◌, ◌++◌, IfErr, IfOk};
 ghost use Rattle.command_frame.specs.Inputs as spec;
 ghost use Rattle.command_frame.specs.Inputs.{GaveAll, Texts, Wanted};
-ghost use Rattle.command_frame.specs.helpers.Failures.{IsWhyMissing, plain_whole};
+ghost use Rattle.command_frame.specs.helpers.Failures.{IsWhyMissing, plain_limit, plain_whole};
 
 use crate::failure::Failure;
 use crate::limit::Limit;
@@ -61,12 +61,25 @@ impl<'b> Inputs for Whole<'b> {
     ghost texts = { λ bytes. bytes.items ∷ [] };
 
     fn read<'a, H: Shelf>(&'a self, alloc: Global, shelf: &mut H) -> Result<Vec<u8>, Failure<'a>> {
-        match shelf.fetch(alloc, self.name, self.limit.most) {
-            Ok(bytes) => Ok(bytes),
-            Err(FetchFault::Failed) => Err(Failure::Read(self.name)),
-            Err(FetchFault::TooLong) => Err(Failure::TooLong(self.limit)),
-            Err(FetchFault::Memory) => Err(Failure::Memory),
-        }
+        read_whole(alloc, shelf, self.limit, self.name)
+    }
+}
+
+/// The bytes of a file with a limit.
+pub fn read_whole<'a, H: Shelf>(
+    alloc: Global,
+    shelf: &mut H,
+    limit: Limit,
+    name: &'a str,
+) -> Result<Vec<u8>, Failure<'a>>
+    ensures gave { IfOk result (λ bytes. GaveAll (spec.Whole (plain_limit limit) name.now ∷ []) (H.tells shelf.old) (H.tells shelf.new) (bytes.items ∷ [])) }
+    ensures missing { IfErr result (IsWhyMissing (spec.Whole (plain_limit limit) name.now ∷ []) (H.tells shelf.old) (H.tells shelf.new)) }
+{
+    match shelf.fetch(alloc, name, limit.most) {
+        Ok(bytes) => Ok(bytes),
+        Err(FetchFault::Failed) => Err(Failure::Read(name)),
+        Err(FetchFault::TooLong) => Err(Failure::TooLong(limit)),
+        Err(FetchFault::Memory) => Err(Failure::Memory),
     }
 }
 
@@ -81,7 +94,7 @@ impl<'b> Inputs for Entire<'b> {
         match shelf.fetch(alloc, self.name, u64::MAX) {
             Ok(bytes) => Ok(bytes),
             Err(FetchFault::Memory) => Err(Failure::Memory),
-            // It failed, or there are more bytes than a number counts.
+            // The read failed, or there are more bytes than a number counts.
             Err(_) => Err(Failure::Read(self.name)),
         }
     }

@@ -7,7 +7,7 @@ use crate::failure::Failure;
 use std::alloc::Global;
 use tc_io::{KeepFault, Shelf};
 
-/// Bytes that are to be held under a name.
+/// Bytes to be kept under a name.
 #[derive(Clone, Copy)]
 pub struct Keep<'n, 'b> {
     pub name: &'n str,
@@ -23,7 +23,7 @@ impl<'n, 'b> Keep<'n, 'b> {
     }
 }
 
-/// Keeps these, one after the other, up to the first that fails.
+/// Makes these keeps one after the other, up to the first that fails.
 pub(crate) fn keep_all<'n, H: Shelf>(
     alloc: Global,
     shelf: &mut H,

@@ -1,10 +1,10 @@
 //! Limits of inputs.
 ghost use Rattle.std.specs.Prelude.{◌<◌};
 
-/// The most bytes that an input of a kind may have.
+/// The greatest number of bytes of inputs of a kind.
 #[derive(Clone, Copy)]
 pub struct Limit {
-    /// What the kind is called, as `program` or `log`.
+    /// The name of the kind, such as `program` or `log`.
     pub kind: &'static str,
     pub most: u64,
     ghost counted: { most < 18446744073709551615 },

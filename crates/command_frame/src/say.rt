@@ -1,4 +1,4 @@
-//! Answers are said: their texts go into the sink.
+//! Puts the texts of answers into the sink.
 ghost use Rattle.std.specs.Prelude.{◌≡◌, IfOk, string_bytes};
 ghost use Rattle.command_frame.specs.Answers.{Gives, Says, SaysLine, SaysNoMemory, limit_line};
 ghost use Rattle.command_frame.specs.helpers.Failures.{SaysFailure, SaysNoMoreOf, failure_line, failure_status, plain_limit};
@@ -55,7 +55,7 @@ pub fn say_usage<K: Sink>(usage: &str, sink: &mut K) -> u8
     }
 }
 
-/// Puts that there is no memory, and returns the number of that status.
+/// Puts the line for lack of memory, and returns the number of that status.
 pub fn say_no_memory<K: Sink>(sink: &mut K) -> u8
     ensures { SaysNoMemory result (K.tells sink.old) (K.tells sink.new) }
 {
@@ -65,7 +65,7 @@ pub fn say_no_memory<K: Sink>(sink: &mut K) -> u8
     }
 }
 
-/// Puts that there is no memory for the line, but nothing after a failed keep.
+/// Puts the line for lack of memory, or nothing after a failed keep.
 fn say_no_more<K: Sink>(failure: &Failure<'_>, sink: &mut K) -> u8
     ensures { SaysNoMoreOf failure.now result (K.tells sink.old) (K.tells sink.new) }
 {
@@ -75,7 +75,7 @@ fn say_no_more<K: Sink>(failure: &Failure<'_>, sink: &mut K) -> u8
     }
 }
 
-/// The line that says a failure.
+/// The line for a failure.
 fn line_of(alloc: Global, failure: &Failure<'_>) -> Result<String, AllocError>
     ensures { IfOk result (λ line. string_bytes line ≡ failure_line failure.now) }
 {
@@ -87,7 +87,7 @@ fn line_of(alloc: Global, failure: &Failure<'_>) -> Result<String, AllocError>
     }
 }
 
-/// The line that an input has more bytes than this limit.
+/// The line for an input with more bytes than this limit.
 fn limit_line(alloc: Global, limit: Limit) -> Result<String, AllocError>
     ensures { IfOk result (λ line. string_bytes line ≡ limit_line (plain_limit limit)) }
 {

@@ -5,32 +5,32 @@ ghost use Rattle.command_frame.specs.Answers.{number_of};
 /// A status of the program.
 #[derive(Clone, Copy, Debug, PartialEq, Eq)]
 pub enum Status {
-    /// The command did what it was asked for.
+    /// The command did what was asked.
     Done,
     /// Its answer is no: the run finished, there is no schedule, or it leads elsewhere.
     Fails,
-    /// The words aren't taken.
+    /// The words weren't accepted.
     Usage,
-    /// The program's text is refused.
+    /// The program's text was refused.
     ProgramRefused,
-    /// The log is refused.
+    /// The log was refused.
     LogRefused,
-    /// Another input is refused.
+    /// Another input was refused.
     InputRefused,
-    /// A limit is passed.
+    /// An input or a count was above its limit.
     OverLimit,
     /// An input couldn't be read.
     ReadFault,
     /// An output or the answer couldn't be written.
     WriteFault,
-    /// There is no memory.
+    /// Memory ran out.
     NoMemory,
-    /// The question stays open.
+    /// The question is still open.
     Open,
 }
 
 impl Status {
-    /// Its number.
+    /// The number of the status.
     pub fn number(self) -> u8
         ensures { result ≡ number_of self }
     {

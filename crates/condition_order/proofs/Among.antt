@@ -1,4 +1,4 @@
--- Which events are among the enders of a condition, and which sleeps are on it.
+-- The enders of a condition, and the sleeps on it.
 use Rattle.std.proofs.Common.{◌≡◌, ◌∙◌, ◌⊎◌, inl, inr, ℕ, ◌≤◌, Bool, true, false, cond, List, Option, Some, None, length, refl, sym, ap, subst, arith}
 use Rattle.std.specs.Prelude.{◌==◌, slice_get}
 use Rattle.std.specs.List.{Contains, enumerate_from, filter}
@@ -20,7 +20,7 @@ use Rattle.condition_order.specs.declared.wait.Ender.{Ender}
 use Rattle.condition_order.specs.Conditions.{ender_by, enders, wait_of, all_waits, sleeps_on}
 use Rattle.order_events.proofs.Lists.{in_map, of_map, in_filter, of_filter, in_filter_map, of_filter_map, in_enumerated, of_enumerated}
 
--- no event is both, and of two conditions
+-- no event is both a signal and a broadcast, or of two conditions
 one_kind : (c : ℕ) (k : EventKind) → is_broadcast c k ≡ true → is_signal c k ≡ false
 one_kind c (kind.Broadcast d) is = refl
 one_kind c _ is = absurd (false≢true is)
@@ -33,7 +33,7 @@ no_broadcast : (c d : ℕ) (k : EventKind) → is_signal c k ≡ true → is_bro
 no_broadcast c d (kind.Signal e) i j = false≢true j
 no_broadcast c d _ i j = absurd (false≢true i)
 
--- there is nothing past the end of a list
+-- a place without an element isn't below the length
 past : {X : Type 0} (xs : List X) (k : ℕ) → slice_get xs k ≡ None → length xs ≤ k
 past xs k none = elim (cases_lt k (length xs)) [
   | inl within ↦ elim (slice_get_cases xs k).1 [
@@ -69,7 +69,7 @@ module _ (paths : Paths) (w : World) where
       by g x at false true s t is = subst (IsEnder c) (same_Some (record { event = g; all = true }) e is) (inr (record { event = x; is = at; broadcasts = t }, refl))
       by g x at false false s t is = absurd (none-some e is)
 
-  -- the waits are the sleeps
+  -- the waits are those of the sleeps
   pub wait_among : (s : ℕ) (x : Of Sleep) → slice_get (all_sleeps paths) s ≡ Some x → Contains (all_waits paths) (wait_of (all_events paths) (s, x))
   wait_among s x is = in_map (wait_of (all_events paths)) (s, x) (enumerate_from 0 (all_sleeps paths)) (in_enumerated s x (all_sleeps paths) is)
 
@@ -97,7 +97,8 @@ module _ (paths : Paths) (w : World) where
         },
       )
 
--- what ends a sleep is among the enders of its condition, and what a signal ends is a sleep on the signal's
+-- the ender of a sleep is among those of its condition, and a signal ends a sleep on its own
+-- condition
 module _ (paths : Paths) (symbolic : Symbolic) (w : World) (of : IsWorldOf paths symbolic w) where
   pub ender_among : (s g c : ℕ) (x : Of Sleep) → IsSleep paths w s x c → ender_of w s ≡ Some g
       → (e : Ender) × Contains (enders (all_events paths) c) e × (e.event ≡ g)

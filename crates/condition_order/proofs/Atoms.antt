@@ -1,4 +1,5 @@
--- Of what the atoms of a sleep's conjuncts are: of its events and those of its enders, and of the sleeps on its condition.
+-- The atoms of a sleep's conjuncts are about its events, those of its enders, and the sleeps on its
+-- condition.
 use Rattle.std.proofs.Common.{◌≡◌, ℕ, Bool, true, false, not, List, [], ◌∷◌, ◌++◌, map, Option, Some, None, subst, cond, inl, inr, refl}
 use Rattle.std.specs.Prelude.{◌==◌, nat_lt}
 use Rattle.std.specs.List.{All, Contains, filter, flat_map}
@@ -42,7 +43,7 @@ module _ (Q : Atom → Type 0) where
   each_map case xs each = each_in Literals (map case xs) (λ l i. let o = of_map case l xs i in subst Literals o.2 (each o.0 o.1))
 
   module _ (x : Wait) (es : List Ender) (rs : List ℕ) where
-    -- the atoms that may be asked of a sleep
+    -- the atoms about a sleep
     pub record MayAsk : Type 0 where
       pub own : (g : Ender) → Contains es g → Q (Ends x.sleep g.event)
       pub other : (r : ℕ) (g : Ender) → Contains rs r → Contains es g → Q (Ends r g.event)
@@ -113,7 +114,7 @@ module _ (Q : Atom → Type 0) where
             ]
           ]
 
--- no term is among them
+-- no atom names a term
 is_of : (terms : ℕ) (b : Body) → Atoms (AtomIsOf terms) b → BodyIsOf terms b
 is_of terms (body.Any cases) atoms = atoms
 is_of terms (body.Read r) none = absurd none

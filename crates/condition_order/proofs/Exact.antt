@@ -1,4 +1,4 @@
--- The conjuncts of a condition are true exactly where its waits end as its rule says.
+-- The conjuncts of a condition are true exactly if its waits end by its rule.
 use Rattle.std.proofs.Common.{◌≡◌, ◌∙◌, inl, inr, ℕ, ◌<◌, Bool, true, false, cond, List, [], ◌∷◌, Option, Some, None, refl, sym, ap, subst, arith}
 use Rattle.std.specs.Prelude.{slice_get}
 use Rattle.std.specs.List.{Contains}

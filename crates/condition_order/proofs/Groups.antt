@@ -1,4 +1,4 @@
--- Of which group the conjuncts of a sleep are, and that they name no terms.
+-- The group of a sleep's conjuncts; they name no terms.
 use Rattle.std.proofs.Common.{◌≡◌, ℕ, Bool, true, false, List, [], ◌∷◌, ◌++◌, map, Option, Some, None, sym, ap, cond, inl, inr}
 use Rattle.std.specs.Prelude.{nat_lt}
 use Rattle.std.specs.List.{Contains, filter, flat_map}

@@ -1,4 +1,4 @@
--- What the conjuncts of one sleep say of a world.
+-- What the conjuncts of a sleep say about a world.
 use Rattle.std.proofs.Common.{◌≡◌, ◌∙◌, inl, inr, ℕ, ◌<◌, Bool, true, false, not, List, [], ◌∷◌, ◌++◌, map, Option, Some, None}
 use Rattle.std.proofs.Common.{refl, sym, ap, subst, arith, cond}
 use Rattle.std.specs.Prelude.{◌==◌, nat_lt}
@@ -21,7 +21,7 @@ use Rattle.order_events.proofs.Lists.{in_front, in_back, of_nil, of_cons, in_map
 use Rattle.condition_order.proofs.Truth.{before_to, before_from, ended_to, ended_from, holds_to, holds_from, fails_to, fails_from, both_to, both_from}
 use Rattle.condition_order.proofs.Truth.{follows_to, follows_from, excludes_to, excludes_from}
 
--- the sleeps of which an ender ends one
+-- the sleeps of which an ender must end one
 abbrev pub ended_by : Wait → List ℕ → Ender → List ℕ
 ended_by x rs g = cond g.all (x.sleep ∷ []) rs
 
@@ -39,7 +39,7 @@ module _ (nodes : List Node) (w : World) (x : Wait) (es : List Ender) (rs : List
     pub there : Contains (ended_by x rs g) sleep
     pub ends : ender_of w sleep ≡ Some g.event
 
-  -- an ender ends the sleep before an event
+  -- an ender ends the sleep before this event
   pub record IsWokenBefore (k : ℕ) : Type 0 where
     pub by : Ender
     pub there : Contains es by
@@ -59,7 +59,7 @@ module _ (nodes : List Node) (w : World) (x : Wait) (es : List Ender) (rs : List
   abbrev pub AllTrue : List Conjunct → Type 0
   AllTrue cs = (c : Conjunct) → Contains cs c → True c
 
-  -- from the conjuncts
+  -- the conjuncts imply what they say
   ended_to_one : (k : ℕ) → True (ended x es) → AllTrue (map (ended_before x k) es) → IsWokenBefore k
   ended_to_one k some all =
       let o = of_any (case_at nodes w) (map (λ g. holds (Ends x.sleep g.event) ∷ []) es) some in
@@ -173,7 +173,7 @@ module _ (nodes : List Node) (w : World) (x : Wait) (es : List Ender) (rs : List
       fourth : AllTrue part_four
       fourth c i = last c (Contains-append_right part_three part_four c i)
 
-  -- and to them
+  -- what they say implies the conjuncts
   woken_from : (c : Conjunct) (o : Option ℕ) → ((k : ℕ) → o ≡ Some k → IsWokenBefore k)
       → Contains (option_map_or (λ k. ended x es ∷ map (ended_before x k) es) o []) c → True c
   woken_from c None woken i = absurd (of_nil c i)

@@ -1,4 +1,4 @@
--- What the loops over events and sleeps have found, one element on.
+-- The results of the loops over events and sleeps, with one more element.
 use Rattle.std.proofs.Common.{◌≡◌, ◌∙◌, ℕ, ◌+◌, ◌<◌, List, [], ◌∷◌, ◌++◌, length, map, take, get_or, sym, ap, arith}
 use Rattle.std.specs.List.{enumerate_from, filter_map, cons_option}
 use Rattle.std.proofs.lemmas.List.{take_more, length-take-le, map_push}

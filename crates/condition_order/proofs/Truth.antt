@@ -1,4 +1,4 @@
--- When literals, and cases of one or two of them, are true in a world.
+-- The truth of literals, and of cases with one or two of them, in a world.
 use Rattle.std.proofs.Common.{◌≡◌, ℕ, ◌<◌, Bool, true, false, ◌&&◌, ◌||◌, List, [], ◌∷◌, Option, Some, None, refl, ap, ◌∙◌}
 use Rattle.std.specs.Prelude.{nat_eq}
 use Rattle.std.specs.Bool.{beq}
@@ -80,7 +80,7 @@ module _ (nodes : List Node) (w : World) where
   pub both_from : (a b : Atom) → atom_at nodes w a ≡ true → atom_at nodes w b ≡ true → case_at nodes w (holds a ∷ holds b ∷ []) ≡ true
   both_from a b x y = ap (λ c. beq c true && (beq (atom_at nodes w b) true && true)) x ∙ ap (λ c. beq c true && true) y
 
-  -- an atom is true where another is
+  -- an atom is true if another is
   pub follows_to : (a b : Atom) → body_at nodes w (Any ((fails a ∷ []) ∷ (holds b ∷ []) ∷ [])) ≡ true → atom_at nodes w a ≡ true → atom_at nodes w b ≡ true
   follows_to a b = if_then (atom_at nodes w a) (atom_at nodes w b)
 
@@ -88,7 +88,7 @@ module _ (nodes : List Node) (w : World) where
       → body_at nodes w (Any ((fails a ∷ []) ∷ (holds b ∷ []) ∷ [])) ≡ true
   follows_from a b = if_from (atom_at nodes w a) (atom_at nodes w b)
 
-  -- and two are not both true
+  -- two atoms aren't both true
   pub excludes_to : (a b : Atom) → body_at nodes w (Any ((fails a ∷ []) ∷ (fails b ∷ []) ∷ [])) ≡ true
       → atom_at nodes w a ≡ true → atom_at nodes w b ≡ true → ⊥
   excludes_to a b = one_of_two (atom_at nodes w a) (atom_at nodes w b)

@@ -1,4 +1,4 @@
--- All events and sleeps of the conjuncts are there.
+-- All events and sleeps of the conjuncts exist.
 use Rattle.std.proofs.Common.{◌≡◌, inl, inr, ℕ, ◌<◌, [], length, Option, Some, None, refl, sym, subst, arith}
 use Rattle.std.specs.Prelude.{slice_get}
 use Rattle.std.specs.List.{All, Contains}
@@ -21,7 +21,7 @@ use Rattle.condition_order.specs.Conditions.{enders, all_waits, sleeps_on, formu
 use Rattle.condition_order.proofs.Among.{ender_is, wait_is, sleep_is}
 use Rattle.condition_order.proofs.Atoms.{Atoms, asks}
 
--- a world, of which nothing matters here
+-- some world, the same for all
 nowhere : World
 nowhere = record { positions = []; loads = []; enders = [] }
 
@@ -35,7 +35,7 @@ module _ (paths : Paths) where
   sleep_within : (c r : ℕ) → Contains (sleeps_on (all_waits paths) c) r → r < length (all_sleeps paths)
   sleep_within c r i = let s = sleep_is paths nowhere r c i in slice_get_within (all_sleeps paths) r s.0 s.1.is
 
-  -- the sleep of a number is its thread's
+  -- the sleep with a number belongs to its thread
   has_sleep : (s : ℕ) (x : Of Sleep) → slice_get (all_sleeps paths) s ≡ Some x → Has paths x.thread (λ q. q.sleeps) x.it
   has_sleep s x at =
       let o = of_all_from (λ (q : Walk). q.sleeps) 0 paths.threads x (at_in (all_sleeps paths) s x at) in

@@ -1,4 +1,4 @@
--- The first step that no run does, found step by step.
+-- The first step that no run can do, found step by step.
 use Rattle.std.proofs.Common.{◌≡◌, ◌∙◌, ℕ, zero, suc, ◌+◌, ◌-◌, ◌<◌, ◌≤◌, ◌&&◌, ◌==◌, Bool, true, false, cond, List, [], ◌∷◌, length, map, drop, get_or, replicate, Option, Some, None}
 use Rattle.std.proofs.Common.{add-one, ap, refl, sym, subst, arith}
 use Rattle.std.specs.Prelude.{option_map, unwrap_or, slice_set}
@@ -16,7 +16,7 @@ use Rattle.tc_code.specs.Code.{Code, instr_at, line_at}
 use Rattle.tc_code.specs.Step.{can_be_joined, handles_of}
 use Rattle.tc_code.specs.declared.instr.Instr.TheVariants.{Exit}
 use Rattle.path_walk.specs.Events.{excludes, is_impossible}
-use Rattle.path_walk.specs.Marks.{Marks, Marked, marked, marked_from, marked_steps, unmarked}
+use Rattle.path_walk.specs.Marks.{Marks, Marked, marks_after_instr, marked_from, marked_steps, marks_at_start}
 use Rattle.path_walk.specs.Fits.{fails_in}
 use Rattle.path_walk.specs.Paths.{Walk, walk_of}
 use Rattle.path_walk.specs.Steps.{Step, step_at, steps_at}
@@ -38,7 +38,7 @@ module _ (code : Code) (f : ℕ) (fails : Bool) (places : List ℕ) where
   abbrev rest : ℕ → List Step
   rest k = steps_at code f (drop k places)
 
-  -- the steps before a number can be done, and made this
+  -- the steps before a number are possible, and this is the state after them
   pub record IsFollowed (k : ℕ) (own : Own) : Type 0 where
     pub marks : Marks
     pub is : own ≡ own_of marks
@@ -46,7 +46,7 @@ module _ (code : Code) (f : ℕ) (fails : Bool) (places : List ℕ) where
 
   pub followed_none : (own : Own) → own ≡ nothing_own code f → IsFollowed 0 own
   followed_none own is = record {
-    marks = unmarked code f;
+    marks = marks_at_start code f;
     is = is
         ∙ ap (λ (joinable : List Bool). let new : Own = record { held = replicate code.mutexes false; joinable = joinable } in new)
         (sym (none_joined (handles_of code f)));
@@ -75,36 +75,36 @@ module _ (code : Code) (f : ℕ) (fails : Bool) (places : List ℕ) where
 
     turn : find is_impossible (marked_from fails k are.marks (rest k))
         ≡ cond (excludes are.marks step.instr (fails && (k + 1 == length places))) (Some (here (k + 1 == length places)))
-        (find is_impossible (marked_from fails (k + 1) (marked are.marks step.instr) (rest (k + 1))))
+        (find is_impossible (marked_from fails (k + 1) (marks_after_instr are.marks step.instr) (rest (k + 1))))
     turn =
         ap (λ steps. find is_impossible (marked_from fails k are.marks steps)) first
         ∙ ap (λ last. cond (excludes are.marks step.instr (fails && last)) (Some (here last))
-        (find is_impossible (marked_from fails (k + 1) (marked are.marks step.instr) (rest (k + 1))))) is_last
+        (find is_impossible (marked_from fails (k + 1) (marks_after_instr are.marks step.instr) (rest (k + 1))))) is_last
 
-    -- a step that can be done is followed
+    -- a possible step is followed
     pub followed_more : (new : Own) → excludes are.marks step.instr (fails && (k + 1 == length places)) ≡ false
-        → new ≡ own_of (marked are.marks step.instr) → IsFollowed (k + 1) new
+        → new ≡ own_of (marks_after_instr are.marks step.instr) → IsFollowed (k + 1) new
     followed_more new can is = record {
-      marks = marked are.marks step.instr;
+      marks = marks_after_instr are.marks step.instr;
       is = is;
       same = are.same ∙ turn
           ∙ ap (λ e. cond e (Some (here (k + 1 == length places)))
-          (find is_impossible (marked_from fails (k + 1) (marked are.marks step.instr) (rest (k + 1))))) can;
+          (find is_impossible (marked_from fails (k + 1) (marks_after_instr are.marks step.instr) (rest (k + 1))))) can;
     }
 
-    -- one that can't be is the first
+    -- an impossible step is the first one
     pub followed_to : excludes are.marks step.instr (fails && (k + 1 == length places)) ≡ true
         → Some (unwrap_or (line_at code f (get_or places k 0)) 0) ≡ line_in code f fails (steps_at code f places)
     followed_to cannot = sym (ap (option_map (line_of code f)) (are.same ∙ turn
         ∙ ap (λ e. cond e (Some (here (k + 1 == length places)))
-        (find is_impossible (marked_from fails (k + 1) (marked are.marks step.instr) (rest (k + 1))))) cannot))
+        (find is_impossible (marked_from fails (k + 1) (marks_after_instr are.marks step.instr) (rest (k + 1))))) cannot))
 
-    -- where there is no instruction nothing changes
+    -- a place without an instruction changes nothing
     pub followed_past : instr_at code f (get_or places k 0) ≡ None → IsFollowed (k + 1) own
     followed_past none =
         let exit : step.instr ≡ Exit = ap (λ o. unwrap_or o Exit) none in
         followed_more own (ap (λ i. excludes are.marks i (fails && (k + 1 == length places))) exit)
-        (are.is ∙ sym (ap (λ i. own_of (marked are.marks i)) exit))
+        (are.is ∙ sym (ap (λ i. own_of (marks_after_instr are.marks i)) exit))
 
   pub followed_all : (k : ℕ) (own : Own) → IsFollowed k own → length places ≤ k → None ≡ line_in code f fails (steps_at code f places)
   followed_all k own are past = sym (ap (option_map (line_of code f)) (are.same ∙ ap (λ ps. find is_impossible (marked_from fails k are.marks (steps_at code f ps)))
@@ -119,7 +119,7 @@ changed o t h x b is same =
     (ap (slice_set (map can_be_joined t.handles) h) (sym same) ∙ sym (map-set can_be_joined t.handles h x))
 
 module _ (code : Code) (log : Log) where
-  -- the line of a thread's first such step, by its way
+  -- the line of a thread's first impossible step, by its walk
   abbrev pub line_by : Walk → Option ℕ
   line_by w = line_in code w.function (fails_in log w.name) (steps_at code w.function w.places)
 
@@ -151,11 +151,11 @@ module _ (code : Code) (log : Log) where
         ∙ ap (λ q. option_map_or (λ line. Some (cause_by w line)) q (first_cause code log (drop (suc k) log.threads))) (sym line_is)
         ∙ ap (λ j. option_map_or (λ line. Some (cause_by w line)) o (first_cause code log (drop j log.threads))) (sym (add-one k))
 
-    -- a thread without a cause is passed over
+    -- a thread without a cause is skipped
     pub cause_past : o ≡ None → first_cause code log (drop k log.threads) ≡ first_cause code log (drop (k + 1) log.threads)
     cause_past none = one_step ∙ ap (λ q. option_map_or (λ line. Some (cause_by w line)) q (first_cause code log (drop (k + 1) log.threads))) none
 
-    -- the first that has one has it
+    -- the first thread with a cause gives the cause
     pub cause_here : (m : Name) (line : ℕ) → o ≡ Some line → m ≡ w.name
         → Some (let made : Cause = record { name = m; line = line } in made) ≡ first_cause code log (drop k log.threads)
     cause_here m line some same =

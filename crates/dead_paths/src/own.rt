@@ -1,7 +1,7 @@
 //! A thread's mutexes and thread variables, as its own steps leave them.
 ghost use Rattle.std.specs.Prelude.{◌≡◌, IfOk, slice_set, slice_index_or, false};
 ghost use Rattle.path_walk.specs.Events.{excludes};
-ghost use Rattle.path_walk.specs.Marks.{Marks, marked};
+ghost use Rattle.path_walk.specs.Marks.{Marks, marks_after_instr};
 ghost use Rattle.dead_paths.specs.helpers.Own.{nothing_own, own_of};
 
 use std::alloc::{AllocError, Global};
@@ -52,7 +52,7 @@ impl Own {
 
     /// Does a step.
     pub(crate) fn apply(&mut self, instr: &Instr)
-        ensures { (t : Marks) → self.old ≡ own_of t → self.new ≡ own_of (marked t instr.now) }
+        ensures { (t : Marks) → self.old ≡ own_of t → self.new ≡ own_of (marks_after_instr t instr.now) }
     {
         match instr {
             Instr::Lock { mutex } | Instr::Wake { mutex, .. } => self.hold(*mutex, true),

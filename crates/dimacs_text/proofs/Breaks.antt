@@ -1,4 +1,4 @@
--- A text is an answer, or has one line that is the first to break the form.
+-- A text is an answer, or has one first line that breaks the form.
 use Rattle.std.proofs.Common.{◌≡◌, ◌∙◌, ◌<◌, ◌≤◌, ◌+◌, ◌-◌, ◌⊎◌, inl, inr, ℕ, suc, Bool, true, false, ltb, List, [], ◌∷◌, ◌++◌, length, take, drop, ℤ, Option, Some, None, Result, Ok, Err, refl, sym, ap, subst, arith}
 use Rattle.std.specs.Prelude.{codes}
 use Rattle.std.specs.Option.{option_and_then, option_map_or}
@@ -24,7 +24,7 @@ parts s (x ∷ xs) ys =
     then_both (λ next. after_lines next (xs ++ ys)) (λ next. after_lines next ys) (λ next. after_lines next xs) (λ next. parts next xs ys)
     (after_any s (trimmed x))
 
--- the lines of some text make an answer of what was said
+-- some more lines complete what was read to an answer
 goes_on : (s : Said) → (more : List ℕ) × (ls : List ℤ) × (after_lines s (lines_of more) ≡ Some (Whole ls))
 goes_on Nothing = (codes "s SATISFIABLE\nv 0\n", [], refl)
 goes_on (Begun kept) = (codes "v 0\n", kept, refl)
@@ -53,7 +53,7 @@ fewer_begin xs ys b =
 
 -- ---- one break
 
--- a break isn't before another
+-- one break isn't before another
 not_before : (text : List ℕ) (m n : ℕ) → BreaksAt text m → BreaksAt text n → m < n → ⊥
 not_before text m n b c less =
     let lines = lines_of text in
@@ -77,7 +77,7 @@ one_answer text ls ms a b =
 pub answer_or_break : (text : List ℕ) (ls : List ℤ) (n : ℕ) → IsAnswerWith text ls → BreaksAt text n → ⊥
 answer_or_break text ls n a b = b.none ls a
 
--- ---- what a reader answers
+-- ---- the reader's answer
 
 module _ (number : ℕ) (lines : List (List ℕ)) where
   abbrev from : Option Said → Result (List ℤ) ℕ
@@ -98,7 +98,7 @@ ok_read number s [] ls is = ap (λ t. Some t) (ok_end number s ls is)
 ok_read number s (line ∷ lines) ls is =
     ok_on number lines ls (λ next. ok_read (number + 1) next lines ls) (after_any s (trimmed line)) is
 
--- what is read up to the line that breaks the form, of which the number is that of the first line and so many more
+-- reading stops at the line that breaks the form: `k` lines after the first, which has this number
 record Stops (number : ℕ) (s : Said) (lines : List (List ℕ)) (n : ℕ) : Type 0 where
   k : ℕ
   number_is : n ≡ number + k
@@ -154,11 +154,11 @@ stops number s [] n is = stops_at_end number s n is
 stops number s (line ∷ lines) n is =
     stops_by number s line lines n (after_any s (trimmed line)) refl is (λ next. stops (number + 1) next lines n)
 
--- the literals that it answers are the text's
+-- the literals of the reader's answer are those of the text
 pub answer_is : (text : List ℕ) (ls : List ℤ) → answer text ≡ Ok ls → IsAnswerWith text ls
 answer_is text ls is = are_answer (lines_of text) ls (ok_read 1 Nothing (lines_of text) ls is)
 
--- and the line that it refuses is the first that breaks the form
+-- the line that the reader refuses is the first that breaks the form
 pub break_is : (text : List ℕ) (n : ℕ) → answer text ≡ Err n → BreaksAt text n
 break_is text n is =
     let lines = lines_of text in

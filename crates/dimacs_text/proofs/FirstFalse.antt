@@ -1,4 +1,4 @@
--- The first false clause of some.
+-- The first false clause of a list.
 use Rattle.std.proofs.Common.{◌≡◌, ◌<◌, ℕ, zero, suc, ℤ, true, false, List, [], ◌∷◌, take, IsTrue, refl, ap, sym, ◌∙◌, arith}
 use Rattle.std.specs.Prelude.{slice_get, Some}
 use Rattle.std.proofs.lemmas.Bool.{and_parts, false≢true}
@@ -15,7 +15,7 @@ first_false_at v (d ∷ cs) (suc k) c at before f =
     let r = first_false_at v cs k c at own.1 f in
     record { there = omega (arith, r.there); before = before; not_true = r.not_true }
 
--- with it they aren't satisfied
+-- a list with a first false clause isn't satisfied
 pub unsatisfied : (v : Valuation) (cs : List (List ℤ)) (k : ℕ) → IsFirstFalse v cs k → satisfies v cs ≡ false
 unsatisfied v [] k f = absurd (omega (arith, f.there))
 unsatisfied v (d ∷ cs) zero f = rw f.not_true refl
@@ -26,7 +26,7 @@ unsatisfied v (d ∷ cs) (suc k) f =
 pub false_or_satisfied : (v : Valuation) (cs : List (List ℤ)) (k : ℕ) → IsFirstFalse v cs k → IsTrue (satisfies v cs) → ⊥
 false_or_satisfied v cs k f satisfied = false≢true (sym (unsatisfied v cs k f) ∙ satisfied)
 
--- there is one first at most
+-- there is at most one first false clause
 pub one_first_false : (v : Valuation) (cs : List (List ℤ)) (j k : ℕ) → IsFirstFalse v cs j → IsFirstFalse v cs k → j ≡ k
 one_first_false v [] j k f g = absurd (omega (arith, f.there))
 one_first_false v (d ∷ cs) zero zero f g = refl

@@ -17,7 +17,7 @@ module _ (ends : ℕ → Bool) where
   at_end : (b : ℕ) (bytes : List ℕ) → ends b ≡ true → BeginsWithFirst (b ∷ bytes)
   at_end b bytes is = rw is refl
 
-  -- with the pieces of what stands behind one byte
+  -- a byte that ends no piece is the first of its piece
   with_byte : (b : ℕ) (bytes first : List ℕ) (others : List (List ℕ)) → ends b ≡ false → onto_first b (pieces ends bytes) ≡ (b ∷ first) ∷ others
       → first ≡ take (piece_len ends bytes) bytes → others ≡ pieces ends (drop (suc (piece_len ends bytes)) bytes) → BeginsWithFirst (b ∷ bytes)
   with_byte b bytes first others is onto as_first as_others =

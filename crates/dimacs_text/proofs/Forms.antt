@@ -1,4 +1,4 @@
--- A reader's way through an answer, and the form of the answer.
+-- The states of a reader of an answer, and the form of the answer.
 use Rattle.std.proofs.Common.{◌≡◌, ◌∙◌, ℕ, zero, suc, Bool, true, false, List, [], ◌∷◌, ◌++◌, map, length, ℤ, Option, Some, None, refl, sym, ap, subst, append_assoc, arith}
 use Rattle.std.specs.Prelude.{pos, negsuc, neg_ℤ, codes, if◌then◌else◌}
 use Rattle.std.specs.List.{filter, flat_map, list_all}
@@ -27,21 +27,21 @@ module _ {S T : Type 0} where
   same_then f g same None = refl
   same_then f g same (Some s) = same s
 
-  -- what comes first is there
+  -- the first of two steps has a result
   pub is_first : (f : S → Option T) (o : Option S) (t : T) → option_and_then f o ≡ Some t → (s : S) × (o ≡ Some s) × (f s ≡ Some t)
   is_first f None t is = absurd cc
   is_first f (Some s) t is = (s, refl, is)
 
--- what is said after a word
+-- the state after a word
 abbrev after_bytes : Said → List ℕ → Option Said
 after_bytes s w = option_and_then (after_word s) (word_in w)
 
--- and after words
+-- the state after some words
 abbrev after_words : Said → List (List ℕ) → Option Said
 after_words s [] = Some s
 after_words s (w ∷ ws) = option_and_then (λ next. after_words next ws) (after_bytes s w)
 
--- pieces that are no words say nothing
+-- parts that aren't words change nothing
 parts_words : (s : Said) (parts : List (List ℕ)) → after_parts s parts ≡ after_words s (filter is_word parts)
 parts_words s [] = refl
 parts_words s ([] ∷ parts) = parts_words s parts
@@ -50,19 +50,19 @@ parts_words s ((b ∷ bytes) ∷ parts) =
     same_then (λ next. after_parts next parts) (λ next. after_words next (filter is_word parts)) (λ next. parts_words next parts) (after_bytes s (b ∷ bytes))
     ∙ ap (after_words s) (sym (cond-true (is_word (b ∷ bytes)) ((b ∷ bytes) ∷ filter is_word parts) (filter is_word parts) word))
 
--- some literals behind others, and what is kept of all
+-- some literals after others, and all that are kept
 record Adds (old ns kept : List ℤ) : Type 0 where
   are_literals : list_all is_literal ns ≡ true
   no_opposites : HaveNoOpposites (old ++ ns)
   kept_are : kept ≡ each_once (old ++ ns)
 
--- what words say behind old literals
+-- the meaning of words after old literals
 abbrev Says : List ℤ → List (List ℕ) → Said → Type 0
 Says old words Nothing = ⊥
 Says old words (Begun kept) = (ns : List ℤ) × (words ≡ map signed_decimal ns) × Adds old ns kept
 Says old words (Whole kept) = (ns : List ℤ) × (words ≡ map signed_decimal ns ++ codes "0" ∷ []) × Adds old ns kept
 
--- nothing is said after all literals
+-- nothing may follow the last literal
 none_after : (kept : List ℤ) (o : Option Word) → option_and_then (after_word (Whole kept)) o ≡ None
 none_after kept None = refl
 none_after kept (Some w) = refl
@@ -79,7 +79,7 @@ adds_none old apart = record {
   kept_are = ap each_once (sym (append-nil old));
 }
 
--- a first literal before others
+-- one literal before others
 adds_first : (old : List ℤ) (l : ℤ) (ns kept : List ℤ) → is_literal l ≡ true → Adds (old ++ l ∷ []) ns kept → Adds old (l ∷ ns) kept
 adds_first old l ns kept is adds = record {
   are_literals = and_from (is_literal l) (list_all is_literal ns) is adds.are_literals;
@@ -126,7 +126,7 @@ module _ (old : List ℤ) (apart : HaveNoOpposites old) (w : List ℕ) (ws : Lis
       let words : w ∷ ws ≡ codes "0" ∷ [] = cc in
       subst (Says old (w ∷ ws)) ended.1 ([], words, adds_none old apart)
 
--- what words say, they are
+-- words have this meaning
 words_say : (old : List ℤ) → HaveNoOpposites old → (ws : List (List ℕ)) (s : Said) → after_words (Begun (each_once old)) ws ≡ Some s → Says old ws s
 words_say old apart [] s is =
     let e : Some (Begun (each_once old)) ≡ Some s = is in
@@ -136,7 +136,7 @@ words_say old apart (w ∷ ws) s is =
     let word = is_first (after_word (Begun (each_once old))) (word_in w) first.0 first.1 in
     by_word old apart w ws s word.0 (word_is w word.0 word.1) first.0 word.2 first.2 (λ l more. words_say (old ++ l ∷ []) more ws s)
 
--- and words that are literals say them
+-- the words of some literals mean these
 words_again : (old ns : List ℤ) (tail : List (List ℕ)) → list_all is_literal ns ≡ true → HaveNoOpposites (old ++ ns)
     → after_words (Begun (each_once old)) (map signed_decimal ns ++ tail) ≡ after_words (Begun (each_once (old ++ ns))) tail
 words_again old [] tail all apart = ap (λ ls. after_words (Begun (each_once ls)) tail) (sym (append-nil old))
@@ -153,7 +153,7 @@ words_again old (l ∷ ns) tail all apart =
 
 -- ---- lines of values
 
--- what a line of values says by its words
+-- the state after a line of values, by its words
 abbrev after_group : Said → List (List ℕ) → Option Said
 after_group s [] = None
 after_group s (w ∷ ws) = if bytes_eq w (codes "v") then after_words s ws else None
@@ -173,7 +173,7 @@ group_says s next [] is = let e : None ≡ Some next = is in absurd cc
 group_says s next (w ∷ ws) is =
     let v = begins_with_v s next w ws (bytes_eq w (codes "v")) refl is in (ws, ap (λ b. b ∷ ws) v.0, v.1)
 
--- what is said after lines that aren't skipped
+-- the state after lines that aren't skipped
 abbrev after_said : Said → List (List ℕ) → Option Said
 after_said s [] = Some s
 after_said s (line ∷ lines) = option_and_then (λ next. after_said next lines) (after_line s line)
@@ -182,11 +182,11 @@ whole_lines : (kept : List ℤ) (vs : List (List ℕ)) (s : Said) → after_said
 whole_lines kept [] s is = let e : Some (Whole kept) ≡ Some s = is in (refl, cc)
 whole_lines kept (v ∷ vs) s is = let e : None ≡ Some s = is in absurd cc
 
--- all literals of some lines but the last, and of the last
+-- all literals of the lines before the last, and of the last
 abbrev joined : List (List ℤ) → List ℤ → List ℤ
 joined before last = flat_map (λ ls. ls) before ++ last
 
--- the words of lines of values, behind old literals
+-- the words of the remaining lines of values, after old literals
 record Rest (old : List ℤ) (groups : List (List (List ℕ))) (kept : List ℤ) : Type 0 where
   before : List (List ℤ)
   last : List ℤ
@@ -226,7 +226,7 @@ module _ (old : List ℤ) (v : List ℕ) (vs ws : List (List ℕ)) (v_is : words
         adds = subst (Adds old says.0) same says.2;
       }
 
--- what lines of values say, they are
+-- lines of values have this meaning
 lines_say : (old : List ℤ) → HaveNoOpposites old → (vs : List (List ℕ)) (ls : List ℤ) → after_said (Begun (each_once old)) vs ≡ Some (Whole ls)
     → Rest old (map words_of vs) ls
 lines_say old apart [] ls is = let e : Some (Begun (each_once old)) ≡ Some (Whole ls) = is in absurd cc
@@ -239,7 +239,7 @@ lines_say old apart (v ∷ vs) ls is =
 line_again : (k : List ℤ) (v : List ℕ) (ws : List (List ℕ)) → words_of v ≡ codes "v" ∷ ws → after_line (Begun k) v ≡ after_words (Begun k) ws
 line_again k v ws is = group_is (Begun k) (pieces is_blank v) ∙ ap (after_group (Begun k)) is
 
--- and such lines say it
+-- such lines mean these literals
 lines_again : (old : List ℤ) (before : List (List ℤ)) (last : List ℤ) (vs : List (List ℕ))
     → map words_of vs ≡ map value_words before ++ (value_words last ++ codes "0" ∷ []) ∷ []
     → list_all is_literal (joined before last) ≡ true → HaveNoOpposites (old ++ joined before last)
@@ -271,7 +271,7 @@ lines_again old (b ∷ before) last (v ∷ vs) are all apart =
 
 -- ---- all lines
 
--- what is said after lines
+-- the state after some lines
 abbrev pub after_lines : Said → List (List ℕ) → Option Said
 after_lines s [] = Some s
 after_lines s (line ∷ lines) = option_and_then (λ next. after_lines next lines) (after_any s (trimmed line))
@@ -282,7 +282,7 @@ by_skip s line lines true is same = rw is (same s)
 by_skip s line lines false is same =
     rw is (same_then (λ next. after_lines next lines) (λ next. after_said next (unskipped lines)) same (after_line s (trimmed line)))
 
--- skipped lines say nothing
+-- skipped lines change nothing
 skips : (s : Said) (lines : List (List ℕ)) → after_lines s lines ≡ after_said s (unskipped lines)
 skips s [] = refl
 skips s (line ∷ lines) = by_skip s line lines (is_skipped (trimmed line)) refl (λ next. skips next lines)
@@ -314,11 +314,11 @@ answer_of lines ls (v ∷ vs) at is =
       literals_are = r.adds.kept_are;
     }
 
--- lines that a reader takes are an answer
+-- lines that a reader accepts are an answer
 pub are_answer : (lines : List (List ℕ)) (ls : List ℤ) → after_lines Nothing lines ≡ Some (Whole ls) → AreAnswerWith lines ls
 are_answer lines ls is = answer_of lines ls (unskipped lines) refl (sym (skips Nothing lines) ∙ is)
 
--- and it takes an answer's
+-- a reader accepts the lines of an answer
 pub answer_again : (lines : List (List ℕ)) (ls : List ℤ) → AreAnswerWith lines ls → after_lines Nothing lines ≡ Some (Whole ls)
 answer_again lines ls a =
     let again = lines_again [] a.before a.last a.values a.values_are (subst (λ ms. list_all is_literal ms ≡ true) a.all_are a.are_literals)

@@ -1,4 +1,4 @@
--- Literals once each, in the order in which they first come.
+-- Each literal once, in the order of first occurrence.
 use Rattle.std.proofs.Common.{◌≡◌, ◌∙◌, Bool, true, false, not, ◌||◌, ◌⊎◌, inl, inr, List, [], ◌∷◌, ◌++◌, ℤ, refl, sym, ap}
 use Rattle.std.specs.Prelude.{neg_ℤ, if◌then◌else◌}
 use Rattle.std.specs.List.{filter}
@@ -18,7 +18,7 @@ same a b e = (Decides-int_eq a b).0 e
 itself : (a b : ℤ) → a ≡ b → int_eq a b ≡ true
 itself a b e = (Decides-int_eq a b).1 e
 
--- those that aren't this one
+-- the literals except this one
 abbrev without : ℤ → List ℤ → List ℤ
 without o ks = filter (λ k. not (int_eq o k)) ks
 
@@ -30,7 +30,7 @@ module _ (o l : ℤ) (other : int_eq l o ≡ false) where
       rw (is, not_this) same_rest
   kept k ks false is same_rest = rw is (ap (λ b. int_eq l k || b) same_rest)
 
-  -- another one is among them as before
+  -- removing one literal keeps the others
   among_without : (ks : List ℤ) → is_among (without o ks) l ≡ is_among ks l
   among_without [] = refl
   among_without (k ∷ ks) = kept k ks (int_eq o k) refl (among_without ks)
@@ -40,12 +40,12 @@ once_or : (l o : ℤ) (ls : List ℤ) (e : Bool) → int_eq l o ≡ e → is_amo
 once_or l o ls true is same_rest = rw is refl
 once_or l o ls false is same_rest = ap (λ b. int_eq l o || b) (among_without o l is (each_once ls) ∙ same_rest)
 
--- the same are among them
+-- a literal occurs exactly if it occurred
 pub among_once : (ls : List ℤ) (l : ℤ) → is_among (each_once ls) l ≡ is_among ls l
 among_once [] l = refl
 among_once (o ∷ ls) l = once_or l o ls (int_eq l o) refl (among_once ls l)
 
--- One literal more.
+-- One more literal.
 
 differ : (o l : ℤ) (e : Bool) → int_eq o l ≡ e → int_eq l o ≡ false → int_eq o l ≡ false
 differ o l false is other = is
@@ -79,7 +79,7 @@ module _ (o l : ℤ) (ks : List ℤ) where
   with_one true is = is_first is (is_among ks l)
   with_one false is = is_other is (is_among ks l) refl
 
--- each once, with one more
+-- each literal once, with one more literal
 pub once_more : (ls : List ℤ) (l : ℤ) → each_once (ls ++ l ∷ []) ≡ insert_key int_eq (each_once ls) l
 once_more [] l = refl
 once_more (o ∷ ls) l = ap (λ xs. o ∷ without o xs) (once_more ls l) ∙ with_one o l (each_once ls) (int_eq l o) refl
@@ -94,7 +94,7 @@ is_apart old l more apart true is =
     absurd (apart l (list_any-append (int_eq l) old (l ∷ more) ∙ or_right (is_among old l) (is_among (l ∷ more) l) here)
     (list_any-append (int_eq (neg_ℤ l)) old (l ∷ more) ∙ or_left (is_among old (neg_ℤ l)) (is_among (l ∷ more) (neg_ℤ l)) is))
 
--- the opposite of one isn't before it
+-- the opposite of a literal doesn't come before it
 pub opposite_not_before : (old : List ℤ) (l : ℤ) (more : List ℤ) → HaveNoOpposites (old ++ l ∷ more) → is_among old (neg_ℤ l) ≡ false
 opposite_not_before old l more apart = is_apart old l more apart (is_among old (neg_ℤ l)) refl
 
@@ -114,11 +114,11 @@ module _ (old : List ℤ) (l : ℤ) (apart : HaveNoOpposites old) (not_there : i
   among_both k (inr is) (inl also) = false≢true (sym not_there ∙ ap (λ m. is_among old (neg_ℤ m)) (sym is) ∙ also)
   among_both k (inr is) (inr opposite) = not_own (ap neg_ℤ (sym is) ∙ opposite)
 
-  -- with one more whose opposite isn't there
+  -- one more literal whose opposite isn't in the list
   pub apart_more : HaveNoOpposites (old ++ l ∷ [])
   apart_more k there also = among_both k (in_one k there) (in_one (neg_ℤ k) also)
 
--- nor among the first of them
+-- a first part of such a list has no opposites either
 pub front_apart : (old more : List ℤ) → HaveNoOpposites (old ++ more) → HaveNoOpposites old
 front_apart old more apart l there also =
     apart l (list_any-append (int_eq l) old more ∙ or_left (is_among old l) (is_among more l) there)

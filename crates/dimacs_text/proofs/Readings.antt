@@ -14,7 +14,7 @@ use Rattle.dimacs_text.proofs.Firsts.{begins_with_first}
 
 module _ (number : ℕ) (said : Said) (rest line behind : List ℕ) (some : 0 < length rest) (as_line : line ≡ first_piece is_line_feed rest)
     (as_behind : behind ≡ behind_first is_line_feed rest) where
-  -- what is read from here on, by what is said after the first line
+  -- the reading from here on, by the state after the first line
   first_line : reading number said (pieces is_line_feed rest)
       ≡ option_map_or (λ next. reading (number + 1) next (pieces is_line_feed behind)) (after_any said (trimmed line)) (Err number)
   first_line =
@@ -24,7 +24,7 @@ module _ (number : ℕ) (said : Said) (rest line behind : List ℕ) (some : 0 < 
       (sym as_line)
       ∙ ap (λ bs. option_map_or (λ next. reading (number + 1) next (pieces is_line_feed bs)) (after_any said (trimmed line)) (Err number)) (sym as_behind)
 
-  -- a line that goes on, and one that breaks the form
+  -- a line goes on or breaks the form
   pub reads_on : (next : Said) → Some next ≡ after_any said (trimmed line)
       → reading number said (pieces is_line_feed rest) ≡ reading (number + 1) next (pieces is_line_feed behind)
   reads_on next is =
@@ -33,7 +33,7 @@ module _ (number : ℕ) (said : Said) (rest line behind : List ℕ) (some : 0 < 
   pub breaks : None ≡ after_any said (trimmed line) → reading number said (pieces is_line_feed rest) ≡ Err number
   breaks is = first_line ∙ ap (λ o. option_map_or (λ n. reading (number + 1) n (pieces is_line_feed behind)) o (Err number)) (sym is)
 
--- where no line is left
+-- no line is left
 pub whole_at_end : (number : ℕ) (said : Said) (rest : List ℕ) (literals : List ℤ) → length rest ≡ 0 → said ≡ Whole literals
     → reading number said (pieces is_line_feed rest) ≡ Ok literals
 whole_at_end number said [] literals empty is = ap (at_end number) is
@@ -54,7 +54,7 @@ module _ (said : Said) (rest part behind : List ℕ) (some : 0 < length rest) (a
       ∙ ap (λ p. option_and_then (λ next. after_parts next (pieces is_blank (behind_first is_blank rest))) (after_part said p)) (sym as_part)
       ∙ ap (λ bs. option_and_then (λ next. after_parts next (pieces is_blank bs)) (after_part said part)) (sym as_behind)
 
-  -- the same of what stands between blanks
+  -- reading goes on after the first part with what that part says
   pub goes_on : (next : Said) → Some next ≡ after_part said part → after_parts said (pieces is_blank rest) ≡ after_parts next (pieces is_blank behind)
   goes_on next is = first_part ∙ ap (option_and_then (λ n. after_parts n (pieces is_blank behind))) (sym is)
 

@@ -72,7 +72,7 @@ by_sign b bytes w false sign is =
     let read : option_map plain (number_of last_var (b ∷ bytes)) ≡ Some w = rw sign at is in
     plain_in (b ∷ bytes) w (number_of last_var (b ∷ bytes)) refl read
 
--- bytes that are read as a word are its own
+-- bytes that are read as a word spell it
 pub word_is : (bytes : List ℕ) (w : Word) → word_in bytes ≡ Some w → IsOf w bytes
 word_is [] w is = absurd cc
 word_is (b ∷ bytes) w is = by_sign b bytes w (b == 45) refl is

@@ -1,4 +1,4 @@
-//! A thread that goes ahead alone.
+//! A thread that runs ahead alone.
 
 use crate::machine::Machine;
 use crate::thread::{Place, Thread, wants_drained};
@@ -9,37 +9,38 @@ use std::alloc::{AllocError, Global};
 use store_buffers::MemoryModel;
 use sym_exec::Access;
 
-/// How many events ahead a thread is followed at most.
+/// The greatest number of events that a thread runs ahead.
 pub(crate) const AHEAD: u32 = 10;
 
-/// How many tests a thread passes ahead at most between two events.
+/// The greatest number of tests that a thread passes between two events ahead.
 const TESTS: usize = 40;
 
-/// How an event goes of a thread that goes ahead.
+/// The outcome of an event of a thread that runs ahead.
 #[derive(Clone, Copy, PartialEq, Eq)]
 pub(crate) enum Pace {
-    /// It is done.
+    /// The event is done.
     On,
-    /// There is none, the run would end by it, or no more is looked at.
+    /// There is no event, the run would end with it, or the limit of tests is reached.
     End,
     /// The thread has to wait.
     Wait,
-    /// It is done, and the thread leaves its path.
+    /// The event is done, and the thread leaves its path.
     Leave,
 }
 
-/// What reads ahead take.
+/// The values that reads ahead take.
 #[derive(Clone, Copy)]
 pub(crate) enum Reads {
-    /// What is there.
+    /// The current value of the cell.
     Now,
-    /// What is there, but nothing that is known where another thread may still write, unless it is the first event ahead.
+    /// The current value, or unknown if another thread may still write to the cell; the first event
+    /// ahead always takes the current value.
     Sure,
-    /// What is there, but for the read of that number, from 1: another value.
+    /// The current value, except that the read with this number, from 1, takes this value.
     Instead { read: u32, value: i32 },
 }
 
-/// A thread that goes ahead alone, while all that the others wrote stays.
+/// A thread that runs ahead alone, while the other threads don't move.
 #[derive(Drop)]
 pub(crate) struct Ahead<'m, 'a> {
     machine: &'m Machine<'a>,
@@ -47,23 +48,23 @@ pub(crate) struct Ahead<'m, 'a> {
     thread: &'m Thread<'a>,
     taken: Reads,
     pub at: Place,
-    /// How many events it has done, and how many of them read.
+    /// The number of events done ahead, and how many of them read.
     pub events: u32,
     pub reads: u32,
     /// The cell of the last read.
     pub last: Option<u32>,
-    /// What it has written that wasn't in memory before, its pending stores among it.
+    /// Its writes that weren't in memory before, including its pending stores.
     pub written: Written,
     has_mutex: bool,
     has_pending: bool,
-    /// Whether it wrote what the others can see, or will.
+    /// Whether it wrote something that other threads see now or will see.
     pub changes: bool,
-    /// Whether the others can see it now.
+    /// Whether other threads see it now.
     pub is_seen: bool,
 }
 
 impl<'m, 'a> Ahead<'m, 'a> {
-    /// A thread that has done nothing ahead yet, if it has begun.
+    /// A thread that has done nothing ahead yet; `None` if it hasn't begun.
     pub fn new(
         alloc: Global,
         machine: &'m Machine<'a>,
@@ -93,7 +94,7 @@ impl<'m, 'a> Ahead<'m, 'a> {
         }))
     }
 
-    /// Goes on as long as it can, for at most `AHEAD` events.
+    /// Goes on as far as it can, for at most `AHEAD` events.
     pub fn run<M: MemoryModel>(&mut self, values: &mut Values) -> Result<Pace, AllocError> {
         for _ in 0..AHEAD {
             let pace = self.go::<M>(values)?;
@@ -126,7 +127,7 @@ impl<'m, 'a> Ahead<'m, 'a> {
         })
     }
 
-    /// Its stores reach memory, if there are any and the next event wants it.
+    /// Drains its stores, if there are any and the next event needs an empty buffer.
     pub fn drain(&mut self) {
         if let Some(event) = self.thread.event(self.at) {
             if self.has_pending && wants_drained(event.kind) {
@@ -136,13 +137,13 @@ impl<'m, 'a> Ahead<'m, 'a> {
         }
     }
 
-    /// The others see what it wrote, unless it has a mutex.
+    /// Shows its writes to the other threads, unless it holds a mutex.
     fn show(&mut self) {
         self.changes = true;
         self.is_seen |= !self.has_mutex;
     }
 
-    /// Whether it has to wait at an event. From a sleep that it begins ahead nothing wakes it.
+    /// Whether it has to wait at an event. Nothing wakes it from a sleep that it begins ahead.
     fn waits(&self, kind: EventKind) -> bool {
         match kind {
             EventKind::Lock(mutex) => !self.machine.is_free(mutex),
@@ -154,7 +155,7 @@ impl<'m, 'a> Ahead<'m, 'a> {
         }
     }
 
-    /// Does what an event asks.
+    /// Does an event.
     fn does<M: MemoryModel>(
         &mut self,
         values: &mut Values,
@@ -211,7 +212,7 @@ impl<'m, 'a> Ahead<'m, 'a> {
         Ok(())
     }
 
-    /// What it finds in a cell, where that is known.
+    /// The value that it finds in a cell, if that is known.
     fn found(&self, cell: u32) -> Option<i32> {
         if self.events > 0
             && matches!(self.taken, Reads::Sure)
@@ -225,7 +226,7 @@ impl<'m, 'a> Ahead<'m, 'a> {
         }
     }
 
-    /// What a read takes from a cell in which this was found.
+    /// The value that a read takes from a cell with this value.
     fn take(&mut self, cell: u32, found: Option<i32>) -> Option<i32> {
         self.reads = self.reads.saturating_add(1);
         self.last = Some(cell);

@@ -8,18 +8,18 @@ use crate::written::Written;
 use std::alloc::{AllocError, Global};
 use store_buffers::MemoryModel;
 
-/// How a block of a thread goes.
+/// The end of a thread's block.
 #[derive(Clone, Copy, PartialEq, Eq)]
 pub(crate) enum Fate {
-    /// The thread leaves its path, or has to wait, before the end.
+    /// The thread leaves its path, or has to wait, before the end of the block.
     Stops,
-    /// Others see no difference.
+    /// Other threads see no difference.
     Reads,
-    /// Others see it.
+    /// Other threads see a difference.
     Writes,
 }
 
-/// What a thread comes to, and writes on the way.
+/// How a block ends, where its thread is then, and what it has written.
 #[derive(Drop)]
 pub(crate) struct Block {
     pub fate: Fate,
@@ -27,8 +27,9 @@ pub(crate) struct Block {
     pub written: Written,
 }
 
-/// The *block* of a thread: what it does, if it goes on alone, up to the first event that others can see, or, where it has a mutex, up
-/// to where it leaves that; so many events at most.
+/// The *block* of a thread: what it does, if it goes on alone, up to the first event that others
+/// can see, or, if it holds a mutex, up to where it releases that. A block has at most `events`
+/// events.
 pub(crate) fn block_of<M: MemoryModel>(
     alloc: Global,
     machine: &Machine,
@@ -52,7 +53,7 @@ pub(crate) fn block_of<M: MemoryModel>(
     }))
 }
 
-/// Does an event of a block, which ends by it as is answered, or goes on.
+/// Does an event of a block. Returns the block's end if the block ends with it.
 fn go<M: MemoryModel>(ahead: &mut Ahead, values: &mut Values) -> Result<Option<Fate>, AllocError> {
     ahead.drain();
     if ahead.is_seen {
@@ -66,7 +67,7 @@ fn go<M: MemoryModel>(ahead: &mut Ahead, values: &mut Values) -> Result<Option<F
     })
 }
 
-/// How a block ends where its thread is now.
+/// How a block ends if it ends where its thread is now.
 fn end(ahead: &Ahead) -> Fate {
     if ahead.changes {
         Fate::Writes

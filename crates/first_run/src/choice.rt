@@ -1,4 +1,4 @@
-//! What is done next.
+//! The choice of what is done next.
 
 use crate::ahead::{AHEAD, leaves};
 use crate::block::{Fate, block_of};
@@ -11,22 +11,22 @@ use path_walk::EventKind;
 use std::alloc::{AllocError, Global};
 use store_buffers::MemoryModel;
 
-/// How soon something is done that can be done.
+/// The priority of a choice.
 #[derive(Clone, Copy, PartialEq, Eq, PartialOrd, Ord)]
 pub(crate) enum Rank {
-    /// The others don't see it.
+    /// Other threads don't see it.
     Read,
-    /// The others see it.
+    /// Other threads see it.
     Write,
-    /// A store reaches memory that nobody waits for.
+    /// It drains a store that nobody waits for.
     Spare,
 }
 
-/// What can be done next: a thread's next event, or a pending store of it reaches memory.
+/// Something that can be done next: a thread's next event, or the drain of a pending store.
 #[derive(Clone, Copy)]
 pub(crate) struct Choice {
     pub rank: Rank,
-    /// How many threads are stuck then.
+    /// The number of threads that are stuck afterwards.
     stuck: usize,
     share: usize,
     pub thread: usize,
@@ -34,8 +34,8 @@ pub(crate) struct Choice {
 }
 
 impl Choice {
-    /// Whether it is to be done before another: what is spare comes last, then what leaves more threads stuck, then what is seen; and last
-    /// what a thread does of which more is done.
+    /// Whether it comes before another choice. Spare drains come last; then fewer stuck threads
+    /// come first; then what other threads don't see; then the thread with the least share done.
     fn is_before(&self, other: &Choice) -> bool {
         self.key() < other.key()
     }
@@ -45,7 +45,7 @@ impl Choice {
     }
 }
 
-/// What is done before, of what was found so far and something else.
+/// The choice that comes first, of the best so far and another.
 fn first(found: Option<Choice>, other: Option<Choice>) -> Option<Choice> {
     match (found, other) {
         (Some(choice), Some(other)) if other.is_before(&choice) => Some(other),
@@ -54,7 +54,8 @@ fn first(found: Option<Choice>, other: Option<Choice>) -> Option<Choice> {
     }
 }
 
-/// How many events a block has at most that an event begins. Those that don't load or take a mutex stand alone.
+/// The greatest length of a block that begins with an event of this kind. Only a load or a mutex
+/// taken begins a longer one.
 fn block_length(kind: EventKind) -> u32 {
     match kind {
         EventKind::Load | EventKind::Lock(_) | EventKind::Wake { .. } => AHEAD,
@@ -63,7 +64,7 @@ fn block_length(kind: EventKind) -> u32 {
 }
 
 impl Run<'_> {
-    /// What is done next, if anything can be with all threads on their paths.
+    /// The next choice, if some thread can do something without leaving its path.
     pub fn choice<M: MemoryModel>(&mut self, alloc: Global) -> Result<Option<Choice>, AllocError> {
         let mut found = None;
         for thread in 0..self.machine.threads.len() {
@@ -73,7 +74,7 @@ impl Run<'_> {
         Ok(found)
     }
 
-    /// Whether a thread can do its next event now, and stay on its path.
+    /// Whether a thread can do its next event now and stay on its path.
     pub fn can_go<M: MemoryModel>(
         &mut self,
         alloc: Global,
@@ -85,7 +86,7 @@ impl Run<'_> {
         Ok(!leaves::<M>(alloc, &self.machine, &mut self.values, number)?)
     }
 
-    /// A thread's next event, if it can be done now.
+    /// The choice of a thread's next event, if that can be done now.
     fn event_choice<M: MemoryModel>(
         &mut self,
         alloc: Global,
@@ -119,7 +120,7 @@ impl Run<'_> {
         }))
     }
 
-    /// How many threads are stuck after the next event of one, by which it writes nothing.
+    /// The number of stuck threads after a thread's next event, which writes nothing.
     fn stuck_after_read<M: MemoryModel>(
         &mut self,
         alloc: Global,
@@ -134,7 +135,7 @@ impl Run<'_> {
         }
     }
 
-    /// How soon an event is done, by how its block goes, if it is to be done at all: no mutex is taken where the block can't end.
+    /// The priority of an event, by how its block ends. A mutex isn't taken if its block can't end.
     fn rank(&self, kind: EventKind, fate: Fate) -> Option<Rank> {
         match (kind, fate) {
             (EventKind::Lock(_) | EventKind::Wake { .. }, Fate::Stops) => None,
@@ -145,7 +146,7 @@ impl Run<'_> {
         }
     }
 
-    /// The pending store of a thread that reaches memory first, of those that may, and of the same the newest.
+    /// The best drain of a thread's pending stores; of equal ones the newest.
     fn stores_choice<M: MemoryModel>(
         &mut self,
         alloc: Global,
@@ -158,7 +159,7 @@ impl Run<'_> {
         Ok(found)
     }
 
-    /// That a pending store of a thread reaches memory, if it may.
+    /// The choice to drain a pending store of a thread, if it may drain.
     fn store_choice<M: MemoryModel>(
         &mut self,
         alloc: Global,
@@ -190,7 +191,8 @@ impl Run<'_> {
         }))
     }
 
-    /// How many threads are stuck once one of them has come to a place, has these pending stores, and has written so.
+    /// The number of stuck threads once a thread is at this place, with these pending stores and
+    /// writes.
     fn stuck_then<M: MemoryModel>(
         &mut self,
         alloc: Global,

@@ -1,4 +1,4 @@
-//! The threads, memory and mutexes of the run.
+//! The threads, memory and mutexes of a run.
 
 use crate::thread::{Pending, Place, Thread, wants_drained};
 use crate::written::Written;
@@ -8,7 +8,7 @@ use store_buffers::MemoryModel;
 use sym_exec::Symbolic;
 use tc_code::Code;
 
-/// The threads, in the order of their names, the values in memory, and who has each mutex.
+/// The threads, in the order of their names, the values in memory, and the owner of each mutex.
 #[derive(Drop)]
 pub(crate) struct Machine<'a> {
     pub threads: Vec<Thread<'a>>,
@@ -16,7 +16,7 @@ pub(crate) struct Machine<'a> {
     owners: Vec<Option<usize>>,
 }
 
-/// What a look ahead has changed.
+/// The state that a look ahead has changed.
 #[derive(Drop)]
 pub(crate) struct Before {
     thread: usize,
@@ -48,12 +48,12 @@ impl<'a> Machine<'a> {
         })
     }
 
-    /// What a thread does next, if it isn't at its end.
+    /// The next event of a thread, if it isn't at its end.
     pub fn next(&self, number: usize) -> Option<Event> {
         self.threads.get(number)?.next()
     }
 
-    /// How far a thread is.
+    /// The place of a thread on its path.
     pub fn place(&self, number: usize) -> Option<Place> {
         Some(self.threads.get(number)?.at)
     }
@@ -66,7 +66,7 @@ impl<'a> Machine<'a> {
         }
     }
 
-    /// How much of its path a thread has done.
+    /// The share of its path that a thread has done.
     pub fn share(&self, number: usize) -> usize {
         match self.threads.get(number) {
             Some(thread) => thread.share(),
@@ -74,7 +74,7 @@ impl<'a> Machine<'a> {
         }
     }
 
-    /// Whether a thread's pending stores have to reach memory before it goes on.
+    /// Whether a thread's pending stores have to drain before it goes on.
     pub fn drains_first(&self, number: usize) -> bool {
         match self.threads.get(number) {
             Some(thread) => thread.drains_first(),
@@ -82,12 +82,12 @@ impl<'a> Machine<'a> {
         }
     }
 
-    /// What a cell has.
+    /// The value of a cell.
     pub fn cell(&self, cell: u32) -> i32 {
         self.memory.get(cell as usize).copied().unwrap_or(0)
     }
 
-    /// A cell takes a value; whether that changes it.
+    /// Sets the value of a cell. Returns whether that changes it.
     pub fn set_cell(&mut self, cell: u32, value: i32) -> bool {
         match self.memory.get_mut(cell as usize) {
             Some(place) => {
@@ -99,7 +99,7 @@ impl<'a> Machine<'a> {
         }
     }
 
-    /// What a load of a thread takes from a cell.
+    /// The value that a load of a thread takes from a cell.
     pub fn read(&self, thread: &Thread, cell: u32) -> i32 {
         thread.forward(cell).unwrap_or(self.cell(cell))
     }
@@ -114,7 +114,7 @@ impl<'a> Machine<'a> {
         false
     }
 
-    /// A thread is ahead, has these pending stores, and cells have what it wrote, till `go_back`.
+    /// Moves a thread ahead, with these pending stores and these writes, until `go_back`.
     pub fn go_ahead(
         &mut self,
         alloc: Global,
@@ -140,7 +140,7 @@ impl<'a> Machine<'a> {
         Ok(before)
     }
 
-    /// The condition on which a thread waits that has just come to a place.
+    /// The condition on which a thread waits at a place, if it does.
     fn sleep_before(&self, number: usize, at: Place) -> Option<u32> {
         match self.threads.get(number)?.event(at)?.kind {
             EventKind::Wake { condition, .. } => Some(condition),
@@ -148,7 +148,7 @@ impl<'a> Machine<'a> {
         }
     }
 
-    /// All is as before.
+    /// Restores the state from before a look ahead.
     pub fn go_back(&mut self, before: Before) {
         let mut before = before;
         for (cell, value) in before.cells.iter().rev() {
@@ -157,7 +157,7 @@ impl<'a> Machine<'a> {
         self.exchange(&mut before);
     }
 
-    /// A thread's place and pending stores are exchanged for others.
+    /// Exchanges a thread's place, pending stores and condition for others.
     fn exchange(&mut self, other: &mut Before) {
         if let Some(thread) = self.threads.get_mut(other.thread) {
             std::mem::swap(&mut thread.at, &mut other.at);
@@ -166,24 +166,24 @@ impl<'a> Machine<'a> {
         }
     }
 
-    /// Whether no thread has a mutex.
+    /// Whether no thread holds a mutex.
     pub fn is_free(&self, mutex: u32) -> bool {
         !matches!(self.owners.get(mutex as usize), Some(Some(_)))
     }
 
-    /// Whether a thread has some mutex.
+    /// Whether a thread holds some mutex.
     pub fn has_mutex(&self, thread: usize) -> bool {
         self.owners.iter().any(|owner| *owner == Some(thread))
     }
 
-    /// A mutex has an owner from now on, or none.
+    /// Sets or clears the owner of a mutex.
     pub fn set_owner(&mut self, mutex: u32, owner: Option<usize>) {
         if let Some(place) = self.owners.get_mut(mutex as usize) {
             *place = owner;
         }
     }
 
-    /// The child of a thread by its number.
+    /// The index of a thread's child with this number.
     pub fn child(&self, parent: &Walk, number: u32) -> Option<usize> {
         for (place, thread) in self.threads.iter().enumerate() {
             if is_child(parent, number, thread.walk) {
@@ -193,7 +193,7 @@ impl<'a> Machine<'a> {
         None
     }
 
-    /// Whether the child of a thread by its number has done all its path.
+    /// Whether a thread's child with this number has done its whole path.
     pub fn is_child_done(&self, parent: &Walk, number: u32) -> bool {
         match self.child(parent, number) {
             Some(child) => self.next(child).is_none(),
@@ -201,7 +201,7 @@ impl<'a> Machine<'a> {
         }
     }
 
-    /// Whether all threads but one have done their paths.
+    /// Whether all threads except this one have done their paths.
     fn others_are_done(&self, thread: usize) -> bool {
         for (other, found) in self.threads.iter().enumerate() {
             if other != thread && !found.is_done() {
@@ -211,7 +211,7 @@ impl<'a> Machine<'a> {
         true
     }
 
-    /// Whether the machine lets a thread do its next event.
+    /// Whether the machine enables a thread's next event.
     pub fn lets(&self, number: usize) -> bool {
         let Some(thread) = self.threads.get(number) else {
             return false;
@@ -224,7 +224,7 @@ impl<'a> Machine<'a> {
             && self.meets(number, thread, event)
     }
 
-    /// Whether the other threads let an event of a thread be. The failing one is let in as the last of all.
+    /// Whether the other threads allow an event of a thread. A failure has to come last.
     fn meets(&self, number: usize, thread: &Thread, event: Event) -> bool {
         match event.kind {
             EventKind::Lock(mutex) => self.is_free(mutex),
@@ -235,7 +235,8 @@ impl<'a> Machine<'a> {
         }
     }
 
-    /// A thread that can do its next event at once, since nothing that is still to be chosen depends on when it is done.
+    /// A thread that can do its next event at once: no choice still open depends on when it is
+    /// done.
     pub fn free_thread<M: MemoryModel>(&self) -> Option<usize> {
         (0..self.threads.len()).find(|number| self.is_free_to_go::<M>(*number))
     }
@@ -247,8 +248,8 @@ impl<'a> Machine<'a> {
         }
     }
 
-    /// The thread that leaves its path where none can go on along it: of those that the machine lets go on, or else of all that aren't
-    /// done, the one that has done least.
+    /// The thread that leaves its path if none can go on along it: the one with the least share
+    /// done among the enabled ones, or else among all that aren't done.
     pub fn last_thread(&self) -> Option<usize> {
         self.least(true).or(self.least(false))
     }
@@ -267,7 +268,7 @@ impl<'a> Machine<'a> {
     }
 }
 
-/// Whether an event of that kind is seen by no other thread that doesn't wait for it.
+/// Whether only threads that wait for an event of this kind see it.
 fn is_silent<M: MemoryModel>(kind: EventKind) -> bool {
     match kind {
         EventKind::Store => M::BUFFERED,
@@ -280,7 +281,7 @@ fn is_silent<M: MemoryModel>(kind: EventKind) -> bool {
     }
 }
 
-/// Whether a thread is the child of another by its number.
+/// Whether a thread is the child of another with this number.
 fn is_child(parent: &Walk, number: u32, thread: &Walk) -> bool {
     match thread.name().children().split_last() {
         Some((last, before)) => *last == number && before == parent.name().children(),
@@ -288,7 +289,7 @@ fn is_child(parent: &Walk, number: u32, thread: &Walk) -> bool {
     }
 }
 
-/// A pending store, if it may reach memory before those that are older.
+/// A pending store, if it may drain before the older ones.
 pub(crate) fn drainable<M: MemoryModel>(pending: &[Pending], store: usize) -> Option<Pending> {
     let drained = *pending.get(store)?;
     for older in 0..store {

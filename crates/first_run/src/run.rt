@@ -10,33 +10,33 @@ use std::alloc::{AllocError, Global};
 use store_buffers::MemoryModel;
 use sym_exec::Access;
 
-/// An event that a thread does next.
+/// The next event of a thread.
 #[derive(Clone, Copy)]
 struct Deed {
     thread: usize,
-    /// Its number among those of its thread, and among all.
+    /// Its number among the events of its thread, and among all events.
     own: usize,
     number: usize,
     event: Event,
     access: Option<Access>,
 }
 
-/// A run so far.
+/// The run so far.
 #[derive(Drop)]
 pub(crate) struct Run<'a> {
     pub machine: Machine<'a>,
     pub values: Values<'a>,
     pub told: Told,
-    /// Whether loads never begin a block, so that as many as can be are done before anything is written.
+    /// Whether loads never begin a block, so that reads come before writes wherever they can.
     pub is_eager: bool,
-    /// The thread whose block isn't at its end.
+    /// The thread in the middle of a block.
     block: Option<usize>,
-    /// How many events were done when a thread first left its path.
+    /// The number of events done when a thread first left its path.
     left: Option<u8>,
 }
 
 impl<'a> Run<'a> {
-    /// A run in which nothing is done.
+    /// A run without any event done.
     pub fn new(machine: Machine<'a>, values: Values<'a>, told: Told, is_eager: bool) -> Run<'a> {
         Run {
             machine,
@@ -48,8 +48,9 @@ impl<'a> Run<'a> {
         }
     }
 
-    /// Within how many events a thread leaves its path that is stuck. Where locks are spun for, fewer keep more threads on their paths,
-    /// and where an eager run is the better one, more do: so it was found by trial.
+    /// The number of events within which a stuck thread leaves its path. Found by trial: with
+    /// spinlocks, a smaller number keeps more threads on their paths; with an eager run, a greater
+    /// one does.
     pub fn near(&self) -> u32 {
         if self.is_eager { 3 } else { 2 }
     }
@@ -59,7 +60,7 @@ impl<'a> Run<'a> {
         self.left.is_none()
     }
 
-    /// Whether all threads stayed on their paths, or did for longer than in another run.
+    /// Whether all threads stayed on their paths, or stayed longer than in another run.
     pub fn is_further(&self, other: &Run) -> bool {
         match (self.left, other.left) {
             (Some(here), Some(there)) => here > there,
@@ -67,7 +68,7 @@ impl<'a> Run<'a> {
         }
     }
 
-    /// Goes on till nothing is left to do, by at most so many steps.
+    /// Goes on until nothing is left to do, for at most `steps` steps.
     pub fn go_on<M: MemoryModel>(&mut self, alloc: Global, steps: usize) -> Result<(), AllocError> {
         self.begin(0);
         for _ in 0..steps {
@@ -78,7 +79,7 @@ impl<'a> Run<'a> {
         Ok(())
     }
 
-    /// Does something more, if anything is left to do.
+    /// Does one more thing, if anything is left to do.
     fn step<M: MemoryModel>(&mut self, alloc: Global) -> Result<bool, AllocError> {
         if let Some(thread) = self.machine.free_thread::<M>() {
             self.go::<M>(thread)?;
@@ -129,7 +130,7 @@ impl<'a> Run<'a> {
         }
     }
 
-    /// What a thread does next.
+    /// The next event of a thread, with its numbers and its access.
     fn deed(&self, number: usize) -> Option<Deed> {
         let thread = self.machine.threads.get(number)?;
         Some(Deed {
@@ -141,7 +142,7 @@ impl<'a> Run<'a> {
         })
     }
 
-    /// A pending store of a thread reaches memory.
+    /// Drains a pending store of a thread.
     fn drain(&mut self, number: usize, store: usize) {
         let Some(thread) = self.machine.threads.get_mut(number) else {
             return;
@@ -155,7 +156,7 @@ impl<'a> Run<'a> {
         self.told.put(event);
     }
 
-    /// A thread does its next event, whether or not the machine lets it.
+    /// Does a thread's next event, whether or not the machine enables it.
     fn go<M: MemoryModel>(&mut self, number: usize) -> Result<(), AllocError> {
         let Some(deed) = self.deed(number) else {
             return Ok(());
@@ -168,7 +169,7 @@ impl<'a> Run<'a> {
         Ok(())
     }
 
-    /// Does what an event asks; whether others can see it.
+    /// Does an event. Returns whether other threads can see it.
     fn does<M: MemoryModel>(&mut self, deed: Deed) -> Result<bool, AllocError> {
         match deed.event.kind {
             EventKind::Load | EventKind::Store | EventKind::Exchange => {
@@ -212,7 +213,7 @@ impl<'a> Run<'a> {
         })
     }
 
-    /// Does an access; whether it changes memory.
+    /// Does an access. Returns whether it changes memory.
     fn accesses<M: MemoryModel>(&mut self, deed: Deed) -> Result<bool, AllocError> {
         let access = deed.access;
         let Some(access) = access else {
@@ -242,7 +243,7 @@ impl<'a> Run<'a> {
         }
     }
 
-    /// Writes to a cell, by a store or an exchange; whether that changes memory.
+    /// Writes to a cell, by a store or an exchange. Returns whether that changes memory.
     fn writes<M: MemoryModel>(
         &mut self,
         deed: Deed,
@@ -258,7 +259,8 @@ impl<'a> Run<'a> {
         Ok(self.machine.set_cell(cell, value))
     }
 
-    /// What a thread finds in a cell; 0 where it has left its path so far that there is no such cell.
+    /// The value that a thread finds in a cell; 0 if there is no such cell, which happens only off
+    /// its path.
     fn found(&self, number: usize, cell: Option<u32>) -> i32 {
         match (self.machine.threads.get(number), cell) {
             (Some(thread), Some(cell)) => self.machine.read(thread, cell),
@@ -266,7 +268,7 @@ impl<'a> Run<'a> {
         }
     }
 
-    /// A store goes on its way to memory.
+    /// Issues a store.
     fn issue(&mut self, deed: Deed, cell: u32, value: i32) -> Result<(), AllocError> {
         if let Some(thread) = self.machine.threads.get_mut(deed.thread) {
             thread.pending.push(Pending {
@@ -279,7 +281,7 @@ impl<'a> Run<'a> {
         Ok(())
     }
 
-    /// A thread waits on a condition from now on.
+    /// Makes a thread wait on a condition.
     fn sleep(&mut self, number: usize, condition: u32) {
         if let Some(thread) = self.machine.threads.get_mut(number) {
             thread.waits_on = Some(condition);
@@ -287,8 +289,8 @@ impl<'a> Run<'a> {
         }
     }
 
-    /// A signal ends a sleep on a condition: of the threads that are to wake up on their paths, that of the one that has done least;
-    /// where there is none, that of another.
+    /// A signal ends one sleep on a condition: of the threads that wake up on their paths, that of
+    /// the thread with the least share done; if there is none, that of another thread.
     fn signal(&mut self, condition: u32, by: usize) {
         let mut found: Option<usize> = None;
         for (number, thread) in self.machine.threads.iter().enumerate() {
@@ -304,7 +306,8 @@ impl<'a> Run<'a> {
         }
     }
 
-    /// How much of its path a thread has done that waits; more than all, where it is at its end.
+    /// The share of its path that a waiting thread has done; more than any share if it is at its
+    /// end.
     fn wait_share(&self, number: usize) -> usize {
         match self.machine.threads.get(number) {
             Some(thread) if !thread.is_done() => thread.share(),
@@ -325,7 +328,7 @@ impl<'a> Run<'a> {
         self.machine.threads.get(number)?.waits_on
     }
 
-    /// The sleep of a thread is ended by an event.
+    /// Records that an event ends a thread's sleep.
     fn end_sleep(&mut self, number: usize, by: usize) {
         if let Some(thread) = self.machine.threads.get_mut(number) {
             thread.waits_on = None;
@@ -336,7 +339,7 @@ impl<'a> Run<'a> {
         }
     }
 
-    /// A child of a thread begins.
+    /// Begins a child of a thread.
     fn create(&mut self, parent: usize, number: u32) {
         if let Some(child) = self.child(parent, number) {
             self.values.renew_all();
@@ -349,7 +352,7 @@ impl<'a> Run<'a> {
             .child(self.machine.threads.get(parent)?.walk, number)
     }
 
-    /// A thread begins, and comes to its first event.
+    /// Begins a thread, and takes it to its first event.
     fn begin(&mut self, number: usize) {
         if let Some(thread) = self.machine.threads.get_mut(number) {
             thread.has_begun = true;
@@ -359,7 +362,7 @@ impl<'a> Run<'a> {
         }
     }
 
-    /// A thread comes to its next event.
+    /// Takes a thread to its next event.
     fn advance(&mut self, number: usize) {
         if let Some(thread) = self.machine.threads.get_mut(number) {
             let arrival = thread.past(thread.at, &self.values, usize::MAX);
@@ -368,7 +371,7 @@ impl<'a> Run<'a> {
         }
     }
 
-    /// Keeps when a thread first left its path.
+    /// Records when a thread first leaves its path.
     fn note(&mut self, is_on_path: bool) {
         if !is_on_path && self.left.is_none() {
             self.left = Some(self.told.clock);

@@ -7,19 +7,20 @@ use crate::written::Written;
 use std::alloc::{AllocError, Global};
 use store_buffers::MemoryModel;
 
-/// What a thread comes to that goes on alone.
+/// What a thread does if it goes on alone.
 #[derive(Drop)]
 struct Trip {
-    /// After how many events it leaves its path, if it does.
+    /// The number of events after which it leaves its path, if it does.
     leaves: Option<u32>,
-    /// How many reads it does up to there, and the cell of the last.
+    /// The number of its reads up to there, and the cell of the last.
     reads: u32,
     last: Option<u32>,
     written: Written,
 }
 
-/// How many threads are stuck. A thread is where the machine lets it go on, it leaves its path within so many events if it does so alone,
-/// and no value that another one is about to write to the cell that it read last keeps it on its path there.
+/// How many threads are stuck. A thread is stuck under three conditions: the machine lets it go on;
+/// it leaves its path within `near` events if it goes on alone; and no value that another thread is
+/// about to write to the cell that it read last keeps it on its path there.
 pub(crate) fn count_stuck<M: MemoryModel>(
     alloc: Global,
     machine: &Machine,
@@ -39,7 +40,7 @@ pub(crate) fn count_stuck<M: MemoryModel>(
     Ok(count)
 }
 
-/// What a thread comes to that goes on alone, if it has begun.
+/// What a thread does if it goes on alone, if it has begun.
 fn trip_of<M: MemoryModel>(
     alloc: Global,
     machine: &Machine,
@@ -88,7 +89,8 @@ fn is_stuck<M: MemoryModel>(
     Ok(own.last.is_some())
 }
 
-/// Whether a thread stays on its path for longer where its last read takes a value that another one is about to write there.
+/// Whether a thread stays on its path for longer if its last read takes a value that another thread
+/// is about to write there.
 fn is_kept<M: MemoryModel>(
     alloc: Global,
     machine: &Machine,

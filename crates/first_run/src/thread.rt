@@ -1,11 +1,11 @@
-//! A thread of the run.
+//! A thread of a run.
 
 use crate::values::Values;
 use path_walk::{Event, EventKind, Walk};
 use std::alloc::Global;
 use sym_exec::{Access, Cell, Course};
 
-/// How far a thread is on its path: how many of its events, accesses and tests are done.
+/// The place of a thread on its path: the numbers of events, accesses and tests done.
 #[derive(Clone, Copy)]
 pub(crate) struct Place {
     pub event: usize,
@@ -13,13 +13,13 @@ pub(crate) struct Place {
     test: usize,
 }
 
-/// Where a thread comes to.
+/// The place that a thread reaches.
 #[derive(Clone, Copy)]
 pub(crate) struct Arrival {
     pub place: Place,
-    /// Whether all tests on the way came out as on its path, as far as their values are known.
+    /// Whether all tests on the way had their logged outcomes, as far as their values are known.
     pub is_on_path: bool,
-    /// Whether there were no more tests on the way than it may pass.
+    /// Whether the thread passed all tests on the way within the limit.
     pub is_there: bool,
 }
 
@@ -30,11 +30,11 @@ pub(crate) struct Pending {
     pub event: usize,
     pub cell: u32,
     pub value: i32,
-    /// How many bars the thread had done before it.
+    /// The number of bars that the thread had done before it.
     pub bars: usize,
 }
 
-/// A thread, how far it is, and its stores that haven't reached memory, oldest first.
+/// A thread, its place, and its pending stores, oldest first.
 #[derive(Drop)]
 pub(crate) struct Thread<'a> {
     pub walk: &'a Walk,
@@ -46,7 +46,7 @@ pub(crate) struct Thread<'a> {
     pub at: Place,
     pub pending: Vec<Pending>,
     pub has_begun: bool,
-    /// How many sleeps it has begun.
+    /// The number of sleeps that it has begun.
     pub sleeps: usize,
     /// The condition on which it waits, if it does.
     pub waits_on: Option<u32>,
@@ -93,7 +93,7 @@ impl<'a> Thread<'a> {
         self.next().is_none()
     }
 
-    /// The access that the event at a place is, if it is one.
+    /// The access of the event at a place, if it has one.
     pub fn access(&self, at: Place) -> Option<Access> {
         if is_access(self.event(at)?.kind) {
             self.course.accesses().get(at.access).copied()
@@ -102,7 +102,7 @@ impl<'a> Thread<'a> {
         }
     }
 
-    /// Where it comes to by the event at a place, and so many tests at most.
+    /// Where the thread comes to after the event at a place and at most `tests` tests.
     pub fn past(&self, at: Place, values: &Values, tests: usize) -> Arrival {
         let access = match self.access(at) {
             Some(_) => at.access.saturating_add(1),
@@ -119,7 +119,8 @@ impl<'a> Thread<'a> {
         )
     }
 
-    /// Where it comes to by the tests up to the event at a place, or up to the end of its path, but by so many at most.
+    /// Where the thread comes to after the tests up to the event at a place, or up to the end of
+    /// its path, but at most `tests` of them.
     pub fn past_tests(&self, at: Place, values: &Values, tests: usize) -> Arrival {
         let end = self.event(at).map_or(usize::MAX, |event| event.step);
         let mut arrival = Arrival {
@@ -144,7 +145,8 @@ impl<'a> Thread<'a> {
         arrival
     }
 
-    /// How much of its path is done, in parts of 65,536; all where it is about to fail, since that comes last.
+    /// The share of its path that is done, in 65,536ths; all if it is about to fail, since a
+    /// failure comes last.
     pub fn share(&self) -> usize {
         match self.next() {
             None => 65536,
@@ -153,8 +155,9 @@ impl<'a> Thread<'a> {
         }
     }
 
-    /// Whether its pending stores have to reach memory before it goes on: the next event wants it, or it only loads up to an
-    /// exchange, and what it loads should be what the exchange finds.
+    /// Whether its pending stores have to drain before it goes on: its next event needs an empty
+    /// buffer, or only loads come before an exchange, and these should find what the exchange
+    /// finds.
     pub fn drains_first(&self) -> bool {
         !self.pending.is_empty() && self.wants_drained()
     }
@@ -182,7 +185,7 @@ impl<'a> Thread<'a> {
         found
     }
 
-    /// Whether some store of it may still come to a cell.
+    /// Whether some store of this thread may still reach a cell.
     pub fn may_write(&self, cell: u32) -> bool {
         self.pending.iter().any(|store| store.cell == cell)
             || self
@@ -194,22 +197,22 @@ impl<'a> Thread<'a> {
     }
 }
 
-/// Whether it ends the run.
+/// Whether an event of this kind ends the run.
 pub(crate) fn is_failure(kind: EventKind) -> bool {
     matches!(kind, EventKind::Fail)
 }
 
-/// Whether it takes a value from a cell.
+/// Whether an event of this kind takes a value from a cell.
 pub(crate) fn is_read(kind: EventKind) -> bool {
     matches!(kind, EventKind::Load | EventKind::Exchange)
 }
 
-/// Whether it loads, stores or does both.
+/// Whether an event of this kind loads, stores or does both.
 fn is_access(kind: EventKind) -> bool {
     is_read(kind) || matches!(kind, EventKind::Store)
 }
 
-/// Whether it is done with all stores of its thread in memory.
+/// Whether an event of this kind needs all stores of its thread in memory.
 pub(crate) fn wants_drained(kind: EventKind) -> bool {
     !matches!(kind, EventKind::Load | EventKind::Store | EventKind::Fail)
 }

@@ -1,18 +1,18 @@
-//! What a run tells of a world.
+//! The parts of a world that a run determines.
 
 use std::alloc::{AllocError, Global};
 
-/// When each event was done, and what ended each sleep.
+/// The time of each event, and what ended each sleep.
 #[derive(Drop)]
 pub(crate) struct Told {
-    /// How many events are done.
+    /// The number of events done.
     pub clock: u8,
     times: Vec<u8>,
     enders: Vec<Option<u32>>,
 }
 
 impl Told {
-    /// Nothing is done. What isn't done comes last.
+    /// No event is done. An event that isn't done counts as last.
     pub fn new(alloc: Global, events: usize, sleeps: usize) -> Result<Told, AllocError> {
         Ok(Told {
             clock: 0,
@@ -21,7 +21,7 @@ impl Told {
         })
     }
 
-    /// An event is done.
+    /// Records that an event is done.
     pub fn put(&mut self, event: usize) {
         if let Some(time) = self.times.get_mut(event) {
             *time = self.clock;
@@ -29,19 +29,19 @@ impl Told {
         self.clock = self.clock.saturating_add(1);
     }
 
-    /// A sleep is ended by an event.
+    /// Records that an event ends a sleep.
     pub fn end(&mut self, sleep: usize, by: usize) {
         if let Some(ender) = self.enders.get_mut(sleep) {
             *ender = u32::try_from(by).ok();
         }
     }
 
-    /// When an event was done.
+    /// The time of an event.
     pub fn time(&self, event: usize) -> u8 {
         self.times.get(event).copied().unwrap_or(u8::MAX)
     }
 
-    /// What ended a sleep.
+    /// The event that ended a sleep.
     pub fn ender(&self, sleep: usize) -> Option<u32> {
         *self.enders.get(sleep)?
     }

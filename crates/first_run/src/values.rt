@@ -1,17 +1,17 @@
-//! Values of terms while some loads are still to come.
+//! Values of terms while some loads have no value yet.
 
 use int_ops::arith;
 use std::alloc::{AllocError, Global};
 use sym_exec::Cell;
 use sym_terms::{Id, Node, Terms};
 
-/// How many terms are worked out for a look ahead.
+/// The number of terms that a look ahead evaluates.
 const SUPPOSED: usize = 200;
 
 /// The values that loads took, and those of the terms over them.
 ///
-/// A thread's terms over a load are made after the load's symbol and before the symbol of the next one, so each load that takes a
-/// value changes only the terms between the two.
+/// A thread's terms over a load are made after the load's symbol and before the next one's. So each
+/// load that takes a value changes only the terms between the two.
 #[derive(Drop)]
 pub(crate) struct Values<'a> {
     nodes: &'a [Node],
@@ -22,7 +22,7 @@ pub(crate) struct Values<'a> {
 }
 
 impl<'a> Values<'a> {
-    /// No load has taken a value.
+    /// The values before any load has taken one.
     pub fn new(alloc: Global, terms: &'a Terms, loads: u32) -> Result<Values<'a>, AllocError> {
         let nodes = terms.nodes();
         let mut values = Values {
@@ -35,17 +35,17 @@ impl<'a> Values<'a> {
         Ok(values)
     }
 
-    /// The value of a term, where that is known.
+    /// The value of a term, if it is known.
     pub fn of(&self, term: Id) -> Option<i32> {
         *self.known.get(term.place())?
     }
 
-    /// The value that a load took, where that is known.
+    /// The value that a load took, if it is known.
     pub fn load(&self, load: usize) -> Option<i32> {
         *self.loads.get(load)?
     }
 
-    /// The number of a cell, where that is known, and inside its array.
+    /// The number of a cell, if it is known and inside its array.
     pub fn cell(&self, cell: Cell) -> Option<u32> {
         match cell {
             Cell::Fixed(number) => Some(number),
@@ -64,17 +64,18 @@ impl<'a> Values<'a> {
         }
     }
 
-    /// A load takes a value.
+    /// Gives a load its value.
     pub fn take(&mut self, load: u32, value: i32) {
         self.set(load as usize, Some(value), usize::MAX);
     }
 
-    /// A load would take a value, or one that isn't known. It is for a look ahead, so that only the next terms are worked out.
+    /// Gives a load a value, or an unknown one, for a look ahead; so it evaluates only the next
+    /// terms.
     pub fn suppose(&mut self, load: u32, value: Option<i32>) {
         self.set(load as usize, value, SUPPOSED);
     }
 
-    /// A load has a value from now on, and so have so many terms at most.
+    /// Sets the value of a load, and renews at most `terms` terms that it may change.
     fn set(&mut self, load: usize, value: Option<i32>, terms: usize) {
         if let Some(taken) = self.loads.get_mut(load) {
             *taken = value;
@@ -84,17 +85,17 @@ impl<'a> Values<'a> {
         self.renew(from, to.min(from.saturating_add(terms)));
     }
 
-    /// Works out all terms anew, as is needed where a child is handed terms of its parent.
+    /// Evaluates all terms again, which is needed when a parent hands terms to a child.
     pub fn renew_all(&mut self) {
         self.renew(0, self.nodes.len());
     }
 
-    /// The place of a load's symbol, and the end of the terms where there is none.
+    /// The place of a load's symbol, or the end of the terms if there is none.
     fn symbol(&self, load: usize) -> usize {
         self.symbols.get(load).copied().unwrap_or(self.nodes.len())
     }
 
-    /// Works out the terms from one place up to another anew.
+    /// Evaluates the terms from one place up to another again.
     fn renew(&mut self, from: usize, to: usize) {
         for place in from..to {
             let value = self.worked_out(place);
@@ -104,7 +105,7 @@ impl<'a> Values<'a> {
         }
     }
 
-    /// The value of the term at a place, by those of its parts.
+    /// The value of the term at a place, from the values of its parts.
     fn worked_out(&self, place: usize) -> Option<i32> {
         match *self.nodes.get(place)? {
             Node::Constant(number) => Some(number),

@@ -17,10 +17,12 @@ use sym_exec::Symbolic;
 use sym_terms::Terms;
 use tc_code::Code;
 
-/// The world of one run along the paths of a log: positions, values and enders that a search for a schedule tries first. No clause says
-/// what they are, since nothing is to be concluded from them: where the run was whole, they are those of a schedule.
+/// The world of one run along the paths of a log: positions, values and enders for a search for a
+/// schedule to try first. No clause says what they are, since nothing is concluded from them; if
+/// the run stayed on its paths, they are those of a schedule.
 ///
-/// The time that it takes is about that of going along the paths once, and for each event a look at the next events of each thread.
+/// Its time is about that of one walk along the paths, with a look at each thread's next events for
+/// every event.
 pub fn first_world<M: MemoryModel>(
     alloc: Global,
     code: &Code,
@@ -40,7 +42,7 @@ pub fn first_world<M: MemoryModel>(
     world_of(alloc, &run, events.all().len(), symbolic.loads(), sleeps)
 }
 
-/// The world of a run, with so many events, loads and sleeps.
+/// The world of a run, with this number of events, loads and sleeps.
 fn world_of(
     alloc: Global,
     run: &Run,
@@ -61,7 +63,8 @@ fn world_of(
     ))
 }
 
-/// The run whose world is taken: the second, in which reads come first, only where a thread left its path in the other, and sooner.
+/// The run that gives the world: the careful one, or the eager one, which reads first, if a thread
+/// left its path in the careful one and stayed longer in the eager one.
 fn further<'a, M: MemoryModel>(
     alloc: Global,
     code: &Code,
@@ -82,7 +85,7 @@ fn further<'a, M: MemoryModel>(
     })
 }
 
-/// A run to its end.
+/// A run from beginning to end.
 fn run<'a, M: MemoryModel>(
     alloc: Global,
     code: &Code,
@@ -104,7 +107,7 @@ fn run<'a, M: MemoryModel>(
     Ok(run)
 }
 
-/// When each event was done.
+/// The time of each event.
 fn times(alloc: Global, told: &Told, events: usize) -> Result<Vec<u8>, AllocError>
     ensures { IfOk result (λ v. length v.items ≡ events) }
 {
@@ -120,7 +123,7 @@ fn values_of(alloc: Global, values: &Values, loads: u32) -> Result<Vec<i32>, All
         .collect(alloc)
 }
 
-/// What ended each sleep.
+/// The event that ended each sleep.
 fn enders(alloc: Global, told: &Told, sleeps: usize) -> Result<Vec<Option<u32>>, AllocError>
     ensures { IfOk result (λ v. length v.items ≡ sleeps) }
 {

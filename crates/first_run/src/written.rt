@@ -1,23 +1,23 @@
-//! Cells with the values that they take.
+//! Cells with the values written to them.
 
 use crate::thread::Pending;
 use std::alloc::{AllocError, Global};
 
-/// Cells that a thread writes as it goes ahead, in order, each with its value where that is known.
+/// The writes of a thread that runs ahead, in order, each with its value if that is known.
 #[derive(Drop)]
 pub(crate) struct Written {
     all: Vec<(u32, Option<i32>)>,
 }
 
 impl Written {
-    /// None.
+    /// No writes.
     pub fn new(alloc: Global) -> Written {
         Written {
             all: Vec::new(alloc),
         }
     }
 
-    /// Those of pending stores.
+    /// The writes of pending stores.
     pub fn pending(alloc: Global, stores: &[Pending]) -> Result<Written, AllocError> {
         let mut written = Written::new(alloc);
         for store in stores {
@@ -26,12 +26,12 @@ impl Written {
         Ok(written)
     }
 
-    /// A cell takes a value.
+    /// Adds a write.
     pub fn push(&mut self, cell: u32, value: Option<i32>) -> Result<(), AllocError> {
         Ok(self.all.push((cell, value))?)
     }
 
-    /// What a cell has at last, if it was written.
+    /// The value of the last write to a cell, if there is one.
     pub fn last(&self, cell: u32) -> Option<Option<i32>> {
         let mut found = None;
         for (other, value) in &self.all {

@@ -1,4 +1,4 @@
--- How large the conjuncts of loads are at most, and the terms that they need.
+-- Bounds on the sizes of the conjuncts of loads, and of the terms that they need.
 use Rattle.std.proofs.Common.{◌≡◌, ℕ, ◌+◌, ◌*◌, ◌≤◌, List, [], ◌∷◌, length, Bool, true, false, Option, Some, None, subst, arith}
 use Rattle.std.specs.Prelude.{option_and_then, option_map, option_to_list, if◌then◌else◌}
 use Rattle.std.specs.List.{cons_option, filter_map}

@@ -1,4 +1,4 @@
--- How large the conjuncts of each thread's own order are at most, and the terms that they need.
+-- Bounds on the sizes of the conjuncts of each thread's own order, and of the terms that they need.
 use Rattle.std.proofs.Common.{◌≡◌, ℕ, suc, ◌+◌, ◌*◌, ◌≤◌, List, [], ◌∷◌, ◌++◌, map, length, Bool, true, false, Option, Some, None, sym, subst, arith, sum_by}
 use Rattle.std.specs.Prelude.{◌&&◌, not, filter, is_none, option_and_then, option_to_list, if◌then◌else◌}
 use Rattle.std.proofs.lemmas.List.{length-append}
@@ -25,7 +25,7 @@ use Rattle.bit_terms.specs.Sizes.{node_size, terms_size}
 use Rattle.bit_blast.specs.Sizes.{body_size, size_of}
 use Rattle.formula_sizes.proofs.Sums.{regroup, times_le, of_map, of_flat, of_all, of_squares, filter_few, length_all}
 
--- with the clause of its root
+-- the size of a conjunct with the clause of its root
 abbrev pub conjunct_size : Conjunct → ℕ
 conjunct_size c = body_size c.body + 1
 
@@ -42,7 +42,7 @@ twos_few (x ∷ xs) =
     let whole = square_more (length xs) (length (twos xs)) (twos_few xs) in
     omega (arith, with_few x [] xs, length-append (twos_with x [] xs) (twos xs), whole)
 
--- the test whether two elements of an array are one
+-- the size of the test whether two elements of an array are the same
 pub test_size : (nodes : List Node) (c d : Cell) → terms_size (option_to_list (same_test nodes c d)) ≤ 224
 test_size nodes (Fixed c) d = omega arith
 test_size nodes (Element f m i) (Fixed d) = omega arith

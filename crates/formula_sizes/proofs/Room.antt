@@ -9,7 +9,7 @@ use Rattle.store_buffers.specs.Pending.{Binding}
 use Rattle.sym_terms.specs.Terms.{with_node}
 use Rattle.sym_terms.specs.declared.node.Node.{Node}
 use Rattle.sym_exec.specs.Executed.{Course, Executed, Symbolic, executed}
-use Rattle.order_formula.specs.Orders.{Order, unasked}
+use Rattle.order_formula.specs.Orders.{Order, order_without_questions}
 use Rattle.order_formula.proofs.Asked.{grows_formula}
 use Rattle.lawful_order.specs.Events.{all_events, all_sleeps}
 use Rattle.memory_order.specs.Own.{own_formula, own_needs}
@@ -90,7 +90,7 @@ module _ (buffered : Bool) (bound : Binding) (code : Code) (log : Log) (is : IsW
 
   few_questions : order.size_of (record { order = s.order; loads = s.symbolic.loads }) ≤ 56_700_000
   few_questions =
-      let grown = grows_formula (unasked (length (all_events paths)) (length (all_sleeps paths))) s.formula in
+      let grown = grows_formula (order_without_questions (length (all_events paths)) (length (all_sleeps paths))) s.formula in
       order_size s.order s.symbolic.loads (omega (arith, grown.events, events_few code log is)) (omega (arith, grown.sleeps, few_sleeps code log is))
       (executed_small code log is).loads
 

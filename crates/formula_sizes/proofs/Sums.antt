@@ -1,4 +1,4 @@
--- Sums over lists that are put together.
+-- Sums over joined lists.
 use Rattle.std.proofs.Common.{◌≡◌, ℕ, ◌+◌, ◌*◌, ◌≤◌, List, [], ◌∷◌, map, length, Bool, true, false, cond, Option, Some, None, refl, ap, sym, ◌∙◌, subst, arith, sum_by}
 use Rattle.std.specs.Prelude.{filter}
 use Rattle.std.specs.List.{All, cons_option, enumerate_from, filter_map, flat_map}
@@ -20,12 +20,12 @@ all_equal m [] = omega arith
 all_equal m (x ∷ xs) = omega (arith, all_equal m xs, sum_by-cons (λ _. m) x xs)
 
 module _ {X : Type 0} where
-  -- each term is at most m
+  -- the sum of terms that are at most `m`
   pub each_at_most : (f : X → ℕ) (m : ℕ) (xs : List X) → ((x : X) → f x ≤ m) → sum_by f xs ≤ length xs * m
   each_at_most f m [] few = omega arith
   each_at_most f m (x ∷ xs) few = omega (arith, sum_by-cons f x xs, few x, each_at_most f m xs few)
 
-  -- and each is at most m times another
+  -- the sum of terms that are at most `m` times others
   pub each_times : (f g : X → ℕ) (m : ℕ) (xs : List X) → All (λ x. f x ≤ g x * m) xs → sum_by f xs ≤ sum_by g xs * m
   each_times f g m [] few = omega arith
   each_times f g m (x ∷ xs) few =
@@ -67,7 +67,7 @@ module _ {X : Type 0} where
         by None e rest = omega (arith, rest)
         by (Some y) e rest = omega (arith, sum_by-cons g y (filter_map f xs), few x y e, rest)
 
-    -- what is made of each element and its place
+    -- the sum over the results for each element and its place
     pub of_places : (f : ℕ → X → List Y) (h : X → ℕ) (n : ℕ) (xs : List X) → ((t : ℕ) (x : X) → sum_by g (f t x) ≤ h x)
         → sum_by g (flat_map (λ p. f p.0 p.1) (enumerate_from n xs)) ≤ sum_by h xs
     of_places f h n [] few = omega arith
@@ -94,7 +94,7 @@ module _ {X : Type 0} where
   pub chosen_few : {Z : Type 0} (f : X → Z) (p : X → Bool) (xs : List X) → length (map f (filter p xs)) ≤ length xs
   chosen_few f p xs = omega (arith, length-map (filter p xs) f, filter_few p xs)
 
-  -- no term is more than the sum
+  -- each term is at most the sum
   pub each_within : (f : X → ℕ) (xs : List X) → All (λ x. f x ≤ sum_by f xs) xs
   each_within f [] = All-nil (λ x. f x ≤ sum_by f [])
   each_within f (x ∷ xs) =
@@ -102,7 +102,7 @@ module _ {X : Type 0} where
       All-cons (λ y. f y ≤ sum_by f (x ∷ xs)) x xs (omega (arith, all))
       (All-weaker (λ y. f y ≤ sum_by f xs) (λ y. f y ≤ sum_by f (x ∷ xs)) (λ y few. omega (arith, few, all)) xs (each_within f xs))
 
-  -- squares add up to the square of the sum at most
+  -- the sum of squares is at most the square of the sum
   pub of_squares : (f : X → ℕ) (m : ℕ) (xs : List X) → sum_by (λ x. f x * f x * m) xs ≤ sum_by f xs * sum_by f xs * m
   of_squares f m xs =
       let most : ℕ = sum_by f xs in
@@ -113,7 +113,7 @@ module _ {X : Type 0} where
       square : (n k : ℕ) → n ≤ k → n * n * m ≤ n * (k * m)
       square n k few = subst (λ z. n * n * m ≤ z) (sym (regroup n k m)) (times_le (n * n) m (n * k) m (times_le n n n k (omega arith) few) (omega arith))
 
--- what all threads have, one thread after another
+-- the number of elements of all threads
 pub length_all : {W X : Type 0} (has : W → List X) (t : ℕ) (ws : List W) → length (all_from has t ws) ≡ sum_by (λ w. length (has w)) ws
 length_all has t [] = refl
 length_all has t (w ∷ ws) =

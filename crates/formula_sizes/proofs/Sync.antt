@@ -1,4 +1,4 @@
--- How large the conjuncts are at most of all that threads wait for.
+-- Bounds on the sizes of the conjuncts of everything that threads wait for.
 use Rattle.std.proofs.Common.{◌≡◌, ℕ, suc, ◌+◌, ◌*◌, ◌≤◌, List, [], ◌∷◌, ◌++◌, map, length, Bool, true, false, Option, Some, None, subst, arith, sum_by}
 use Rattle.std.specs.Prelude.{filter, option_to_list, if◌then◌else◌}
 use Rattle.std.specs.List.{All, flat_map}
@@ -11,8 +11,8 @@ use Rattle.path_walk.specs.declared.event.Region.{Region}
 use Rattle.order_formula.specs.declared.formula.Conjunct.{Conjunct}
 use Rattle.order_formula.specs.declared.literal.Literal.{Literal}
 use Rattle.lawful_order.specs.Events.{Of, all_events, all_sleeps}
-use Rattle.sync_order.specs.Children.{is_child, is_exit, created_before, exit_before, exited_before, created, joined, links_formula, children_formula}
-use Rattle.sync_order.specs.Mutexes.{of_pairs, exclude, left_at, excludes, exclusive, all_regions, mutexes_formula}
+use Rattle.sync_order.specs.Children.{is_child, is_exit, created_before, exit_before, exited_before, create_conjuncts, join_conjuncts, links_formula, children_formula}
+use Rattle.sync_order.specs.Mutexes.{of_pairs, exclude, release_literal, excludes, exclusive, all_regions, mutexes_formula}
 use Rattle.bit_blast.specs.Sizes.{literal_size, case_size, size_of}
 use Rattle.formula_sizes.proofs.Own.{conjunct_size}
 use Rattle.formula_sizes.proofs.Sums.{times_le, each_times, of_map, of_flat, of_all, filter_few, length_all}
@@ -24,7 +24,7 @@ cases_size f m [] few = omega arith
 cases_size f m (x ∷ xs) few =
     omega (arith, sum_by-cons case_size (f x ∷ []) (map (λ l. l ∷ []) (map f xs)), sum_by-cons literal_size (f x) [], few x, cases_size f m xs few)
 
--- what a walk has isn't more than its events
+-- the parts of a walk are at most as many as its events
 pub record HasFew (q : Walk) : Type 0 where
   pub creates : length q.creates ≤ length q.events
   pub joins : length q.joins ≤ length q.events
@@ -36,7 +36,7 @@ module _ (paths : Paths) (few : All HasFew paths.threads) where
   counted = let h = length_all (λ (q : Walk). q.events) 0 paths.threads in omega (arith, h)
 
   -- children
-  created_size : (t : ℕ) (p : Walk) (l : Link) → size_of (created (all_events paths) paths.threads t p l) ≤ length (all_events paths) * 7
+  created_size : (t : ℕ) (p : Walk) (l : Link) → size_of (create_conjuncts (all_events paths) paths.threads t p l) ≤ length (all_events paths) * 7
   created_size t p l =
       let one : (c : ℕ) (q : Walk) → size_of (if is_child p l.child q then map (created_before (all_events paths) t l c) q.events else []) ≤ length q.events * 7 =
       λ c q. here c q (is_child p l.child q) in
@@ -55,7 +55,7 @@ module _ (paths : Paths) (few : All HasFew paths.threads) where
       let h = cases_size (exit_before (all_events paths) t l c) 3 ends (λ x. omega arith) in
       omega (arith, h, filter_few (λ (x : Event). is_exit x.kind) q.events)
 
-  joined_size : (t : ℕ) (p : Walk) (l : Link) → size_of (joined (all_events paths) paths.threads t p l) ≤ length (all_events paths) * 6 + length paths.threads
+  joined_size : (t : ℕ) (p : Walk) (l : Link) → size_of (join_conjuncts (all_events paths) paths.threads t p l) ≤ length (all_events paths) * 6 + length paths.threads
   joined_size t p l =
       let h = of_all conjunct_size (λ c q. if is_child p l.child q then exited_before (all_events paths) t l c q ∷ [] else [])
       (λ q. length q.events * 6 + 1) paths.threads (λ c q. here c q (is_child p l.child q)) in
@@ -74,10 +74,10 @@ module _ (paths : Paths) (few : All HasFew paths.threads) where
       → size_of (links_formula (all_events paths) paths.threads t q)
       ≤ length q.creates * (length (all_events paths) * 7) + length q.joins * (length (all_events paths) * 6 + length paths.threads)
   links_size t q =
-      let creates = of_flat conjunct_size (created (all_events paths) paths.threads t q) (length (all_events paths) * 7) q.creates (created_size t q) in
-      let joins = of_flat conjunct_size (joined (all_events paths) paths.threads t q) (length (all_events paths) * 6 + length paths.threads) q.joins (joined_size t q) in
-      let both = sum_by-append conjunct_size (flat_map (created (all_events paths) paths.threads t q) q.creates)
-      (flat_map (joined (all_events paths) paths.threads t q) q.joins) in
+      let creates = of_flat conjunct_size (create_conjuncts (all_events paths) paths.threads t q) (length (all_events paths) * 7) q.creates (created_size t q) in
+      let joins = of_flat conjunct_size (join_conjuncts (all_events paths) paths.threads t q) (length (all_events paths) * 6 + length paths.threads) q.joins (joined_size t q) in
+      let both = sum_by-append conjunct_size (flat_map (create_conjuncts (all_events paths) paths.threads t q) q.creates)
+      (flat_map (join_conjuncts (all_events paths) paths.threads t q) q.joins) in
       omega (arith, creates, joins, both)
 
   pub children_size : size_of (children_formula paths)
@@ -113,7 +113,7 @@ module _ (paths : Paths) (few : All HasFew paths.threads) where
   exclusive_size r s = by (exclude r s)
     where
       literals : (o p : Option ℕ)
-          → sum_by case_size (map (λ l. l ∷ []) (map (left_at (all_events paths) r s) (option_to_list o) ++ map (left_at (all_events paths) s r) (option_to_list p))) ≤ 12
+          → sum_by case_size (map (λ l. l ∷ []) (map (release_literal (all_events paths) r s) (option_to_list o) ++ map (release_literal (all_events paths) s r) (option_to_list p))) ≤ 12
       literals None None = omega arith
       literals None (Some k) = omega arith
       literals (Some j) None = omega arith

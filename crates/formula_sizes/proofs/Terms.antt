@@ -1,4 +1,4 @@
--- How large the circuits are at most of the terms that an execution makes, by its operators, its steps and its loads.
+-- Bounds on the circuits of the terms that an execution makes, by its operators, steps and loads.
 use Rattle.std.proofs.Common.{◌≡◌, ℕ, ◌+◌, ◌*◌, ◌≤◌, ℤ, pos, List, [], ◌∷◌, ◌++◌, fold, length, map, Bool, true, false, cond, Option, Some, None, refl, ap, arith, sum_by}
 use Rattle.std.specs.Prelude.{sum, unwrap_or}
 use Rattle.std.specs.List.{list_any}
@@ -20,8 +20,8 @@ use Rattle.path_walk.specs.Steps.{steps_at, step_at}
 use Rattle.sym_terms.specs.Terms.{same_node, with_node}
 use Rattle.sym_terms.specs.declared.node.Node.{Node}
 use Rattle.sym_terms.specs.declared.node.Node.TheVariants.{Constant, Symbol, Unary, Binary}
-use Rattle.sym_exec.specs.Making.{Made, AllMade, made, expr_term, with_expr, range_test, last_index, replaced_term}
-use Rattle.sym_exec.specs.Thread.{Doing, term_in, making, symbol_in, after_instr, wanted_of, after_step, after_all}
+use Rattle.sym_exec.specs.Making.{Made, AllMade, term_of_node, expr_term, with_expr, range_test, last_index, replaced_term}
+use Rattle.sym_exec.specs.Thread.{Doing, term_in, with_term, symbol_in, after_instr, wanted_of, after_step, after_all}
 use Rattle.sym_exec.specs.Executed.{Course, Executed, fails_at, thread_started, thread_done, with_thread, nothing, executed}
 use Rattle.sym_exec.specs.declared.symbolic.Test.{Test}
 use Rattle.sym_exec.specs.declared.symbolic.Access.{Access}
@@ -51,7 +51,7 @@ binary_most bin.Le = omega arith
 binary_most bin.Gt = omega arith
 binary_most bin.Ge = omega arith
 
--- a node more
+-- one more node
 pub with_size : (nodes : List Node) (node : Node) → terms_size (with_node nodes node) ≤ terms_size nodes + node_size node
 with_size nodes node = by (list_any (same_node node) nodes)
   where
@@ -59,7 +59,7 @@ with_size nodes node = by (list_any (same_node node) nodes)
     by true = omega arith
     by false = omega (arith, sum_by-append node_size nodes (node ∷ []), sum_by-cons node_size node [])
 
--- and many
+-- several more nodes
 pub with_sizes : (more nodes : List Node) → terms_size (fold with_node nodes more) ≤ terms_size nodes + terms_size more
 with_sizes [] nodes = omega arith
 with_sizes (node ∷ more) nodes =
@@ -91,10 +91,10 @@ exprs_size slots (e ∷ es) xs =
 
 range_size : (x : Made) (last : ℤ) → terms_size (range_test x last).nodes ≤ terms_size x.nodes + 896
 range_size x last =
-    let zero = made x.nodes (Constant (pos 0)) in
-    let low = made zero.nodes (Binary bin.Le zero.term x.term) in
-    let top = made low.nodes (Constant last) in
-    let high = made top.nodes (Binary bin.Le x.term top.term) in
+    let zero = term_of_node x.nodes (Constant (pos 0)) in
+    let low = term_of_node zero.nodes (Binary bin.Le zero.term x.term) in
+    let top = term_of_node low.nodes (Constant last) in
+    let high = term_of_node top.nodes (Binary bin.Le x.term top.term) in
     let a = with_size x.nodes (Constant (pos 0)) in
     let b = with_size zero.nodes (Binary bin.Le zero.term x.term) in
     let c = with_size low.nodes (Constant last) in
@@ -104,10 +104,10 @@ range_size x last =
 
 replaced_size : (nodes : List Node) (v e f : ℕ) → terms_size (replaced_term nodes v e f).nodes ≤ terms_size nodes + 1_152
 replaced_size nodes v e f =
-    let change = made nodes (Binary bin.Xor v f) in
-    let same = made change.nodes (Binary bin.Eq v e) in
-    let mask = made same.nodes (Unary un.Neg same.term) in
-    let masked = made mask.nodes (Binary bin.And change.term mask.term) in
+    let change = term_of_node nodes (Binary bin.Xor v f) in
+    let same = term_of_node change.nodes (Binary bin.Eq v e) in
+    let mask = term_of_node same.nodes (Unary un.Neg same.term) in
+    let masked = term_of_node mask.nodes (Binary bin.And change.term mask.term) in
     let a = with_size nodes (Binary bin.Xor v f) in
     let b = with_size change.nodes (Binary bin.Eq v e) in
     let c = with_size same.nodes (Unary un.Neg same.term) in
@@ -115,8 +115,8 @@ replaced_size nodes v e f =
     let g = with_size masked.nodes (Binary bin.Xor v masked.term) in
     omega (arith, a, b, c, d, g)
 
--- what steps add to an execution, by the numbers of their operators, of themselves and of those that access a cell: a step adds a
--- test of range at most, and a load a compare-and-exchange
+-- the growth of an execution, by its operators, steps and accesses: a step adds at most a range
+-- test, and an access at most a compare-and-exchange
 pub record IsLarger (ops steps cells : ℕ) (d e : Doing) : Type 0 where
   pub nodes : terms_size e.nodes + 256 * d.loads ≤ terms_size d.nodes + 28_868 * ops + 896 * steps + 256 * e.loads
   pub tests : length e.tests ≤ length d.tests + steps
@@ -207,8 +207,8 @@ instr_adds line wanted d (Swap k c e) =
     loading_adds (operators e) d _ _ (omega (arith, h, expr_size d.nodes d.slots e)) refl refl refl
 instr_adds line wanted d (Cas k c e new) =
     let x = term_in d e in
-    let y = term_in (making d x) new in
-    let v = symbol_in (making d y) in
+    let y = term_in (with_term d x) new in
+    let v = symbol_in (with_term d y) in
     let h = with_size y.nodes (Symbol d.loads) in
     loading_adds (operators e + operators new) d _ _
     (omega (arith, h, expr_size d.nodes d.slots e, expr_size x.nodes d.slots new, replaced_size v.nodes v.term x.term y.term)) refl refl refl
@@ -218,7 +218,7 @@ instr_adds line wanted d _ = making_adds 0 d d (omega arith) refl refl refl
 abbrev pub operators_at : Code → ℕ → List ℕ → ℕ
 operators_at code f places = sum (map (λ s. operators_of s.instr) (steps_at code f places))
 
--- and how many of these access a cell
+-- the number of steps at places that access a cell
 abbrev pub cells_at : Code → ℕ → List ℕ → ℕ
 cells_at code f places = sum_by (λ s. cells_of s.instr) (steps_at code f places)
 
@@ -258,7 +258,7 @@ tests_in courses = sum_by (λ c. length c.tests) courses
 abbrev pub accesses_in : List Course → ℕ
 accesses_in courses = sum_by (λ c. length c.accesses) courses
 
--- the operators, the steps and the accesses along the ways of all threads
+-- the numbers of operators, steps and accesses on the paths of all threads
 abbrev pub operators_along : Code → List Walk → ℕ
 operators_along code walks = sum_by (λ w. operators_at code w.function w.places) walks
 

@@ -1,4 +1,4 @@
--- How large the conjuncts of conditions and of deadlocks are at most.
+-- Bounds on the sizes of the conjuncts of conditions and of deadlocks.
 use Rattle.std.proofs.Common.{◌≡◌, ℕ, ◌+◌, ◌*◌, ◌≤◌, List, [], ◌∷◌, ◌++◌, map, length, Bool, true, false, Option, Some, None, ap, arith, sum_by}
 use Rattle.std.specs.Prelude.{not, filter, nat_lt, ◌==◌, ◌&&◌, option_to_list, if◌then◌else◌}
 use Rattle.std.specs.List.{enumerate_from, flat_map}
@@ -17,7 +17,7 @@ use Rattle.condition_order.specs.declared.wait.Ender.{Ender}
 use Rattle.condition_order.specs.Conditions.{ender_by, enders, sleeps_on, cases_one, begun, ended, ended_before, holds, fails, woken, not_both, ends_no_later, cases_before}
 use Rattle.condition_order.specs.Conditions.{not_lost, wait_formula, formula_of, wait_of, condition_formula, all_waits}
 use Rattle.sync_order.specs.Stuck as stuck
-use Rattle.sync_order.specs.Stuck.{cases_if, unended, unended_by, sleeping, is_held, has_exited, stuck_at, stuck_formula}
+use Rattle.sync_order.specs.Stuck.{cases_if, unended, not_ended_literal, sleeping, is_held, has_exited, stuck_at, stuck_formula}
 use Rattle.bit_blast.specs.Sizes.{literal_size, case_size, size_of}
 use Rattle.formula_sizes.proofs.Own.{conjunct_size}
 use Rattle.formula_sizes.proofs.Loads.{filter_map_few}
@@ -37,7 +37,7 @@ sleeps_few paths c =
       length-enumerate_from 0 (all_sleeps paths),
     )
 
--- of the wait that is a sleep's
+-- the conjuncts of a sleep's wait
 module _ (events : List (Of Event)) (s : ℕ × Of Sleep) (es : List Ender) (rs : List ℕ) where
   woken_size : size_of (woken (wait_of events s) es) ≤ length es * 19 + 1
   woken_size = by (wait_of events s).wakes
@@ -87,7 +87,7 @@ module _ (events : List (Of Event)) (s : ℕ × Of Sleep) (es : List Ender) (rs 
       by true = omega (arith, here (s.0 ∷ []))
       by false = omega (arith, here rs)
 
-  -- by bounds on how many enders and sleeps there are
+  -- the size by bounds on the numbers of enders and sleeps
   wait_size : (n : ℕ) → length es ≤ n → length rs ≤ n → size_of (wait_formula (wait_of events s) es rs) ≤ n * (n * 28 + 45) + 1
   wait_size n few short =
       let a = of_map conjunct_size (begun (wait_of events s)) 13 es (λ g. omega arith) in
@@ -120,7 +120,7 @@ module _ (paths : Paths) (few : length (all_sleeps paths) ≤ length (all_events
 
   unended_size : (s c : ℕ) → sum_by literal_size (unended (all_events paths) s c) ≤ length (all_events paths) * 3
   unended_size s c =
-      let h = of_map literal_size (unended_by s) 3 (enders (all_events paths) c) (λ g. omega arith) in
+      let h = of_map literal_size (not_ended_literal s) 3 (enders (all_events paths) c) (λ g. omega arith) in
       omega (arith, h, enders_few (all_events paths) c)
 
   on_size : (t k : ℕ) → sum_by literal_size (stuck.sleeps_on (all_events paths) (all_sleeps paths) t k)

@@ -1,4 +1,4 @@
--- How much the ways of a log's threads have at most.
+-- Bounds on the parts of a log's paths.
 use Rattle.std.proofs.Common.{◌≡◌, ℕ, ◌+◌, ◌*◌, ◌≤◌, List, [], ◌∷◌, map, length, Bool, true, false, Option, Some, None, refl, arith, sum_by}
 use Rattle.std.specs.Prelude.{sum, Ok, Err, ◌==◌, ◌&&◌, Result, option_map, slice_get, unwrap_or, bytes_eq, if◌then◌else◌}
 use Rattle.std.specs.List.{All, cons_option}
@@ -15,7 +15,7 @@ use Rattle.tc_code.specs.declared.instr.Instr.{Instr}
 use Rattle.tc_code.specs.declared.instr.Instr.TheVariants.{Load, LoadAt, Store, StoreAt, Swap, Cas}
 use Rattle.path_walk.specs.Events.{kind_with, events_of, region_of, regions_of, sleep_by, sleeps_of, create_by, join_by}
 use Rattle.path_walk.specs.Fits.{ending_of, fails_in}
-use Rattle.path_walk.specs.Marks.{Marks, marked, marked_from, unmarked}
+use Rattle.path_walk.specs.Marks.{Marks, marks_after_instr, marked_from, marks_at_start}
 use Rattle.path_walk.specs.Paths.{Walk, walk_of, function_in, steps_in, operators_in}
 use Rattle.path_walk.specs.Steps.{Step, places_from, places_of}
 use Rattle.path_walk.specs.declared.ending.Ending.{Ending}
@@ -28,7 +28,7 @@ use Rattle.formula_sizes.proofs.Loads.{filter_map_few}
 use Rattle.formula_sizes.proofs.Sync.{HasFew}
 use Rattle.formula_sizes.proofs.Terms.{cells_of, operators_at, cells_at, operators_along, steps_along, cells_along}
 
--- an element more, or none
+-- one more element or none
 at_least : {X : Type 0} (o : Option X) (xs : List X) → length xs ≤ length (cons_option o xs)
 at_least None xs = omega arith
 at_least (Some x) xs = omega arith
@@ -72,15 +72,15 @@ module _ (code : Code) (f : ℕ) where
   cells_few fails k t [] = omega arith
   cells_few fails k t (s ∷ steps) =
       let last : Bool = fails && length steps == 0 in
-      let rest = events_of code f (marked_from fails (k + 1) (marked t s.instr) steps) in
+      let rest = events_of code f (marked_from fails (k + 1) (marks_after_instr t s.instr) steps) in
       omega (
         arith,
         sum_by-cons (λ (r : Step). cells_of r.instr) s steps,
-        cells_few fails (k + 1) (marked t s.instr) steps,
+        cells_few fails (k + 1) (marks_after_instr t s.instr) steps,
         is_event (λ e. record { step = k; line = unwrap_or (line_at code f s.place) 0; kind = e; bars = t.bars }) t rest last s.instr,
       )
 
--- the places of a path are as many as its steps
+-- a path has as many places as steps
 fitting_few : (code : Code) (f : ℕ) (ending : Ending) (path : Path) (r : Result (List ℕ) Misfit) → places_of code f ending path ≡ r
     → length (result_unwrap_or r []) ≤ path.steps
 fitting_few code f ending path (Err fault) is = omega arith
@@ -116,7 +116,7 @@ module _ (code : Code) (log : Log) where
         cells_are_events ts,
         sum_by-cons (λ (w : Walk). cells_at code w.function w.places) q qs,
         sum_by-cons (λ (w : Walk). length w.events) q qs,
-        cells_few code (function_in code log t) (fails_in log t.name) 0 (unmarked code (function_in code log t)) (steps_in code log t),
+        cells_few code (function_in code log t) (fails_in log t.name) 0 (marks_at_start code (function_in code log t)) (steps_in code log t),
       )
 
   pub operators_counted : (ts : List ThreadPath) → operators_along code (map (walk_of code log) ts) ≡ sum (map (operators_in code log) ts)

@@ -1,4 +1,4 @@
--- What operators do with ints.
+-- The results of operators on ints.
 use Rattle.std.proofs.Common.{◌≡◌, ◌∙◌, ℕ, zero, suc, ◌/◌, ◌%◌, ◌^◌, ◌<◌, ◌≤◌, ℤ, pos, negsuc, neg_ℤ, ◌+ℤ◌, ◌*ℤ◌}
 use Rattle.std.proofs.Common.{Bool, true, false, List, [], ◌∷◌, get_or, ap, sym, subst, arith}
 use Rattle.std.specs.Prelude.{bit_xor, unsigned_abs, int_lt, int_le, not, ◌-ℤ◌, if◌then◌else◌}
@@ -26,11 +26,11 @@ of_bits n below = subst IsInt (ap (cast_signed w32) (mod-eq_of_lt below)) (SFits
 xor_is : (a b : ℤ) → IsInt a → IsInt b → bits_xor a b ≡ cast_signed w32 (bit_xor (cast_unsigned w32 a) (cast_unsigned w32 b))
 xor_is a b f g = sym (int_bit_xor-is a b f g)
 
--- they are 32 bits
+-- these bits are below 2 ^ 32
 xor_below : (a b : ℤ) → IsInt a → IsInt b → bit_xor (cast_unsigned w32 a) (cast_unsigned w32 b) < 2 ^ 32
 xor_below a b f g = xor_lt 32 _ _ (unsigned-below a f) (unsigned-below b g)
 
--- and an int
+-- these bits are an int
 xor_int : (a b : ℤ) → IsInt a → IsInt b → IsInt (bits_xor a b)
 xor_int a b f g = subst IsInt (int_bit_xor-is a b f g) (of_bits (bit_xor (cast_unsigned w32 a) (cast_unsigned w32 b)) (xor_below a b f g))
 
@@ -71,16 +71,16 @@ pub truth_int : (p : Bool) → IsInt (truth p)
 truth_int true = omega arith
 truth_int false = omega arith
 
--- what is brought into the range is there
+-- a wrapped number is in the range
 pub wrapped_int : (z : ℤ) → IsInt (wrapped z)
 wrapped_int z = SFits-int_wrap w32 z
 
--- of two ints either is one
+-- either of two ints is an int
 chosen : (b : Bool) (x y : ℤ) → IsInt x → IsInt y → IsInt (if b then x else y)
 chosen true x y ix iy = ix
 chosen false x y ix iy = iy
 
--- the bits that two ints share, those that one of them has, and those that one hasn't
+-- the results of and, or and not on ints are ints
 and_int : (a b : ℤ) → IsInt a → IsInt b → IsInt (bits_and a b)
 and_int a b f g = subst IsInt (int_bit_and-is a b f g) (of_bits _ (and_lt 32 _ _ (unsigned-below a f) (unsigned-below b g)))
 
@@ -99,12 +99,12 @@ signed_int : (b : Bool) (n : ℕ) → n < 2 ^ 31 → IsInt (with_sign b n)
 signed_int false n few = omega (arith, few)
 signed_int true n few = negative_int n (omega (arith, few))
 
--- a remainder is no further from 0 than its dividend
+-- a remainder's magnitude is at most its dividend's
 remainder_int : (a : ℤ) (m : ℕ) → IsInt a → IsInt (with_sign (is_negative a) (unsigned_abs a % m))
 remainder_int (pos n) m i = signed_int (is_negative (pos n)) (n % m) (omega (arith, i, mod-le n m))
 remainder_int (negsuc n) m i = negative_int (suc n % m) (omega (arith, i, mod-le (suc n) m))
 
--- nor is a quotient that is rounded down
+-- a quotient rounded down has at most its dividend's magnitude
 shifted_int : (a : ℤ) (d : ℕ) → IsInt a → IsInt (int_div_euclid a (pos d))
 shifted_int (pos n) d i = omega (arith, i, div-le_self n d)
 shifted_int (negsuc n) d i = omega (arith, i, div-le_self n d)
@@ -138,7 +138,7 @@ binary_int Shl a b i j =
 binary_int Shr a b i j =
     chosen (is_distance b) (int_div_euclid a (pos (2 ^ unsigned_abs b))) (pos 0) (shifted_int a (2 ^ unsigned_abs b) i) (truth_int false)
 
--- an element of ints, or 0 where there is none
+-- an element of a list of ints, or 0 if there is none
 pub there_int : (xs : List ℤ) (k : ℕ) → All IsInt xs → IsInt (get_or xs k (pos 0))
 there_int [] k are = truth_int false
 there_int (x ∷ xs) zero are = All-head IsInt x xs are

@@ -1,4 +1,4 @@
--- Quotients and shifts to the left, brought into the range of `int`.
+-- Quotients and left shifts, wrapped into the range of `int`.
 use Rattle.std.proofs.Common.{
   ◌≡◌,
   ℕ,

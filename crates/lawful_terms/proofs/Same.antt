@@ -1,4 +1,5 @@
--- Lists of terms that mean the same to the accesses and tests of paths make the same orders lawful.
+-- Lists of terms with the same meaning for the accesses and tests of paths make the same orders
+-- lawful.
 use Rattle.std.proofs.Common.{◌≡◌, ◌∙◌, ℕ, ℤ, ◌<◌, Bool, not, ◌&&◌, ◌||◌, List, ◌++◌, length, Option, Some, None, refl, ap, ap₂, sym, subst, inl, inr}
 use Rattle.std.specs.Prelude.{◌==◌, ◌⊎◌, IsSome, slice_get, option_map}
 use Rattle.std.specs.List.{Contains}
@@ -100,7 +101,7 @@ module _ (buffered : Bool) (bound : Binding) (code : Code) (paths : Paths) (symb
     meets (tested t line) r = tests t line r
     meets (Stuck t) r = r
 
-  -- more terms behind those that are named mean the same
+  -- adding terms after the named ones keeps the meaning
   module _ (nodes more : List Node) (have : HaveTerms nodes symbolic)
       (named : (t : ℕ) (c : Course) (x : Test) → slice_get symbolic.threads t ≡ Some c → Contains c.tests x → x.term < length nodes) where
     both_cells : (o p : Option Cell) → ((c : Cell) → o ≡ Some c → CellIsOf (length nodes) c) → ((c : Cell) → p ≡ Some c → CellIsOf (length nodes) c)

@@ -1,4 +1,4 @@
--- What holds where threads stop.
+-- Facts on where threads stop.
 use Rattle.std.proofs.Common.{◌≡◌, ◌∙◌, ℕ, ℤ, Bool, true, ◌||◌, List, ◌∷◌, ◌++◌, Option, Some, refl, sym, ap}
 use Rattle.std.specs.FinMap as fin
 use Rattle.std.proofs.lemmas.Bool.{and_parts}

@@ -1,4 +1,4 @@
--- What is left of a run without a step that nothing needs is a run.
+-- A run without a step that nothing needs is still a run.
 use Rattle.std.proofs.Common.{◌≡◌, ◌≢◌, ◌∙◌, inl, inr, ℕ, ◌+◌, ◌<◌, ◌≤◌, ℤ, Bool, true, false, not, ◌&&◌, ◌||◌, cond, nat_lt, List, [], ◌∷◌, ◌++◌}
 use Rattle.std.proofs.Common.{Option, Some, None, refl, sym, ap, ap₂, subst, arith, append_assoc}
 use Rattle.std.specs.Prelude.{is_none, option_map, option_and_then, unwrap_or, ◌==◌}
@@ -33,7 +33,7 @@ use Rattle.least_runs.proofs.Skips.{skip_any, seam}
 use Rattle.least_runs.proofs.Unseen.{value_still, waiting_still, failed_still, owner_still, steps_still, children_still, pending_still, exited_still}
 use Rattle.least_runs.proofs.Locals.{StepsApart, children_told, locals_agree}
 
--- who does a step in a list has done one
+-- a thread that does a step in a list has done one
 done_first : (h : List Deed) (x : Deed) (q : Name) → steps_in (x ∷ h) q ≡ cond (is_step_of q x) 1 0 + steps_in h q
 done_first h x q = sum_by-append (λ d. cond (is_step_of q d) 1 0) (x ∷ []) h ∙ omega arith
 
@@ -62,7 +62,7 @@ module _ {B : Type 0} (machine : Machine B) (older later : List Deed) (n : Name)
   before : AllFollow ops.buffered bound code older
   before = first_follow ops.buffered bound code older (Did n k r took other ∷ later) all
 
-  -- the steps that come after it are of other threads than its own and the one that it creates
+  -- the later steps belong neither to its own thread nor to the one that it creates
   child_idle : (s : Request) → OtherIs older n s other → IsUnused n s other later → (q : Name) → other ≡ Some q → steps_in later q ≡ 0
   child_idle (Start f) is idle q e = idle q e
   child_idle (WakeOne c) is idle q e = absurd idle
@@ -88,7 +88,7 @@ module _ {B : Type 0} (machine : Machine B) (older later : List Deed) (n : Name)
     left : List Deed
     left = older ++ front
 
-    -- a mutex that was free still is
+    -- a free mutex is still free
     owner_free : (m : ℕ) → is_none (owner_in (older ++ Did n k r took other ∷ front) m) ≡ true → is_none (owner_in (older ++ front) m) ≡ true
     owner_free m may = elim (owner_still n k took other later older front r unused m) [
       | inl e ↦ ap is_none (sym e) ∙ may
@@ -147,7 +147,7 @@ module _ {B : Type 0} (machine : Machine B) (older later : List Deed) (n : Name)
       other_still Silent o is = is
       other_still s o is = is
 
-    -- an issued store is another deed
+    -- the step isn't the issue of a store
     not_store : (q : Name) (j c : ℕ) (v w : ℤ) (o : Option Name) → Did n k r took other ≡ Did q j (Write c v) w o → ⊥
     not_store q j c v w o e = subst (λ s. IsUnused n s other later) (asked e) unused
       where
@@ -180,7 +180,7 @@ module _ {B : Type 0} (machine : Machine B) (older later : List Deed) (n : Name)
     drained_still : (q : Name) (j : ℕ) → has_drained (older ++ Did n k r took other ∷ front) q j ≡ has_drained (older ++ front) q j
     drained_still q j = skip_any (drains q j) older (Did n k r took other) front refl
 
-    -- the stores of its own thread were issued before it
+    -- the stores of the step's own thread were issued before it
     named : Named older
     named = (reaches machine older before).tells.deeds.named
 

@@ -1,4 +1,4 @@
--- Steps are left out of a run that fails until none can be.
+-- Removing steps from a run that fails until no more can be removed.
 use Rattle.std.proofs.Common.{◌≡◌, ◌∙◌, ◌⊎◌, inl, inr, ℕ, zero, suc, ◌≤◌, ◌==◌, ℤ, Bool, true, false, ◌&&◌, List, [], ◌∷◌, ◌++◌, length}
 use Rattle.std.proofs.Common.{Option, Some, refl, sym, ap, subst, arith, append-nil, append_assoc}
 use Rattle.std.proofs.lemmas.Bool.{false≢true, and_parts, eqb-true}
@@ -20,7 +20,7 @@ use Rattle.least_runs.proofs.Unseen.{failed_still}
 use Rattle.least_runs.proofs.Follows.{left_follows}
 use Rattle.least_runs.proofs.Part.{is_part, failing_stays}
 
--- a step of another thread than f that can be left out
+-- a step of a thread other than `f` that can be removed
 record Out (f : Name) (h : List Deed) : Type 0 where
   older : List Deed
   newer : List Deed
@@ -95,7 +95,7 @@ find_out f (x ∷ h) =
           ]
     ]
 
--- parts of parts
+-- a part of a part is a part
 whole_part : (code : Code) (h : List Deed) → IsPart code h h
 whole_part code h n p is = record { path = p; there = is; later = []; outcomes = sym (append-nil p.outcomes) }
 
@@ -113,12 +113,12 @@ part_of_part code g i h first second n p is =
 module _ {B : Type 0} (machine : Machine B) (f : Name) where
   open machine use {ops, bound, code}
 
-  -- a run of which no step can be left out
+  -- a run from which no step can be removed
   itself : (h : List Deed) → AllFollow ops.buffered bound code h → failed_in h ≡ Some f → IsLeast f h → HasLeast ops.buffered bound code h f
   itself h all fails_there least =
       record { deeds = h; run = all; fails = fails_there; least = least; part = whole_part code h; failing = refl }
 
-  -- without the step it is a shorter run that fails in the same thread
+  -- without the step there is a shorter run that fails in the same thread
   without : (m : ℕ) (h : List Deed) (o : Out f h) → length h ≤ suc m → AllFollow ops.buffered bound code h → failed_in h ≡ Some f
       → ((g : List Deed) → length g ≤ m → AllFollow ops.buffered bound code g → failed_in g ≡ Some f → HasLeast ops.buffered bound code g f)
       → HasLeast ops.buffered bound code h f

@@ -1,4 +1,4 @@
--- What the other threads have to themselves stays as it was.
+-- The local states of other threads stay the same without the step.
 use Rattle.std.proofs.Common.{◌≡◌, ◌≢◌, ◌∙◌, inl, inr, ℕ, ◌+◌, ℤ, cond, List, [], ◌∷◌, ◌++◌, Option, Some, None, refl, sym, ap, subst}
 use Rattle.std.specs.Prelude.{fold}
 use Rattle.std.specs.Option.{option_map_or}
@@ -22,7 +22,7 @@ use Rattle.run_follows.specs.Machine.{Machine}
 use Rattle.run_follows.specs.Follow.{AllFollow}
 use Rattle.least_runs.proofs.Reached.{reaches, has}
 
--- a thread creates as many children as the history has
+-- a thread has created as many children as the history has creates of it
 pub children_told : {B : Type 0} (machine : Machine B)
     (h : List Deed) (n : Name) (t : Local) → AllFollow machine.ops.buffered machine.bound machine.code h → fin.get (locals_in machine.code h) n ≡ Some t → t.children ≡ children_in h n
 children_told machine h n t all is =
@@ -31,11 +31,11 @@ children_told machine h n t all is =
     ap (λ (l : Local). l.children) (sym x.local) ∙ children_are machine.ops machine.code r.state h n r.tells.deeds.buffers.threads x.thread x.there
 
 module _ (code : Code) (n : Name) (other : Option Name) where
-  -- two maps have the same of each thread but these two
+  -- two maps agree on each thread except these two
   abbrev pub Agree : ByName Local → ByName Local → Type 0
   Agree ts us = (q : Name) → q ≢ n → other ≢ Some q → fin.get ts q ≡ fin.get us q
 
-  -- the steps in a list are those of other threads
+  -- no step in this list is of these threads
   abbrev pub StepsApart : List Deed → Type 0
   StepsApart h = (q : Name) (k : ℕ) (r : Request) (v : ℤ) (o : Option Name) → In (Did q k r v o) h → (q ≢ n) × (other ≢ Some q)
 
@@ -77,7 +77,7 @@ module _ (code : Code) (n : Name) (other : Option Name) where
       deeds_agree h _ _ (λ p j s w x i. apart p j s w x (inr i)) (step_agrees q r v k o ts us is.0 is.1 agree)
   deeds_agree (Drained q k c v ∷ h) ts us apart agree = deeds_agree h ts us (λ p j s w x i. apart p j s w x (inr i)) agree
 
-  -- the step itself changes its own thread, and the child that it creates
+  -- the step changes only its own thread and the child that it creates
   own_child : (t : Local) (i : Instr) (r : Request) (ts us : ByName Local) → ((f : ℕ) → r ≡ Start f → other ≡ Some (child n (t.children + 1))) → Agree ts us
       → Agree (with_child code n t i r ts) us
   own_child t i (Start f) ts us made agree = λ q apart fresh.
@@ -100,7 +100,7 @@ module _ (code : Code) (n : Name) (other : Option Name) where
       → Agree (after_deed code ts (Did n k r v other)) ts
   own_agrees k r v ts made = own_thread r v ts (fin.get ts n) refl made
 
-  -- so what the others have to themselves is the same without it
+  -- without the step the local states of the other threads are the same
   pub locals_agree : (older newer : List Deed) (k : ℕ) (r : Request) (v : ℤ) → StepsApart newer
       → ((t : Local) → fin.get (locals_in code older) n ≡ Some t → (f : ℕ) → r ≡ Start f → other ≡ Some (child n (t.children + 1)))
       → Agree (locals_in code (older ++ Did n k r v other ∷ newer)) (locals_in code (older ++ newer))

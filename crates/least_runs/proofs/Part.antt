@@ -1,4 +1,5 @@
--- Without its last step a thread has gone the beginning of its path, and the others have gone theirs.
+-- Without its last step a thread has gone a first part of its path, and the others have gone
+-- theirs.
 use Rattle.std.proofs.Common.{◌≡◌, ◌≢◌, ◌∙◌, ◌⊎◌, inl, inr, ℕ, ◌+◌, ◌<◌, ◌≤◌, ℤ, Bool, cond, List, [], ◌∷◌, ◌++◌, append-nil, append_assoc}
 use Rattle.std.proofs.Common.{Option, Some, None, refl, sym, ap, subst, arith}
 use Rattle.std.specs.Prelude.{option_map, option_and_then}
@@ -34,7 +35,7 @@ use Rattle.least_runs.proofs.Used.{IsUnused}
 use Rattle.least_runs.proofs.Reached.{Reaches, reaches, still}
 use Rattle.least_runs.proofs.Follows.{done_in, next_step, left_follows, paths_stay}
 
--- a step adds at most an outcome
+-- a step adds at most one outcome
 outcomes_after : (t : Local) (i : Instr) (v : ℤ) → (later : List Bool) × ((local_after t i v).outcomes ≡ t.outcomes ++ later)
 outcomes_after t (Branch e to) v = (_ ∷ [], ap (λ l. l.outcomes) (branch_is t _ to))
 outcomes_after t Exit v = ([], sym (append-nil t.outcomes))
@@ -61,7 +62,7 @@ starts_within n (d ∷ h) =
     let steps = sum_by-append (λ x. cond (is_step_of n x) 1 0) (d ∷ []) h in
     omega (arith, rest, first, starts, steps)
 
--- what a step of a thread makes of what it has to itself
+-- the local state of a thread after a step
 pub record Steps (code : Code) (ts : ByName Local) (n : Name) (r : Request) : Type 0 where
   pub before : Local
   pub here : fin.get ts n ≡ Some before
@@ -99,7 +100,7 @@ made_or_not (Some u) q = elim (same_or_apart u q) [
   | inr apart ↦ inr (λ e. apart (same_Some u q e))
 ]
 
--- who failed did a step
+-- the thread that failed did a step
 failed_step : (d : Deed) (f : Name) (h : List Deed) → In d h → fails d ≡ Some f → 0 < steps_in h f
 failed_step (Did n k Fail v o) f h i e = subst (λ m. 0 < steps_in h m) (same_Some n f e) (done_in h n k Fail v o i)
 failed_step (Did n k Silent v o) f h i e = absurd (none-some f e)
@@ -148,7 +149,7 @@ module _ {B : Type 0} (machine : Machine B) (older newer : List Deed) (n : Name)
         outcomes = more.1 ∙ ap (λ (x : Path). x.outcomes ++ more.0) same_path;
       }
 
-  -- the child that it creates isn't there without it
+  -- the child that the step creates doesn't exist without it
   child_number : (s : Request) (u : Name) → OtherIs older n s other → IsUnused n s other newer → other ≡ Some u → u ≡ child n (children_in older n + 1)
   child_number (Start f) u is idle e = same_Some u (child n (children_in older n + 1)) (sym e ∙ is)
   child_number (WakeOne c) u is idle e = absurd idle
@@ -196,7 +197,7 @@ module _ {B : Type 0} (machine : Machine B) (older newer : List Deed) (n : Name)
     | inr apart ↦ other_begins q p apart (made_or_not other q) is
   ]
 
-  -- who fails isn't the child that it creates
+  -- the failing thread isn't the child that the step creates
   pub failing_stays : (f : Name) → f ≢ n → failed_in (older ++ newer) ≡ Some f
       → path_told code (older ++ newer) f ≡ path_told code (older ++ Did n k r took other ∷ newer) f
   failing_stays f apart fails_there =

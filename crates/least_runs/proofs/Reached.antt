@@ -1,4 +1,4 @@
--- Deeds that follow one another are the history of a run, and lead to a state.
+-- Deeds that follow each other are the history of a run, and lead to a state.
 use Rattle.std.proofs.Common.{◌≡◌, ◌∙◌, ◌+◌, Bool, true, false, ◌||◌, cond, List, ◌++◌, Option, Some, None, refl, sym, ap, subst, arith}
 use Rattle.std.specs.Prelude.{is_some, option_map, option_and_then}
 use Rattle.std.specs.FinMap as fin
@@ -25,7 +25,7 @@ use Rattle.run_follows.proofs.Enabled.{Tells, told}
 use Rattle.run_follows.proofs.Plays.{follows_is_run}
 use Rattle.run_follows.proofs.of_deeds.Follow.{first_follow}
 
--- a thread of a history is one of a longer one
+-- a thread of a history is one of a longer history
 or_more : (a x y : Bool) → a || x ≡ true → a || (x || y) ≡ true
 or_more true x y e = refl
 or_more false true y e = refl
@@ -71,7 +71,7 @@ module _ {B : Type 0} (machine : Machine B) where
   thread_by s n None there e = absurd (false≢true e)
   thread_by s n (Some x) there e = (x, there)
 
-  -- what a thread that does nothing more has to itself stays as it was
+  -- a thread that does nothing more keeps its local state
   pub still : (older newer : List Deed) (n : Name) (t : Local) → AllFollow ops.buffered bound code (older ++ newer) → steps_in newer n ≡ 0
       → fin.get (locals_in code older) n ≡ Some t → fin.get (locals_in code (older ++ newer)) n ≡ Some t
   still older newer n t all none here =

@@ -1,4 +1,4 @@
--- What a step that nothing needs leaves as it was.
+-- What stays the same without a step that nothing needs.
 use Rattle.std.proofs.Common.{◌≡◌, ◌≢◌, ◌∙◌, ◌⊎◌, inl, inr, ℕ, ◌==◌, ℤ, Bool, true, false, not, ◌&&◌, cond, List, ◌∷◌, ◌++◌}
 use Rattle.std.proofs.Common.{Option, Some, None, refl, sym, ap, map, pos, slice_index_or}
 use Rattle.std.specs.Prelude.{unwrap_or, filter}
@@ -25,7 +25,7 @@ none_by true x e = absurd (false≢true (sym e))
 none_by false x e = refl
 
 module _ (n : Name) (k : ℕ) (took : ℤ) (other : Option Name) (later : List Deed) where
-  -- it stores nothing in memory
+  -- the step stores nothing in memory
   reaches_none : (buffered : Bool) (r : Request) → IsUnused n r other later → reaches buffered (Did n k r took other) ≡ None
   reaches_none buffered (Write c v) unused = absurd unused
   reaches_none buffered (Exchange c v) unused = absurd unused
@@ -33,7 +33,7 @@ module _ (n : Name) (k : ℕ) (took : ℤ) (other : Option Name) (later : List D
   reaches_none buffered Silent unused = refl
   reaches_none buffered r unused = refl
 
-  -- it puts no one to sleep, and wakes no one
+  -- the step begins no sleep and wakes no thread
   waits_still : (c : ℕ) (r : Request) → IsUnused n r other later → (ns : NameSet) → waiting_after c ns (Did n k r took other) ≡ ns
   waits_still c (BeginWait d m) unused ns = absurd unused
   waits_still c (WakeOne d) unused ns = absurd unused
@@ -63,7 +63,7 @@ module _ (n : Name) (k : ℕ) (took : ℤ) (other : Option Name) (later : List D
   exits_not w r apart = refl
 
   module _ (older newer : List Deed) (r : Request) where
-    -- the deeds, and the deeds without the step
+    -- the deeds with the step and without it
     abbrev whole : List Deed
     whole = older ++ Did n k r took other ∷ newer
 
@@ -81,7 +81,7 @@ module _ (n : Name) (k : ℕ) (took : ℤ) (other : Option Name) (later : List D
       pub failed_still : failed_in whole ≡ failed_in left
       failed_still = ap (last_or None) (skip_map fails older (Did n k r took other) newer (fails_not r unused))
 
-      -- a mutex has the owner that it had, or it had the thread of the step
+      -- each mutex has the same owner, unless the step's thread owned it
       taken_by : (m l : ℕ) (b : Bool) → (l == m) ≡ b → owner_by m (Did n k r took other) ≡ cond b (Some (Some n)) None
           → (owner_in whole m ≡ owner_in left m) ⊎ (owner_in whole m ≡ Some n)
       taken_by m l false e by = inl (ap (λ os. unwrap_or (last_or None os) None) (skip_map (owner_by m) older (Did n k r took other) newer by))
@@ -98,7 +98,7 @@ module _ (n : Name) (k : ℕ) (took : ℤ) (other : Option Name) (later : List D
           left_is : owner_in left m ≡ unwrap_or (last_or None (filter_map (owner_by m) older ++ filter_map (owner_by m) newer)) None
           left_is = ap (λ os. unwrap_or (last_or None os) None) (filter_map-append (owner_by m) older newer)
 
-    -- of another thread
+    -- what another thread does
     module _ (q : Name) (apart : q ≢ n) where
       pub steps_still : steps_in whole q ≡ steps_in left q
       steps_still = skip_count (is_step_of q) older (Did n k r took other) newer (same_other q n apart)

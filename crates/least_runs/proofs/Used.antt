@@ -1,4 +1,4 @@
--- What it is for a step to be unused, case by case.
+-- The meaning of an unused step, by its request.
 use Rattle.std.proofs.Common.{◌≡◌, ◌≢◌, ◌∙◌, ℕ, ◌==◌, ℤ, true, not, List, ◌∷◌, ◌++◌, Option, Some, None, sym, ap, subst}
 use Rattle.std.specs.Option.{option_map_or}
 use Rattle.std.specs.List.{list_any}

@@ -37,8 +37,8 @@ pub fn unused_steps_come_out<B>()
         → path_told m.code (older ++ newer) q ≡ path_told m.code (older ++ Did n k r took other ∷ newer) q }
 {}
 
-/// So for each run that fails there is one in which the same thread fails after the same path, no
-/// thread has further outcomes, and no step of another thread can be left out.
+/// So each run that fails has a least one: the same thread fails after the same path, no thread has
+/// further outcomes, and no step of another thread can be left out.
 pub fn failing_runs_have_least_ones<B>()
     ensures { (m : Machine B) (h : List Deed) (f : Name) → AllFollow m.ops.buffered m.bound m.code h → failed_in h ≡ Some f
         → HasLeast m.ops.buffered m.bound m.code h f }

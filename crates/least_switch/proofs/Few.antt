@@ -15,7 +15,7 @@ after_few : (x : ℕ) (ys : List ℕ) → changes_after eq x ys ≤ length ys
 after_few x [] = omega arith
 after_few x (y ∷ ys) = omega (arith, one_more (eq x y), after_few y ys)
 
--- neighbours of a list are fewer than its elements
+-- a list has fewer changes than elements
 changes_few : (n : ℕ) (xs : List ℕ) → length xs ≤ n + 1 → changes eq xs ≤ n
 changes_few n [] short = omega arith
 changes_few n (x ∷ xs) short = omega (arith, short, after_few x xs)

@@ -1,4 +1,4 @@
--- The clauses of a log with at most so many switches are made of the parts of its system.
+-- The clauses of a log with a bound on switches are made of the parts of its system.
 use Rattle.std.proofs.Common.{◌≡◌, ◌∙◌, ℕ, ◌+◌, ◌*◌, ◌<◌, ◌≤◌, Bool, true, false, List, [], ◌∷◌, ◌++◌, length, refl, sym, ap, subst, arith}
 use Rattle.std.proofs.Math.Nat.{mul-le-mul}
 use Rattle.std.proofs.lemmas.Bool.{false≢true}
@@ -32,18 +32,18 @@ use Rattle.clap_solve.specs.Solved.{IsWithin}
 use Rattle.clap_solve.proofs.Meaning as solve
 use Rattle.clap_solve.proofs.Room.{clauses_have_room}
 use Rattle.switch_order.specs.Sizes.{size_of}
-use Rattle.switch_clauses.specs.Clauses.{asked_by, asked_of_all, switch_clauses, switched_by}
+use Rattle.switch_clauses.specs.Clauses.{clauses_over_all_pairs, asked_of_all, switch_clauses, clauses_with_levels}
 use Rattle.switch_clauses.proofs.Meaning.{levels_ready}
 use Rattle.least_switch.specs.helpers.Bounded.{IsBounded}
 use Rattle.least_switch.specs.helpers.Levels.{AreBounded, AreLevelled, IsAskable, StandsOnOrder}
 
--- the numbers below the next are those below a number, and that one
+-- the numbers below `n + 1` are those below `n`, and `n`
 pub one_more_number : (n : ℕ) → range_with_len 0 (n + 1) ≡ range_with_len 0 n ++ n ∷ []
 one_more_number n =
     sym (map-id (range_with_len 0 (n + 1))) ∙ map-range_with_len_more (λ (k : ℕ). k) 0 n n (omega arith)
     ∙ ap (λ ns. ns ++ n ∷ []) (map-id (range_with_len 0 n))
 
--- an order that is asked of every two events has as many, and a formula that is in the one is in the other
+-- an order asked about every two events has the same events, and the same formulas are in range
 pub asked_events : (o : Order) → (asked_of_all o).events ≡ o.events
 asked_events o = completed_events o (range_with_len 0 o.events)
 
@@ -52,14 +52,14 @@ asked_within o formula within =
     formula_in o (asked_of_all o) (asked_events o)
     (same_part (λ (k : Order). k.sleeps) (λ k p. refl) o (pairs_among (range_with_len 0 o.events))) formula within
 
--- and the size of its clauses is the same
+-- the size of its clauses is the same
 pub size_asked : (o asked : Order) (loads : ℕ) (nodes : List Node) (formula : List Conjunct) → asked ≡ asked_of_all o
     → whole_size (record { order = asked; loads = loads }) nodes formula ≡ whole_size (record { order = o; loads = loads }) nodes formula
 size_asked o asked loads nodes formula is =
     same_size o asked loads nodes formula (ap (λ (k : Order). k.events) is ∙ asked_events o)
     (ap (λ (k : Order). k.sleeps) is ∙ completed_sleeps o (range_with_len 0 o.events))
 
--- levels of few switches of few events
+-- few switches and few events have few levels
 pub levels_few : (events most : ℕ) → events ≤ EVENTS → most ≤ 255 → size_of events most ≤ size_of EVENTS 255
 levels_few events most few least =
     let two = mul-le-mul {n₁ = events} {m₁ = events} {n₂ = EVENTS} {m₂ = EVENTS} few few in
@@ -67,7 +67,7 @@ levels_few events most few least =
     let variables = mul-le-mul {n₁ = events} {m₁ = most} {n₂ = EVENTS} {m₂ = 255} few least in
     omega (arith, all, variables)
 
--- clauses with levels are those of a formula whose paths aren't dead
+-- clauses with levels are those of the formula, unless the paths are dead
 pub bounded_by : (paths : Paths) (nodes : List Node) (formula : List Conjunct) (order : Order) (loads most : ℕ) (b : Blasted)
     → b ≡ blast nodes formula (asked_of_all order) loads → paths.dead ≡ false → (made : Layout × Formula) → AreLevelled paths b most made
     → AreBounded paths nodes formula order loads most made
@@ -80,7 +80,7 @@ bounded_by paths nodes formula order loads most b is alive made levelled = recor
 abbrev Parts : Type 1
 Parts = Paths → List Node → List Conjunct → Order → ℕ → Type 0
 
--- what holds of some parts holds of the same
+-- what holds for some parts holds for equal ones
 moved : (P : Parts) (p q : Paths) (ns ms : List Node) (f g : List Conjunct) (o k : Order) (m n : ℕ) → p ≡ q → ns ≡ ms → f ≡ g → o ≡ k → m ≡ n
     → P p ns f o m → P q ms g k n
 moved P p q ns ms f g o k m n as_paths as_nodes as_formula as_order as_loads is =
@@ -103,12 +103,12 @@ module _ (buffered : Bool) (bound : Binding) (code : Code) (log : Log) (lawful :
     within = sound.within;
     events = subst (λ (t : System). length (all_events t.paths) ≡ t.order.events) (sym of) (sym (solve.events buffered bound code log lawful within));
     few = sound.events;
-    stands = subst (λ (t : System). StandsOnOrder (asked_by t)) (sym of) (record { more = (levels_ready buffered bound code log lawful within).more });
+    stands = subst (λ (t : System). StandsOnOrder (clauses_over_all_pairs t)) (sym of) (record { more = (levels_ready buffered bound code log lawful within).more });
     room = subst (λ (t : System). whole_size (record { order = t.order; loads = t.symbolic.loads }) t.nodes t.formula + size_of EVENTS 255 < LIMIT) (sym of)
         (clauses_have_room buffered bound code log within steps);
   }
 
-  -- they can be asked of every two events
+  -- the order may be asked about every two events
   pub is_askable : IsAskable paths nodes formula order loads
   is_askable =
       moved IsAskable s.paths paths s.nodes nodes s.formula formula s.order order s.symbolic.loads loads (sym as_paths) (sym as_nodes) (sym as_formula)
@@ -130,11 +130,11 @@ module _ (buffered : Bool) (bound : Binding) (code : Code) (log : Log) (lawful :
     clauses_are = by (paths_of code log).dead refl
       where
         by : (dead : Bool) → (paths_of code log).dead ≡ dead
-            → made.1 ≡ (if dead then impossible.clauses else switched_by (paths_of code log) (system_of buffered bound code log) most)
+            → made.1 ≡ (if dead then impossible.clauses else clauses_with_levels (paths_of code log) (system_of buffered bound code log) most)
         by true is = there.dead is
         by false is = (there.lives is).clauses
 
-    -- and their clauses are the log's
+    -- the clauses of the parts are those of the log
     pub is_bounded : IsBounded buffered bound code log most
         (record { paths = paths; symbolic = symbolic; terms = nodes; layout = made.0; clauses = made.1 })
     is_bounded = record {

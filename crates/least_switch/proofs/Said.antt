@@ -1,4 +1,4 @@
--- What satisfies the clauses of a log says a world that has a schedule.
+-- Values that satisfy the clauses of a log give a world that has a schedule.
 use Rattle.std.proofs.Common.{◌≡◌, ◌∙◌, ℕ, ◌<◌, ◌≤◌, Bool, false, List, [], sym, ap, subst, arith}
 use Rattle.std.specs.Prelude.{IsTrue, if◌then◌else◌}
 use Rattle.std.specs.List.{All}
@@ -32,11 +32,11 @@ use Rattle.switch_clauses.proofs.Meaning.{IsSaid, ready, says}
 use Rattle.least_switch.specs.declared.bounded.Bounded.{Bounded}
 use Rattle.least_switch.specs.helpers.Bounded.{IsBounded}
 
--- positions are ranks of at most 256 events
+-- positions are ranks among at most 256 events
 pub small_in : (y : Layout) (v : Valuation) (w : World) → w ≡ world_of y v → y.order.events ≤ 256 → All (λ p. p < 256) w.positions
 small_in y v w is few = subst (λ (x : World). All (λ p. p < 256) x.positions) (sym is) (values-say-worlds y v few).small
 
--- the events of a log's layout are few
+-- the layout of a log has few events
 pub posed_few : (buffered : Bool) (bound : Binding) (code : Code) (log : Log) → IsLawful code → IsWithin code log → (p : Posed)
     → p ≡ posed_of buffered bound code log → p.paths.dead ≡ false → p.blasted.layout.order.events ≤ 256
 posed_few buffered bound code log lawful within p by alive =

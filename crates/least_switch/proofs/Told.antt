@@ -1,4 +1,4 @@
--- What a search comes to is an answer about the log.
+-- The result of a search is an answer about the log.
 use Rattle.std.proofs.Common.{◌≡◌, ◌∙◌, ℕ, zero, suc, ◌-◌, ◌<◌, ◌≤◌, Bool, true, false, List, Some, None, ap, subst, sym, arith}
 use Rattle.std.specs.List.{All}
 use Rattle.tc_base.specs.Buffers.{BufferOps}
@@ -45,7 +45,7 @@ use Rattle.least_switch.specs.helpers.Found.{IfSat, IsFirst, IsFoundBy, IsFoundO
 
 module _ {B : Type 0} (ops : BufferOps B) (model : Model) (bound : Binding) (code : Code) (paths : Paths) (symbolic : Symbolic) (nodes : List Node)
     (w : World) (d : IsDecodable ops model bound code paths symbolic nodes w) (small : All (λ p. p < 256) w.positions) where
-  -- the moves of the plan of a world have its switches
+  -- the moves of a world's plan have as many switches as the world
   world_count : (moves : List Move) → moves ≡ moves_for bound (plan ops.buffered code paths w) → switches ops code moves ≡ world_switches paths w
   world_count moves is =
       ap (switches ops code) is
@@ -68,7 +68,7 @@ module _ {B : Type 0} (ops : BufferOps B) (model : Model) (bound : Binding) (cod
 
 module _ {B : Type 0} (ops : BufferOps B) (model : Model) (bound : Binding) (code : Code) (log : Log) (laws : Laws ops model bound)
     (given : IsGiven code log) (budget : ℕ) where
-  -- no schedule was found
+  -- the search found no schedule
   pub none_found : (lines : List Line) → Solves (clauses_of ops.buffered bound code log) budget (solved.Unsat lines)
       → IsLeast ops model bound code log budget (Impossible lines)
   none_found lines closed = record {
@@ -80,13 +80,13 @@ module _ {B : Type 0} (ops : BufferOps B) (model : Model) (bound : Binding) (cod
       → IsLeast ops model bound code log budget (Spent lines)
   all_spent lines spent = record { within = given.within; is = spent }
 
-  -- one has no switches
+  -- a schedule without switches has the fewest
   pub none_fewer : (s : Schedule) (count : ℕ) → HasSwitches ops model code log s count → count ≡ 0
       → IsLeast ops model bound code log budget (Found s count None)
   none_fewer s zero has none = record { within = given.within; is = (has, λ moves again. omega arith, tt) }
   none_fewer s (suc k) has none = absurd (omega (arith, none))
 
-  -- none has fewer than one
+  -- no schedule has fewer switches than the one found
   pub fewest_found : (s : Schedule) (count fewer : ℕ) (lines : List Line) → 0 < count → fewer ≡ count - 1 → HasSwitches ops model code log s count
       → Solves (switch_clauses ops.buffered bound code log fewer) budget (solved.Unsat lines)
       → IsLeast ops model bound code log budget (Found s count (Some lines))
@@ -116,7 +116,7 @@ module _ {B : Type 0} (ops : BufferOps B) (model : Model) (bound : Binding) (cod
         is = (has, subst (λ n. Solves (switch_clauses ops.buffered bound code log n) budget (solved.Spent lines)) same spent);
       }
 
--- what a search comes to, over the clauses in which it went
+-- the result of a search over some clauses
 pub found_on : (f : Formula) (Is : Best → Type 0) (budget : ℕ) (s : Solved) (x : Outcome) → Solves f budget s → IsFoundBy Is s x → IsFoundOn f Is budget x
 found_on f Is budget (solved.Sat values) (found.Best b) solves by = by
 found_on f Is budget (solved.Unsat lines) (found.Impossible own) solves by = subst (λ (ls : List Line). Solves f budget (solved.Unsat ls)) (sym by) solves

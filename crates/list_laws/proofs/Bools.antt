@@ -1,7 +1,7 @@
 -- Truth values.
 use Rattle.std.proofs.Common.{◌&&◌, Bool, true, false, T}
 
--- both halves of what is so are so
+-- if a conjunction holds, its first part holds
 pub first_T : (a b : Bool) → T (a && b) → T a
 first_T true b h = tt
 first_T false b h = absurd h

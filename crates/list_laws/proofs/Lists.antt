@@ -12,7 +12,7 @@ pub get_seam : {X : Type 0} (xs : List X) (x : X) (more : List X) → slice_get 
 get_seam [] x more = refl
 get_seam (y ∷ xs) x more = get_seam xs x more
 
--- a list up to an element, it, and those after it
+-- a list is the elements before one of its elements, this element, and those after it
 pub split_at : {X : Type 0} (xs : List X) (k : ℕ) (x : X) → slice_get xs k ≡ Some x → xs ≡ take k xs ++ x ∷ drop (suc k) xs
 split_at [] k x e = absurd (none-some x e)
 split_at (y ∷ xs) zero x e = ap (λ z. z ∷ xs) (same_Some y x e)

@@ -1,7 +1,7 @@
 -- Lists.
 use Rattle.std.specs.Prelude.{Bool, true, false, List, [], ◌∷◌}
 
--- it has no element
+-- whether a list has no element
 abbrev pub is_nil : {A : Type 0} → List A → Bool
 is_nil [] = true
 is_nil (x ∷ xs) = false

@@ -1,4 +1,4 @@
--- What a search finds, by what it finds below.
+-- The result of a search, by the results of the searches below it.
 use Rattle.std.proofs.Common.{◌≡◌, ◌∙◌, ℕ, ◌+◌, ◌<◌, ◌≤◌, inl, inr, Bool, true, false, not, ◌&&◌, ◌||◌, List, [], ◌∷◌, ◌++◌, length}
 use Rattle.std.proofs.Common.{Option, Some, None, refl, ap, sym, subst, arith, append_assoc, append-nil, is_none, unwrap_or}
 use Rattle.std.specs.Prelude.{◌⊎◌, slice_get, IfSome, IfOk, Result, Ok, Err}
@@ -15,7 +15,7 @@ use Rattle.thread_paths.specs.Search as path
 use Rattle.thread_paths.specs.declared.aim.Scope.{Scope}
 use Rattle.thread_paths.specs.declared.found.Cut.{Cut}
 use Rattle.log_walk.specs.Order.{are_from, are_to_come}
-use Rattle.log_walk.specs.Rest.{Rest, MakeUp, Takes, leave, aim_of}
+use Rattle.log_walk.specs.Rest.{Rest, MakeUp, Takes, leave, aim_of, is_whole}
 use Rattle.log_walk.specs.Given.{IsLeftOut, IsWithin, has_many_outcomes, has_many_steps, is_deep}
 use Rattle.log_walk.specs.Given.IsLeftOut.{Outcomes, Steps, Depth, Threads}
 use Rattle.log_walk.specs.declared.bounds.Bounds.{Bounds}
@@ -53,16 +53,16 @@ both false b one two = absurd cc
 inj : {A : Type 0} → (a b : A) → Some a ≡ Some b → a ≡ b
 inj a b is = ap (λ o. unwrap_or o a) is
 
--- What is left out.
+-- Paths that are left out.
 
--- what was left out stays so
+-- what was left out stays left out
 pub kept_out : (most room : ℕ) (a b : LeftOut) (ts : List ThreadPath) → IsKept a b → IsLeftOut most room a ts → IsLeftOut most room b ts
 kept_out most room a b ts kept (Outcomes told is) = Outcomes (kept.outcomes told) is
 kept_out most room a b ts kept (Steps told is) = Steps (kept.steps told) is
 kept_out most room a b ts kept (Depth told is) = Depth (kept.depth told) is
 kept_out most room a b ts kept (Threads told is) = Threads (kept.threads told) is
 
--- with a thread in front
+-- what was left out, with one more thread in front
 pub more_out : (most room room' : ℕ) (out : LeftOut) (t : ThreadPath) (ts : List ThreadPath) → room' ≤ room + 1
     → IsLeftOut most room out ts → IsLeftOut most room' out (t ∷ ts)
 more_out most room room' out t ts le (Outcomes told is) = Outcomes told (or_last (has_many_outcomes most t) (list_any (has_many_outcomes most) ts) is)
@@ -70,7 +70,7 @@ more_out most room room' out t ts le (Steps told is) = Steps told (or_last (has_
 more_out most room room' out t ts le (Depth told is) = Depth told (or_last (is_deep t) (list_any is_deep ts) is)
 more_out most room room' out t ts le (Threads told is) = Threads told (omega (arith, is, le))
 
--- with a path that is left out
+-- what was left out, with a path that was left out
 pub path_out : (most room : ℕ) (out : LeftOut) (cut : Cut) (t : ThreadPath) (ts : List ThreadPath)
     → ((most < length t.path.outcomes) × (cut.outcomes ≡ true)) ⊎ ((STEPS < t.path.steps) × (cut.steps ≡ true))
     → IsLeftOut most room (with_cut out cut) (t ∷ ts)
@@ -99,7 +99,7 @@ kept_on a b c one two = record {
   threads = λ is. two.threads (one.threads is);
 }
 
--- what is to come after threads begins with the first of them, or with one that comes after it
+-- threads that come after others begin with the same thread or a later one
 abbrev three : (a b r : Bool) → Type 0
 three a b r = (a ≡ false) ⊎ ((a ≡ true) × (b ≡ true) × (r ≡ false))
 
@@ -108,7 +108,7 @@ three_by false b r is = inl refl
 three_by true true r is = inr (refl, refl, not_parts r is)
 three_by true false r is = absurd cc
 
--- the threads behind those that were given last
+-- the threads after the first of those given last
 follow_by : (code : Code) (bounds : Bounds) (rest : Rest) (t : ThreadPath) (ts : List ThreadPath) (later : Rest) → MakeUp code bounds.kind rest (t ∷ ts)
     → leave code bounds.kind rest.awaited rest t.path ≡ Some later → MakeUp code bounds.kind later ts
 follow_by code bounds rest t ts later made leaves =
@@ -125,28 +125,28 @@ follow_on code bounds rest (Some (h ∷ gs)) g p can is path later leaves = (
   All-tail (IsWithin bounds.most) h gs can.1,
 )
 
--- of a call's two promises a third
+-- a third clause of a call, from two others
 pub ok_both : {X Y : Type 0} (r : Result X Y) (P Q R : X → Type 0) → ((x : X) → P x → Q x → R x) → IfOk r P → IfOk r Q → IfOk r R
 ok_both (Ok x) P Q R all p q = all x p q
 ok_both (Err e) P Q R all p q = tt
 
--- where all paths are to come
+-- the position before all paths
 abbrev pub no_path : Path
 no_path = record { outcomes = []; steps = 0 }
 
--- over one path
+-- the limits reported, across one path
 pub kept_over : (old out mid out' : LeftOut) (cut : Cut) → IsKept old out → mid ≡ with_cut out cut → IsKept mid out' → IsKept old out'
 kept_over old out mid out' cut one is two =
     kept_on old out out' one (kept_on out (with_cut out cut) out' (kept_cut out cut) (subst (λ (o : LeftOut). IsKept o out') is two))
 
 module _ (code : Code) (bounds : Bounds) (rest : Rest) where
-  -- where none was found, threads are as before
+  -- if no threads were found, they are as before
   pub still : (w : Wanted) (room : ℕ) (first before now : List ThreadPath) (out : LeftOut) → before ≡ first → (v : Bool) → v ≡ false
       → IsEnd code bounds rest w room before now out v → now ≡ first
   still w room first before now out same true is_false end = absurd cc
   still w room first before now out same false is_false end = end.same ∙ same
 
-  -- from threads that are the same
+  -- the same from equal threads
   pub end_from : (w : Wanted) (room : ℕ) (before mid now : List ThreadPath) (out : LeftOut) (v : Bool) → mid ≡ before
       → IsEnd code bounds rest w room mid now out v → IsEnd code bounds rest w room before now out v
   end_from w room before mid now out v same end = subst (λ (ts : List ThreadPath). IsEnd code bounds rest w room ts now out v) same end
@@ -210,7 +210,7 @@ module _ (code : Code) (bounds : Bounds) (rest : Rest) where
     none_made [] made = refl
     none_made (u ∷ us) made = absurd (let next = made.1.is_next in cc)
 
-    ends_made : (us : List ThreadPath) → Made us → rest.ends ≡ true
+    ends_made : (us : List ThreadPath) → Made us → is_whole rest ≡ true
     ends_made [] made = made.1
     ends_made (u ∷ us) made = absurd (let next = made.1.is_next in cc)
 
@@ -222,7 +222,7 @@ module _ (code : Code) (bounds : Bounds) (rest : Rest) where
     none_come None is = refl
     none_come (Some ls) is = absurd cc
 
-    by_end : (e : Bool) → e ≡ rest.ends → (n : Bool) → n ≡ is_none last
+    by_end : (e : Bool) → e ≡ is_whole rest → (n : Bool) → n ≡ is_none last
         → IsEnd code bounds rest (are_to_come last) room before before out (n && e)
     by_end true ends true none = record {
       added = [];
@@ -244,7 +244,7 @@ module _ (code : Code) (bounds : Bounds) (rest : Rest) where
       none = λ us made is. absurd (let does = come_none last (ap (are_to_come last) (sym (none_made us made)) ∙ is) in cc);
     }
 
-    pub at_end : (e : Bool) → e ≡ rest.ends → (n : Bool) → n ≡ is_none last
+    pub at_end : (e : Bool) → e ≡ is_whole rest → (n : Bool) → n ≡ is_none last
         → IsEnd code bounds rest (are_to_come last) room before before out (n && e)
     at_end = by_end
 
@@ -278,7 +278,7 @@ module _ (code : Code) (bounds : Bounds) (rest : Rest) where
           → IsEnd code bounds rest w room before now out false
       closed w before now same why = record { same = same; none = λ us made is. closed_by us made why }
 
-    -- Behind one path.
+    -- Below one path.
 
     module _ (p : Path) (last : Option (List ThreadPath)) (room : ℕ) where
       abbrev thread : ThreadPath
@@ -293,7 +293,7 @@ module _ (code : Code) (bounds : Bounds) (rest : Rest) where
       behind_others : (u : ThreadPath) (us : List ThreadPath) → behind p last (u ∷ us) ≡ true → are_to_come last us ≡ true
       behind_others u us is = (and_parts (comes_from p u.path && comes_from u.path p) (are_to_come last us) is).1
 
-      -- the path can't be
+      -- the thread may not take this path
       never_by : (us : List ThreadPath) (out : LeftOut) → leave code bounds.kind rest.awaited rest p ≡ None → Made us → behind p last us ≡ true
           → IsLeftOut bounds.most room out us
       never_by [] out leaves made is = absurd cc
@@ -312,7 +312,7 @@ module _ (code : Code) (bounds : Bounds) (rest : Rest) where
         made_later : (u : ThreadPath) (us : List ThreadPath) → Made (u ∷ us) → behind p last (u ∷ us) ≡ true → MakeUp code bounds.kind later us
         made_later u us made is = subst (λ (r : Rest). MakeUp code bounds.kind r us) (same_later u us made.0 made.1 is) made.2
 
-        -- none is found below
+        -- no threads are found below the path
         none_below : (us : List ThreadPath) → AreNone code bounds later (are_to_come last) less out → Made us → behind p last us ≡ true
             → IsLeftOut bounds.most room out us
         none_below [] none made is = absurd cc
@@ -323,7 +323,7 @@ module _ (code : Code) (bounds : Bounds) (rest : Rest) where
             → IsEnd code bounds rest (behind p last) room before now out false
         nothing before now same none = record { same = same; none = λ us made is. none_below us none made is }
 
-        -- some are
+        -- threads are found below the path
         module _ (may : MayTake code next.function (aim_of bounds.kind rest.ends next.end) p) (within : IsWithin bounds.most thread)
             (ts : List ThreadPath) (first : AreFirst code bounds later (are_to_come last) less out ts) where
           others_below : (us : List ThreadPath) → Made us → behind p last us ≡ true → (are_from (thread ∷ ts) us ≡ true) ⊎ IsLeftOut bounds.most room out us
@@ -349,7 +349,7 @@ module _ (code : Code) (bounds : Bounds) (rest : Rest) where
               → IsEnd code bounds rest (behind p last) room before now out true
           found_below before now is = record { added = thread ∷ ts; is = is ∙ append_assoc before (thread ∷ []) ts; first = all_below }
 
-    -- the same, by whether the search says so
+    -- threads are found below the path or not, by the search's answer
     pub below_found : (p : Path) (last : Option (List ThreadPath)) (room less : ℕ) → room ≡ less + 1 → (later : Rest)
         → leave code bounds.kind rest.awaited rest p ≡ Some later → IsTaken code bounds rest next p
         → (out : LeftOut) (before mid now : List ThreadPath) (t : ThreadPath) → mid ≡ before ++ t ∷ [] → t ≡ record { name = next.name; path = p }
@@ -371,7 +371,7 @@ module _ (code : Code) (bounds : Bounds) (rest : Rest) where
         nothing p last room later leaves less fits out' before off (taken before t (end.same ∙ pushed))
         (subst (λ (o : LeftOut). AreNone code bounds later (are_to_come last) less o) (sym same) end.none)
 
-    -- A thread may take what was given last, or what was found.
+    -- A thread may take the path that was given last or found.
 
     pub taken_last : (l : Option (List ThreadPath)) (g : ThreadPath) (p : Path) → CanFollow code bounds rest l → Some g ≡ first_of l → p ≡ g.path
         → length next.name ≤ DEPTH → IsTaken code bounds rest next p
@@ -432,7 +432,7 @@ module _ (code : Code) (bounds : Bounds) (rest : Rest) where
       come_later [] made is = absurd cc
       come_later (u ∷ us) made is = ap not (later_last g u gs us is)
 
-      -- the first was found behind the path
+      -- the first threads were found below the path itself
       back_found : (ts : List ThreadPath) → behind g.path (Some gs) ts ≡ true → (us : List ThreadPath) → Made us → are_to_come last us ≡ true
           → (behind g.path (Some gs) us ≡ true) ⊎ ((are_from ts us ≡ true) ⊎ IsLeftOut bounds.most room out us)
       back_found [] at_ us made is = absurd cc
@@ -455,7 +455,7 @@ module _ (code : Code) (bounds : Bounds) (rest : Rest) where
             (back_found end.added end.first.meets);
       }
 
-      -- or it comes after all of those
+      -- the first threads come after the path
       back_later : (out' : LeftOut) → AreNone code bounds rest (behind g.path (Some gs)) room out' → IsKept out' out
           → (us : List ThreadPath) → Made us → are_to_come last us ≡ true
           → (begin_from (after g.path) us ≡ true) ⊎ IsLeftOut bounds.most room out us
@@ -473,7 +473,7 @@ module _ (code : Code) (bounds : Bounds) (rest : Rest) where
       found_later out' none kept v before now end =
           end_too (begin_from (after g.path)) (are_to_come last) room out v before now end come_later (back_later out' none kept)
 
-    -- by what was given last
+    -- the same for the threads given last
     all_same : (l : Option (List ThreadPath)) (g : ThreadPath) (p : Path) (room : ℕ) (out : LeftOut) (before now : List ThreadPath)
         → Some g ≡ first_of l → p ≡ g.path → IsEnd code bounds rest (behind p (others_of l)) room before now out true
         → IsEnd code bounds rest (are_to_come l) room before now out true
@@ -537,7 +537,7 @@ module _ (code : Code) (bounds : Bounds) (rest : Rest) where
     -- From one path to the next.
 
     module _ (start : Path) (room : ℕ) where
-      -- where the search has come to
+      -- the position of the search
       pub record IsAt (found : Found) (out : LeftOut) : Type 0 where
         pub from : Path
         pub first : IsFirst code (scope_of bounds rest next) from found
@@ -548,7 +548,7 @@ module _ (code : Code) (bounds : Bounds) (rest : Rest) where
       at_start found out first = record { from = start; first = first; back = λ q is. is; others = λ us made is. inl is }
 
       module _ (found : Found) (out : LeftOut) (here : IsAt found out) where
-        -- a path of a thread comes after the one that was found, or is left out
+        -- a later path of a thread comes after the one found, or is left out
         left_by : (u : ThreadPath) (us : List ThreadPath) → Made (u ∷ us) → (x : Option Path) → found.path ≡ x → comes_from here.from u.path ≡ true
             → path.IsNotAfter x u.path ⊎ IsLeftOut bounds.most room (with_cut out found.cut) (u ∷ us)
         left_by u us made x is from = by (here.first.others u.path (may_is u made.0 made.1) from)
@@ -589,7 +589,7 @@ module _ (code : Code) (bounds : Bounds) (rest : Rest) where
             by us x is (inl one) = absurd (one.1 is)
             by us x is (inr left) = left
 
-        -- one was
+        -- a path was found
         module _ (p : Path) (is : found.path ≡ Some p) (mid : LeftOut) (mid_is : mid ≡ with_cut out found.cut) (out' : LeftOut) (kept_mid : IsKept mid out') where
           kept : IsKept (with_cut out found.cut) out'
           kept = subst (λ (o : LeftOut). IsKept o out') mid_is kept_mid

@@ -1,4 +1,4 @@
--- Along a path, step by step.
+-- A path, step by step.
 use Rattle.std.proofs.Common.{◌≡◌, ◌∙◌, ℕ, zero, suc, ◌+◌, ◌≤◌, Bool, List, [], ◌∷◌, length, Some, None, refl, ap, arith}
 use Rattle.std.specs.Option.{option_map_or}
 use Rattle.std.proofs.lemmas.List.{length-append}
@@ -17,7 +17,7 @@ module _ (code : Code) (f : ℕ) (o : List Bool) (t : Told) (k : ℕ) (place : t
   abbrev go : ℕ → Instr → Onward → Told
   go n i on = told_from code f n on.outcomes (told_by t i on.place)
 
-  -- where no instruction is, nothing more is said
+  -- past the last instruction nothing changes
   pub past : (n : ℕ) → instr_at code f k ≡ None → told_from code f n o t ≡ t
   past zero at = refl
   past (suc n) at = ap (λ x. option_map_or (λ i. option_map_or (go n i) (onward t.place i o) t) x t) (ap (instr_at code f) place ∙ at)
@@ -26,12 +26,12 @@ module _ (code : Code) (f : ℕ) (o : List Bool) (t : Told) (k : ℕ) (place : t
     abbrev by_instr : (n : ℕ) → told_from code f (suc n) o t ≡ option_map_or (go n i) (onward t.place i o) t
     by_instr n = ap (λ x. option_map_or (λ j. option_map_or (go n j) (onward t.place j o) t) x t) (ap (instr_at code f) place ∙ at)
 
-    -- nor where an outcome is missing
+    -- without an outcome for a branch nothing changes
     pub short : (n : ℕ) → onward k i o' ≡ None → told_from code f n o t ≡ t
     short zero on = refl
     short (suc n) on = by_instr n ∙ ap (λ x. option_map_or (go n i) x t) (ap (λ p. onward p i o) place ∙ ap (onward k i) outcomes ∙ on)
 
-    -- a step further
+    -- one step further
     pub more : (m n : ℕ) (on : Onward) → m ≡ n + 1 → onward k i o' ≡ Some on
         → told_from code f m o t ≡ told_from code f n on.outcomes (told_by t i on.place)
     more zero n on is leads = absurd (omega (arith, is))

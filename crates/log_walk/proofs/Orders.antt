@@ -1,4 +1,4 @@
--- Which paths, and which threads, come after which.
+-- The order of paths and of threads.
 use Rattle.std.proofs.Common.{◌≡◌, ◌∙◌, ℕ, zero, suc, ◌+◌, ◌-◌, ◌*◌, ◌^◌, ◌<◌, ◌≤◌, inl, inr, Bool, true, false, not, ◌&&◌, ◌||◌, List, [], ◌∷◌, length, Option, Some, None, refl, ap, arith, lit<}
 use Rattle.std.specs.Prelude.{◌⊎◌}
 use Rattle.std.proofs.Math.Nat.{pow-suc}
@@ -7,7 +7,7 @@ use Rattle.tc_base.specs.Paths.{Path, ThreadPath}
 use Rattle.thread_paths.specs.Order.{is_from, comes_from}
 use Rattle.log_walk.specs.Order.{are_from}
 
--- the position behind a path
+-- the position right after a path
 abbrev pub after : Path → Path
 after p = record { outcomes = p.outcomes; steps = p.steps + 1 }
 
@@ -16,7 +16,7 @@ from_same [] s t le = le-leb s t le
 from_same (true ∷ o) s t le = from_same o s t le
 from_same (false ∷ o) s t le = from_same o s t le
 
--- a path comes from itself
+-- each path comes from itself
 pub from_itself : (p : Path) → comes_from p p ≡ true
 from_itself p = from_same p.outcomes p.steps p.steps (omega arith)
 
@@ -24,7 +24,7 @@ pub from_all : (o : List Bool) (s : ℕ) → is_from [] 0 o s ≡ true
 from_all [] s = le-leb 0 s (omega arith)
 from_all (b ∷ o) s = refl
 
--- what comes from a path that comes from another comes from that
+-- coming from a path is transitive
 pub from_from : (a : List Bool) (s : ℕ) (b : List Bool) (t : ℕ) (c : List Bool) (u : ℕ)
     → is_from a s b t ≡ true → is_from b t c u ≡ true → is_from a s c u ≡ true
 from_from [] s [] t [] u one two = le-leb s u (omega (arith, leb-true s t one, leb-true t u two))
@@ -40,7 +40,7 @@ from_from (true ∷ a) s (true ∷ b) t (true ∷ c) u one two = from_from a s b
 from_from (false ∷ a) s (true ∷ b) t (false ∷ c) u one two = absurd cc
 from_from (false ∷ a) s (false ∷ b) t (false ∷ c) u one two = from_from a s b t c u one two
 
--- two paths that come from each other are one
+-- two paths that come from each other are the same
 pub one_of_two : (a : List Bool) (s : ℕ) (b : List Bool) (t : ℕ) → is_from a s b t ≡ true → is_from b t a s ≡ true → (a ≡ b) × (s ≡ t)
 one_of_two [] s [] t one two = (refl, omega (arith, leb-true s t one, leb-true t s two))
 one_of_two [] s (y ∷ b) t one two = absurd cc
@@ -55,7 +55,7 @@ same_path p q one two =
     let both = one_of_two p.outcomes p.steps q.outcomes q.steps one two in
     ap (λ o. record { outcomes = o; steps = p.steps }) both.0 ∙ ap (λ s. record { outcomes = q.outcomes; steps = s }) both.1
 
--- one that doesn't come before comes after
+-- a path that doesn't come before another comes after it
 pub not_before : (a : List Bool) (s : ℕ) (b : List Bool) (t : ℕ) → is_from a s b t ≡ false → is_from b (t + 1) a s ≡ true
 not_before [] s [] t isnt = le-leb (t + 1) s (omega (arith, leb-false s t isnt))
 not_before [] s (y ∷ b) t isnt = absurd cc
@@ -65,7 +65,7 @@ not_before (true ∷ a) s (false ∷ b) t isnt = refl
 not_before (true ∷ a) s (true ∷ b) t isnt = not_before a s b t isnt
 not_before (false ∷ a) s (false ∷ b) t isnt = not_before a s b t isnt
 
--- and one that comes after doesn't come before
+-- a path that comes after another doesn't come before it
 pub not_both : (a : List Bool) (s : ℕ) (b : List Bool) (t : ℕ) → is_from b (t + 1) a s ≡ true → is_from a s b t ≡ false
 not_both [] s [] t is = lt-leb s t (omega (arith, leb-true (t + 1) s is))
 not_both [] s (y ∷ b) t is = absurd cc
@@ -75,21 +75,21 @@ not_both (true ∷ a) s (false ∷ b) t is = refl
 not_both (true ∷ a) s (true ∷ b) t is = not_both a s b t is
 not_both (false ∷ a) s (false ∷ b) t is = not_both a s b t is
 
--- what comes after a path comes from it
+-- a path after another comes from it
 pub from_after : (p q : Path) → comes_from (after p) q ≡ true → comes_from p q ≡ true
 from_after p q is =
     from_from p.outcomes p.steps p.outcomes (p.steps + 1) q.outcomes q.steps (from_same p.outcomes p.steps (p.steps + 1) (omega arith)) is
 
 -- Threads.
 
--- threads whose first comes after another's
+-- threads whose first path comes later come later
 pub later_first : (t u : ThreadPath) (ts us : List ThreadPath) → comes_from (after t.path) u.path ≡ true → are_from (t ∷ ts) (u ∷ us) ≡ true
 later_first t u ts us is =
     let does : comes_from t.path u.path ≡ true = from_after t.path u.path is in
     let isnt : comes_from u.path t.path ≡ false = not_both u.path.outcomes u.path.steps t.path.outcomes t.path.steps is in
     ap (λ v. v && (not (comes_from u.path t.path) || are_from ts us)) does ∙ ap (λ v. true && (not v || are_from ts us)) isnt
 
--- and don't come before them
+-- threads whose first path comes later don't come before
 pub later_last : (t u : ThreadPath) (ts us : List ThreadPath) → comes_from (after t.path) u.path ≡ true → are_from (u ∷ us) (t ∷ ts) ≡ false
 later_last t u ts us is =
     let isnt : comes_from u.path t.path ≡ false = not_both u.path.outcomes u.path.steps t.path.outcomes t.path.steps is in
@@ -100,12 +100,12 @@ both_from true true r one two = refl
 both_from true false r one two = absurd cc
 both_from false b r one two = absurd cc
 
--- threads whose first ones come from each other are compared by the others
+-- threads with the same first path are compared by the others
 pub by_others : (t u : ThreadPath) (ts us : List ThreadPath) → comes_from t.path u.path ≡ true → comes_from u.path t.path ≡ true
     → are_from (t ∷ ts) (u ∷ us) ≡ are_from ts us
 by_others t u ts us one two = both_from (comes_from t.path u.path) (comes_from u.path t.path) (are_from ts us) one two
 
--- How far on a path is: a number that grows with each later one.
+-- The rank of a path: a number that grows with each later path.
 
 abbrev pub rank : ℕ → List Bool → ℕ
 rank zero o = 0
@@ -123,7 +123,7 @@ rank_none : (n : ℕ) → rank n [] ≡ 0
 rank_none zero = refl
 rank_none (suc n) = refl
 
--- later outcomes have a greater number, or are the same with more steps
+-- later outcomes have a greater rank, or the same with more steps
 pub rank_later : (n : ℕ) (a : List Bool) (s : ℕ) (b : List Bool) (t : ℕ) → is_from a s b t ≡ true → length a ≤ n → length b ≤ n
     → (rank n a < rank n b) ⊎ ((rank n a ≡ rank n b) × (s ≤ t))
 rank_later n [] s [] t is la lb = inr (refl, leb-true s t is)
@@ -147,7 +147,7 @@ rank_later (suc n) (false ∷ a) s (false ∷ b) t is la lb = more (rank_later n
     more (inl less) = inl (omega (arith, less))
     more (inr same) = inr (omega (arith, same.0), same.1)
 
--- how many paths may come from the one that was found, at most
+-- the greatest number of paths that may come from the one found
 abbrev pub left_of : ℕ → Option Path → ℕ
 left_of n None = 0
 left_of n (Some p) = suc (3 ^ n * 65536 - (rank n p.outcomes * 65536 + p.steps))

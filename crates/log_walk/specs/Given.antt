@@ -1,4 +1,4 @@
--- What is given of the logs.
+-- The result of a search for the next log.
 use Rattle.std.specs.Prelude.{◌≡◌, ℕ, ◌<◌, ◌≤◌, ◌⊎◌, List, length, Bool, true, Option, Some, None, IfSome, nat_lt}
 use Rattle.std.specs.List.{All, list_any}
 use Rattle.tc_base.specs.Paths.{ThreadPath}
@@ -9,7 +9,7 @@ use Rattle.log_walk.specs.Rest.{all, MakeUp}
 use Rattle.log_walk.specs.declared.bounds.Bounds.{Bounds}
 use Rattle.log_walk.specs.declared.bounds.LeftOut.{LeftOut}
 
--- the threads that were found, if there are some, and what was left out in the search for them
+-- the threads found, if any, and what the search left out
 pub record Given : Type 0 where
   pub threads : Option (List ThreadPath)
   pub out : LeftOut
@@ -23,8 +23,8 @@ has_many_steps t = nat_lt STEPS t.path.steps
 abbrev pub is_deep : ThreadPath → Bool
 is_deep t = nat_lt DEPTH (length t.name)
 
--- threads are left out, which is told, since one has too many outcomes, more steps than a log holds or
--- too long a name, or since there are more of them than there is room for
+-- threads are left out, and the report says why: one has too many outcomes, more steps than a log
+-- holds or too long a name, or there are more threads than there is room for
 pub data IsLeftOut (most room : ℕ) (out : LeftOut) (ts : List ThreadPath) : Type 0 where
   Outcomes : out.outcomes ≡ true → list_any (has_many_outcomes most) ts ≡ true → IsLeftOut most room out ts
   Steps : out.steps ≡ true → list_any has_many_steps ts ≡ true → IsLeftOut most room out ts
@@ -43,12 +43,12 @@ pub record IsOne (code : Code) (bounds : Bounds) (ts : List ThreadPath) : Type 0
   pub few : length ts ≤ THREADS
   pub within : All (IsWithin bounds.most) ts
 
--- the threads that were found are these, or come before them
+-- threads were found, and they are these or come before them
 abbrev pub AreNotAfter : Option (List ThreadPath) → List ThreadPath → Type 0
 AreNotAfter None us = ⊥
 AreNotAfter (Some ts) us = are_from ts us ≡ true
 
--- the first threads that make up a log were found of those that are to come, but for those that are left out
+-- the search found the first threads to come that make up a log, apart from those left out
 pub record IsFirst (code : Code) (bounds : Bounds) (last : Option (List ThreadPath)) (given : Given) : Type 0 where
   pub is_one : IfSome given.threads (IsOne code bounds)
   pub to_come : IfSome given.threads (λ ts. are_to_come last ts ≡ true)

@@ -1,2 +1,2 @@
--- No promise speaks of what stands in this folder: private contracts alone cite it.
+-- No promise names a definition of this folder: only private contracts cite them.
 pub mod Searches

@@ -1,6 +1,6 @@
-//! Which logs are looked for, and which are left out.
+//! The logs that a search looks for and leaves out.
 
-/// How the runs end whose logs are looked for.
+/// How the runs of the logs end.
 #[derive(Clone, Copy, Debug, PartialEq, Eq)]
 pub enum Kind {
     /// A thread fails.
@@ -9,24 +9,24 @@ pub enum Kind {
     Deadlock,
 }
 
-/// Which logs are looked for.
+/// The logs that a search looks for.
 #[derive(Clone, Copy, Debug)]
 pub struct Bounds {
     /// How their runs end.
     pub kind: Kind,
-    /// How many outcomes a thread has at most.
+    /// The greatest number of outcomes of a thread.
     pub most: u16,
 }
 
-/// Whether logs were left out.
+/// Whether logs were left out, by reason.
 #[derive(Clone, Copy, Debug, PartialEq, Eq)]
 pub struct LeftOut {
-    /// Since a thread may have more outcomes than were asked for.
+    /// A thread may have more outcomes than the caller allows.
     pub outcomes: bool,
-    /// Since a thread may have more steps than a log holds.
+    /// A thread may have more steps than a log holds.
     pub steps: bool,
-    /// Since a thread may have too long a name.
+    /// A thread may have too long a name.
     pub depth: bool,
-    /// Since there may be too many threads.
+    /// There may be too many threads.
     pub threads: bool,
 }

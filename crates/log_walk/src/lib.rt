@@ -1,9 +1,10 @@
-//! The logs that are enough to find each failure and each deadlock, one after another.
+//! The logs that suffice to find every failure and every deadlock, one after another.
 //!
-//! A log is made thread by thread, in the order of their names. What the path of a creator asks of a child decides how the
-//! child's path may end: who is joined exits, and the child of a create that ends its creator's path does a step that another
-//! thread may have a use for. Between two logs their paths alone are kept: the next log has the next path of its last thread
-//! that has one, and behind that the first path of each later thread.
+//! A log is made thread by thread, in the order of their names. The path of a creator decides how a
+//! child's path may end: a joined child exits, and if the create is the last step of its creator,
+//! the child's last step is one that another thread may use. Only the paths are kept from one log
+//! to the next: the next log has the next path of the last thread that has one, and the first path
+//! of each thread after it.
 #![tactic(auto)]
 
 mod bounds;

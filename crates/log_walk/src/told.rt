@@ -1,4 +1,4 @@
-//! What the path of a thread says of its children and of its end.
+//! What a thread's path determines: its mutexes, its children and its end.
 ghost use Rattle.std.specs.Prelude.{◌≡◌, ◌+◌, ◌<◌, ◌^◌, drop, option_map, length, slice_set, IfOk};
 ghost use Rattle.tc_code.specs.Code.{instr_at};
 ghost use Rattle.path_walk.specs.Steps.{onward, branched, is_site};
@@ -10,18 +10,18 @@ use std::marker::Model;
 use tc_code::{Code, Instr};
 use thread_paths::Path;
 
-/// What a path says.
+/// What a path determines.
 #[derive(Drop)]
 pub struct Told {
     /// For each mutex, whether the thread holds it.
     pub held: Vec<bool>,
-    /// For each thread variable, the number of its child, or 0.
+    /// For each thread variable, the number of its child that isn't joined yet, or 0.
     pub children: Vec<usize>,
     /// The functions of the children created, in order.
     pub created: Vec<usize>,
     /// The numbers of the children joined.
     pub joined: Vec<usize>,
-    /// The place behind the last step.
+    /// The place after the last step.
     pub place: usize,
     /// Whether the last step is at a site.
     pub at_site: bool,
@@ -45,14 +45,14 @@ impl Model for Told {
     } };
 }
 
-/// Where a thread is, and how many of its outcomes it has used.
+/// The place of a thread, and the number of outcomes that it has used.
 #[derive(Clone, Copy)]
 pub struct Position {
     place: usize,
     used: usize,
 }
 
-/// Where a thread goes on after an instruction.
+/// The position of a thread after an instruction.
 fn onward(instr: &Instr, at: Position, outcomes: &[bool]) -> Option<Position>
     requires { at.place + 1 < 2 ^ 64 }
     ensures { option_map (position_of outcomes.now) result ≡ onward at.place instr.now (drop at.used outcomes.now) }
@@ -71,7 +71,7 @@ fn onward(instr: &Instr, at: Position, outcomes: &[bool]) -> Option<Position>
     }
 }
 
-/// Where a thread goes on after a branch: at the target if the outcome is false.
+/// The position after a branch: at the target if the outcome is false.
 fn branched(next: Position, target: u32, outcomes: &[bool]) -> Option<Position>
     ensures { option_map (position_of outcomes.now) result ≡ branched next.place target (drop next.used outcomes.now) }
 {
@@ -83,7 +83,7 @@ fn branched(next: Position, target: u32, outcomes: &[bool]) -> Option<Position>
     })
 }
 
-/// Whether an instruction only tests something, and fails where that is false.
+/// Whether an instruction only tests something, and fails if that is false.
 fn is_site(instr: &Instr) -> bool
     ensures { result ≡ is_site instr.now }
 {
@@ -106,7 +106,7 @@ fn is_create(instr: &Instr) -> bool
 }
 
 impl Told {
-    /// Before the first step of a function.
+    /// What is determined before the first step of a function: nothing.
     fn new(alloc: Global, code: &Code, function: usize) -> Result<Told, AllocError>
         ensures { IfOk result (λ t. t ≡ untold code.now function) }
     {
@@ -125,7 +125,7 @@ impl Told {
         })
     }
 
-    /// What an instruction does with mutexes and children.
+    /// Applies the effect of an instruction on mutexes and children.
     fn change(&mut self, instr: &Instr) -> Result<(), AllocError>
         ensures { IfOk result (λ _. self.new ≡ changed self.old instr.now) }
     {
@@ -150,13 +150,14 @@ impl Told {
                     None => 0,
                 };
                 self.joined.push(child)?;
+                set(&mut self.children, *handle, 0);
             }
             _ => {}
         }
         Ok(())
     }
 
-    /// Does an instruction that leads to a place.
+    /// Applies an instruction that leads to this place.
     fn apply(&mut self, instr: &Instr, to: usize) -> Result<(), AllocError>
         ensures { IfOk result (λ _. self.new ≡ told_by self.old instr.now to) }
     {
@@ -169,7 +170,7 @@ impl Told {
 }
 
 /// Sets an element, if there is one.
-fn set<T: Copy>(items: &mut [T], place: u32, item: T)
+pub fn set<T: Copy>(items: &mut [T], place: u32, item: T)
     ensures { items.new ≡ slice_set items.old place item }
 {
     let place = place as usize;
@@ -178,7 +179,7 @@ fn set<T: Copy>(items: &mut [T], place: u32, item: T)
     }
 }
 
-/// What a path through a function says.
+/// What a path through a function determines.
 pub fn follow(alloc: Global, code: &Code, function: usize, path: &Path) -> Result<Told, AllocError>
     ensures told { IfOk result (λ t. t ≡ told code.now function path.now) }
     ensures few { IfOk result (λ t. length t.created < 2 ^ 16) }

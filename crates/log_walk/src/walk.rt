@@ -16,7 +16,7 @@ use tc_code::Code;
 use tc_limits::limits::{DEPTH, THREADS};
 use thread_paths::{Cut, Found, Path, Scope, first_path, next_path};
 
-/// The threads of a log that were found, if there are some, and what was left out before them.
+/// The threads of a log, if one was found, and what the search left out before it.
 #[derive(Debug, Drop)]
 pub struct Given {
     /// The threads with their paths, in the order of their names.
@@ -41,7 +41,7 @@ struct Walk {
     out: LeftOut,
 }
 
-/// What was left out, with what a search for a path left out.
+/// What was left out, including what a search for a path left out.
 fn with_cut(out: LeftOut, cut: Cut) -> LeftOut
     ensures { result ≡ with_cut out cut }
 {
@@ -82,21 +82,21 @@ fn path_of(alloc: Global, thread: &ThreadPath) -> Result<Path, AllocError>
     })
 }
 
-/// Whether no threads were given last.
+/// Whether no log was given last.
 fn is_none(last: Option<&[ThreadPath]>) -> bool
     ensures { result ≡ is_none (option_map (λ r. r.now) last.entry) }
 {
     last.is_none()
 }
 
-/// The first thread of those that were given last.
+/// The first thread of the log that was given last.
 fn first_of(last: Option<&[ThreadPath]>) -> Option<&ThreadPath>
     ensures { option_map (λ t. t.now) result ≡ first_of (option_map (λ r. r.now) last.entry) }
 {
     last?.first()
 }
 
-/// The threads behind it.
+/// The threads after it.
 fn others_of(last: Option<&[ThreadPath]>) -> Option<&[ThreadPath]>
     ensures { option_map (λ r. r.now) result ≡ others_of (option_map (λ r. r.now) last.entry) }
 {
@@ -126,7 +126,7 @@ impl Walk {
         true
     }
 
-    /// Takes the last thread off.
+    /// Removes the last thread.
     fn take_off(&mut self)
         ensures out { self.new.out ≡ self.old.out }
         ensures threads { (ts : List PlainThread) (t : PlainThread) → self.old.threads.items ≡ ts ++ t ∷ [] → self.new.threads.items ≡ ts }
@@ -135,7 +135,8 @@ impl Walk {
         self.threads.truncate(len.saturating_sub(1));
     }
 
-    /// Adds the first threads that make up a rest and are to come after the last ones, and says whether there are some.
+    /// Adds the first threads that make up a rest and come after the last ones. Returns whether
+    /// there are any.
     #[cycle(search)]
     fn search(
         &mut self,
@@ -152,7 +153,7 @@ impl Walk {
             self.old.threads.items self.new.threads.items self.new.out) }
     {
         let Some(next) = rest.next() else {
-            return Ok(is_none(last) && rest.ends());
+            return Ok(is_none(last) && rest.is_whole());
         };
         if !self.is_open(next, room) {
             return Ok(false);
@@ -179,7 +180,7 @@ impl Walk {
         self.first_from(alloc, code, bounds, rest, next, found, room)
     }
 
-    /// The same of threads that begin with this path, or one that comes after it.
+    /// The same for threads that begin with this path or a later one.
     #[cycle(search)]
     fn first_from(
         &mut self,
@@ -213,7 +214,8 @@ impl Walk {
         }
     }
 
-    /// The same of threads that begin with this path, with later ones that are to come after the last ones.
+    /// The same for threads that begin with this path, followed by threads that come after the last
+    /// ones.
     #[cycle(search)]
     fn below(
         &mut self,
@@ -247,7 +249,7 @@ impl Walk {
     }
 }
 
-/// The first threads that make up a log and are to come after the last ones.
+/// The first threads that make up a log and come after the last ones.
 fn find(
     alloc: Global,
     code: &Code,
@@ -280,7 +282,7 @@ pub fn first_threads(alloc: Global, code: &Code, bounds: Bounds) -> Result<Given
     find(alloc, code, bounds, None)
 }
 
-/// The threads of the first log after one.
+/// The threads of the log after this one.
 pub fn next_threads(
     alloc: Global,
     code: &Code,

@@ -1,4 +1,4 @@
--- The conjuncts of a thread's own events are all true exactly where its rule is met.
+-- The conjuncts of a thread's own events are all true exactly if its rule is met.
 use Rattle.std.proofs.Common.{◌≡◌, ◌≢◌, ◌∙◌, ℕ, ◌<◌, ◌≤◌, inl, inr, if◌then◌else◌, Bool, true, false, not, ◌&&◌, List, [], ◌∷◌, map, Some, refl, ap}
 use Rattle.std.proofs.Common.{sym, subst, arith}
 use Rattle.std.specs.Prelude.{filter, slice_get, option_to_list}
@@ -46,7 +46,7 @@ module _ (buffered : Bool) (bound : Binding) (paths : Paths) (symbolic : Symboli
   abbrev pub formula : List Conjunct
   formula = own_formula buffered bound paths symbolic nodes
 
-  -- the conjuncts of a thread's events, of two of them, and of one and the failing event
+  -- the conjuncts of a thread's events: of two of them, and of one and the failing event
   abbrev pub of_thread : ℕ → Walk → List Conjunct
   of_thread t q = thread_formula buffered bound events symbolic nodes t q
 
@@ -62,7 +62,7 @@ module _ (buffered : Bool) (bound : Binding) (paths : Paths) (symbolic : Symboli
   abbrev pub of_failing : Of Event → List Conjunct
   of_failing x = map (before_failing events x) (filter (λ (f : Of Event). is_failing f.it.kind) events)
 
-  -- what is in the formula
+  -- these conjuncts are in the formula
   in_two : (t : ℕ) (q : Walk) (p : Two Event) (c : Conjunct) → slice_get paths.threads t ≡ Some q → Contains (twos q.events) p → Contains (of_two t p) c
       → Contains formula c
   in_two t q p c at two there =
@@ -94,7 +94,7 @@ module _ (buffered : Bool) (bound : Binding) (paths : Paths) (symbolic : Symboli
       (in_map (before_failing events x) f (filter (λ (g : Of Event). is_failing g.it.kind) events)
       (in_filter (λ (g : Of Event). is_failing g.it.kind) f events second fails)))
 
-  -- and nothing else
+  -- no other conjuncts are in the formula
   pub data IsOwn (c : Conjunct) : Type 0 where
     Always : (t : ℕ) (q : Walk) (p : Two Event) → slice_get paths.threads t ≡ Some q → Contains (twos q.events) p
         → is_kept_next buffered bound symbolic nodes t p ≡ true → always_of t p ≡ c → IsOwn c
@@ -134,20 +134,20 @@ module _ (buffered : Bool) (bound : Binding) (paths : Paths) (symbolic : Symboli
     | inr failing ↦ of_failing_formula c failing
   ]
 
-  -- each is of a thread's own events
+  -- each conjunct is in the group of a thread's own events
   pub own_group : (c : Conjunct) → IsOwn c → (t : ℕ) × (c.group ≡ Own t)
   own_group c (Always t q p at two next is) = (t, ap (λ (d : Conjunct). d.group) (sym is))
   own_group c (Tested t q p test at two kept is) = (t, ap (λ (d : Conjunct). d.group) (sym is))
   own_group c (Failing x f first second before fails is) = (x.thread, ap (λ (d : Conjunct). d.group) (sym is))
 
-  -- the tests that are needed
+  -- the needed tests
   pub in_needs : (t : ℕ) (q : Walk) (p : Two Event) (test : Node) → slice_get paths.threads t ≡ Some q → Contains (twos q.events) p
       → kept_test buffered bound symbolic nodes t p ≡ Some test → Contains (own_needs buffered bound paths symbolic nodes) test
   in_needs t q p test at two is =
       in_each (thread_tests buffered bound symbolic nodes) t q test paths.threads at
       (in_flat_map (two_tests buffered bound symbolic nodes t) p test (twos q.events) two (in_option (kept_test buffered bound symbolic nodes t p) test is))
 
-  -- an event of all is its thread's
+  -- each event belongs to its thread
   pub event_of : (x : Of Event) → Contains events x → HasEvent paths x.thread x.it
   event_of x there =
       let o = of_all_from (λ (q : Walk). q.events) 0 paths.threads x there in
@@ -182,7 +182,7 @@ module _ (buffered : Bool) (bound : Binding) (paths : Paths) (symbolic : Symboli
           told = two_told buffered bound symbolic t nodes w paths are up p (have_cells buffered bound symbolic t paths executed p.first p.second first second);
         }
 
-    -- what the conjuncts say
+    -- the meaning of the conjuncts
     always_says : (t : ℕ) (p : Two Event) → body_at nodes w (always_of t p).body ≡ true → At t p.first < At t p.second
     always_says t p holds =
         let o = some_holds nodes w (Own t) (in_order events t p ∷ []) holds in
@@ -207,7 +207,7 @@ module _ (buffered : Bool) (bound : Binding) (paths : Paths) (symbolic : Symboli
         step_before nodes w paths x.thread x.it.step f.thread f.it.step (ap (literal_at nodes w) (of_one o.0 l o.1) ∙ o.2)
 
     module _ (t : ℕ) where
-      -- where they are all true the rule is met
+      -- if all conjuncts are true, the rule is met
       module _ (h : HoldsIn nodes w formula (Own t)) where
         two_kept : (q : Walk) (p : Two Event) → slice_get paths.threads t ≡ Some q → Contains (twos q.events) p → IsKept t p ≡ true
             → At t p.first < At t p.second
@@ -244,7 +244,7 @@ module _ (buffered : Bool) (bound : Binding) (paths : Paths) (symbolic : Symboli
               | inr (inr more) ↦ absurd (omega (arith, more, turned))
             ]
 
-        -- an event is one of all
+        -- each event of a thread is among all events
         among_all : (u : ℕ) (x : Event) → HasEvent paths u x → Contains events (record { thread = u; it = x })
         among_all u x there = in_all_from (λ (q : Walk). q.events) 0 u u paths.threads there.0 x there.1 there.2 (omega arith)
 
@@ -260,7 +260,7 @@ module _ (buffered : Bool) (bound : Binding) (paths : Paths) (symbolic : Symboli
         pub meets : OwnRule buffered bound paths symbolic nodes w t
         meets = record { own = kept_first; last = before_last }
 
-      -- and the other way round
+      -- if the rule is met, all conjuncts are true
       module _ (r : OwnRule buffered bound paths symbolic nodes w t) where
         two_holds : (u : ℕ) (q : Walk) (p : Two Event) → Own u ≡ Own t → Owned u q p → IsKept u p ≡ true
             → literal_at nodes w (in_order events u p) ≡ true

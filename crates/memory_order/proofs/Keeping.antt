@@ -1,4 +1,4 @@
--- When an event is kept before a later one: always, or where the test of their indexes passes.
+-- An event stays before a later one either always or if the test of their indexes passes.
 use Rattle.std.proofs.Common.{◌≡◌, ◌∙◌, ℕ, ◌==◌, inl, inr, ap₂, Bool, true, false, not, cond, ◌&&◌, ◌||◌, List, []}
 use Rattle.std.proofs.Common.{◌∷◌, Option, Some, None, refl, ap, sym, subst}
 use Rattle.std.specs.Prelude.{is_some, is_none, unwrap_or, option_map, option_and_then}
@@ -28,7 +28,7 @@ use Rattle.order_cells.proofs.Told.{told, tested, either}
 use Rattle.memory_order.specs.Twos.{Two}
 use Rattle.memory_order.specs.Own.{is_settled, keeps, cells_of, is_always_kept, kept_test}
 
--- what keeps two events, as it depends on whether their cells are the same
+-- whether two events are kept in order, as a function of whether their cells are the same
 by_same : (s m k : Bool) (f : Bool → Bool) → f true ≡ true → (s || (m || k && f false)) ≡ true → (same : Bool) → (s || (m || k && f same)) ≡ true
 by_same true m k f up h same = refl
 by_same false true k f up h same = refl
@@ -36,7 +36,8 @@ by_same false false true f up h true = up
 by_same false false true f up h false = h
 by_same false false false f up h same = absurd (false≢true h)
 
--- Of two events, in a world: what is always kept is kept; what has a test is kept where it passes; and nothing else is kept.
+-- In a world, two events that are always kept are kept, those with a test are kept if it passes,
+-- and no others are.
 pub record Told (nodes : List Node) (w : World) (kept always : Bool) (o : Option Node) : Type 0 where
   pub always_kept : always ≡ true → kept ≡ true
   pub tested : (test : Node) → o ≡ Some test → Contains nodes test → kept ≡ passes_at nodes w (id_of nodes test)
@@ -46,12 +47,12 @@ cond_none : (b : Bool) → ◌≡◌ {A = Option Node} (cond b None None) None
 cond_none true = refl
 cond_none false = refl
 
--- what keeps them, and whether their cells are the same
+-- whether two events are kept in order, given whether their cells are the same
 module _ (nodes : List Node) (w : World) (keep : Bool → Bool) (up : keep false ≡ true → (same : Bool) → keep same ≡ true) (same : Bool) where
   abbrev is_unsure : Bool
   is_unsure = keep true && not (keep false)
 
-  -- where it is kept exactly if they are
+  -- the two are kept in order exactly if their cells are the same
   unsure_is : is_unsure ≡ true → keep same ≡ same
   unsure_is unsure = by same
     where
@@ -62,7 +63,7 @@ module _ (nodes : List Node) (w : World) (keep : Bool → Bool) (up : keep false
       by true = parts.0
       by false = not-true (keep false) parts.1
 
-  -- where that is known, in one way or the other
+  -- the case in which it is known whether the cells are the same
   known_told : (v : Bool) (o : Option Node) → same ≡ v → is_some o ≡ false → Told nodes w (keep same) (keep v) (cond is_unsure o None)
   known_told v None is none = record {
     always_kept = λ h. ap keep is ∙ h;
@@ -71,7 +72,7 @@ module _ (nodes : List Node) (w : World) (keep : Bool → Bool) (up : keep false
   }
   known_told v (Some test) is none = absurd (true≢false none)
 
-  -- where a test tells it
+  -- a test decides whether the cells are the same
   test_told : (test : Node) → (Contains nodes test → same ≡ passes_at nodes w (id_of nodes test))
       → Told nodes w (keep same) (keep false) (cond is_unsure (Some test) None)
   test_told test passes = record {
@@ -102,7 +103,7 @@ find_some {X} p (z ∷ zs) x i hit = by (p z) refl (λ rest. find_some p zs x re
     ]
 
 module _ (buffered : Bool) (bound : Binding) (symbolic : Symbolic) (t : ℕ) where
-  -- the two cells of a thread's stores are there
+  -- the cells of a thread's stores exist
   store_has_cell : (paths : Paths) → IsExecutedBy paths symbolic → (x : Event) → HasEvent paths t x → is_store x.kind ≡ true
       → (a : Cell) × (cell_of symbolic t x.step ≡ Some a)
   store_has_cell paths executed x there store =
@@ -114,10 +115,10 @@ module _ (buffered : Bool) (bound : Binding) (symbolic : Symbolic) (t : ℕ) whe
             ∙ ap (option_map (λ (a : Access). a.cell)) f.1,
       )
 
-  -- what is so of two events whether or not they have cells
+  -- two events with cells, or for which cells don't matter
   pub data HaveCells (x y : Event) : Type 0 where
     Cells : (a b : Cell) → cell_of symbolic t x.step ≡ Some a → cell_of symbolic t y.step ≡ Some b → HaveCells x y
-    -- whether they are the same changes nothing
+    -- whether the cells are the same changes nothing
     Apart : ((same other : Bool) → keeps buffered bound same x y ≡ keeps buffered bound other x y) → HaveCells x y
 
   apart_first : (x y : Event) → is_store x.kind ≡ false → (same other : Bool) → keeps buffered bound same x y ≡ keeps buffered bound other x y
@@ -153,7 +154,7 @@ module _ (buffered : Bool) (bound : Binding) (symbolic : Symbolic) (t : ℕ) whe
         let barred = not (p.first.bars == p.second.bars) in
         by_same (is_settled buffered p.first.kind) (not (may_overtake p.second.kind)) (is_store p.second.kind) (λ b. bound b barred) (up barred) h same
 
-    -- of two cells
+    -- the same for two cells
     cells_told : (p : Two Event) (a b : Cell) (o : Option Bool) (test : Option Node) → known_same nodes a b ≡ o → same_test nodes a b ≡ test
         → Told nodes w (keeps buffered bound (is_same_cell nodes w a b) p.first p.second) (keeps buffered bound (unwrap_or o false) p.first p.second)
         (cond (keeps buffered bound true p.first p.second && not (keeps buffered bound false p.first p.second)) test None)

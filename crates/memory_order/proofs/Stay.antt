@@ -1,4 +1,4 @@
--- More terms change nothing of the formula, once those that it needs are there.
+-- Once the needed terms exist, more terms don't change the formula.
 use Rattle.std.proofs.Common.{◌≡◌, ◌∙◌, ℕ, Bool, true, false, not, cond, ◌&&◌, ◌||◌, List, [], ◌∷◌, ◌++◌, map, length}
 use Rattle.std.proofs.Common.{Option, Some, None, refl, ap, ap₂, sym, subst}
 use Rattle.std.specs.Prelude.{unwrap_or, option_map, option_and_then, slice_get, option_to_list, ◌==◌}
@@ -47,7 +47,7 @@ each_agree : {A X : Type 0} (f g : ℕ → A → List X) (xs : List A) → ((k :
 each_agree {A} f g xs agree =
     flat_map_agree (λ (p : ℕ × A). f p.0 p.1) (λ (p : ℕ × A). g p.0 p.1) (enumerate_from 0 xs) (λ p i. agree p.0 p.1 (of_enumerated p xs i))
 
--- the cell of a step is that of an access
+-- the cell of a step is that of its access
 of_find : {X : Type 0} (p : X → Bool) (xs : List X) (x : X) → find p xs ≡ Some x → Contains xs x
 of_find p xs x is = at_in xs (position_or_len p xs) x (sym (find_at p xs) ∙ is)
 
@@ -74,7 +74,7 @@ both_there (Some a) (Some b) c is =
     let e = same_Some (a, b) c is in (ap (λ (d : Cell × Cell). Some d.0) e, ap (λ (d : Cell × Cell). Some d.1) e)
 
 module _ (symbolic : Symbolic) (nodes : List Node) (have : HaveTerms nodes symbolic) where
-  -- their indexes are among the terms
+  -- the indexes of the cells are among the terms
   pub cell_within : (t k : ℕ) (c : Cell) → cell_of symbolic t k ≡ Some c → CellIsOf (length nodes) c
   cell_within t k c is =
       let a = cell_has_access symbolic t k c is in subst (CellIsOf (length nodes)) a.2 (have t a.0 a.1).cell
@@ -130,7 +130,7 @@ module _ (symbolic : Symbolic) (nodes : List Node) (have : HaveTerms nodes symbo
           by (Some test) there =
               ap (λ id. one_of (Own t) (fails id ∷ in_order events t p ∷ []) ∷ []) (id_stays nodes later test grows (there test refl))
 
-      -- of all threads
+      -- the tests that all threads need are the same with later nodes
       pub needs_later : (paths : Paths) → own_needs buffered bound paths symbolic later ≡ own_needs buffered bound paths symbolic nodes
       needs_later paths =
           each_agree (thread_tests buffered bound symbolic later) (thread_tests buffered bound symbolic nodes) paths.threads (λ t q at.
@@ -147,7 +147,7 @@ module _ (symbolic : Symbolic) (nodes : List Node) (have : HaveTerms nodes symbo
           (λ p i. two_later events t p (λ test is. All-contains (Contains nodes) (own_needs buffered bound paths symbolic nodes) test needed
           (in_needs buffered bound paths symbolic nodes t q p test at i is)))))
 
--- the test of two events of which one is kept before the other exactly where their cells are one
+-- the test for two events that are kept in order exactly if their cells are the same
 pub test_of_cells : (buffered : Bool) (bound : Binding) (symbolic : Symbolic) (nodes : List Node) (t : ℕ) (p : Two Event) (c : Cell × Cell)
     → keeps buffered bound true p.first p.second ≡ true → keeps buffered bound false p.first p.second ≡ false
     → cells_of symbolic t p.first p.second ≡ Some c

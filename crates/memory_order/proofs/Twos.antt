@@ -1,4 +1,4 @@
--- Where the two elements of each pair stand, and that pairs of neighbours tell of all pairs.
+-- The places of the two elements of each pair; pairs of neighbours imply all pairs.
 use Rattle.std.proofs.Common.{◌≡◌, ◌∙◌, ℕ, zero, suc, ◌+◌, ◌<◌, inl, inr, Bool, true, not, ◌&&◌, List, [], ◌∷◌, ◌++◌, length}
 use Rattle.std.proofs.Common.{Some, slice_get, refl, ap, sym, subst, arith, append_assoc}
 use Rattle.std.specs.List.{Contains, list_any}
@@ -22,13 +22,13 @@ around (y ∷ ys) x i = elim (of_cons x y ys i) [
   | inr rest ↦ (let a = around ys x rest in record { before = y ∷ a.before; after = a.after; is = ap (λ zs. y ∷ zs) a.is })
 ]
 
--- a list around two
+-- a list around two elements
 pub record IsTwo {X : Type 0} (xs : List X) (p : Two X) : Type 0 where
   pub before : List X
   pub after : List X
   pub is : xs ≡ before ++ p.first ∷ (p.between ++ p.second ∷ after)
 
--- what an element makes with one of those after it
+-- an element paired with one after it
 abbrev two : {X : Type 0} → X → List X → X → Two X
 two x between y = record { first = x; between = between; second = y }
 
@@ -53,7 +53,7 @@ in_parts (b ∷ bs) x between y after =
 pub in_twos : {X : Type 0} (xs : List X) (p : Two X) → IsTwo xs p → Contains (twos xs) p
 in_twos xs p t = subst (λ zs. Contains (twos zs) p) (sym t.is) (in_parts t.before p.first p.between p.second t.after)
 
--- and the other way round
+-- each such pair comes from an element after it
 record IsWith {X : Type 0} (x : X) (between after : List X) (p : Two X) : Type 0 where
   first : x ≡ p.first
   mid : List X
@@ -135,8 +135,7 @@ two_at (z ∷ zs) (suc j) (suc k) x y first second less =
     let t = two_at zs j k x y first second (omega (arith, less)) in
     record { between = t.between; among = Contains-append_right (twos_with z [] zs) (twos zs) (two x t.between y) t.among }
 
--- A relation that is asked of elements, and where they are. Where it holds of two, and of none between them on both sides, and such
--- two are in order, then all two are of which it holds.
+-- If related elements with no related element between them are in order, all related elements are.
 module _ {X : Type 0} (related : X → X → Bool) (at : X → ℕ) (xs : List X) where
   abbrev pub is_through : Two X → X → Bool
   is_through p z = related p.first z && related z p.second
@@ -148,7 +147,7 @@ module _ {X : Type 0} (related : X → X → Bool) (at : X → ℕ) (xs : List X
   IsInOrder p = at p.first < at p.second
 
   module _ (next : (p : Two X) → Contains (twos xs) p → are_next p ≡ true → IsInOrder p) where
-    -- by the number of elements between them
+    -- by induction on the number of elements between them
     by_distance : (n : ℕ) (p : Two X) → length p.between < n → IsTwo xs p → related p.first p.second ≡ true → IsInOrder p
     by_distance zero p few t holds = absurd (omega (arith, few))
     by_distance (suc n) p few t holds = elim (cases_Bool (list_any (is_through p) p.between)) [

@@ -1,4 +1,4 @@
--- All events that the formula names are the order's, and all its terms are there.
+-- All events of the formula belong to the order, and all its terms exist.
 use Rattle.std.proofs.Common.{◌≡◌, ℕ, ◌<◌, Bool, List, [], ◌∷◌, length, Some, slice_get, refl, sym, subst}
 use Rattle.std.specs.List.{All, Contains}
 use Rattle.std.proofs.lemmas.List.Elements.{All-nil, All-cons, All-contains}

@@ -1,11 +1,11 @@
--- Of a list those of which something holds, found one by one.
+-- The items of a list with a property, found one by one.
 use Rattle.std.proofs.Common.{◌≡◌, ◌⊎◌, inl, inr, sym, subst, refl, append_assoc, Bool, true, false, List, [], ◌∷◌, ◌++◌}
 use Rattle.std.specs.Prelude.{◌↔◌, if◌then◌else◌}
 use Rattle.std.proofs.lemmas.Bool.{false≢true}
 use Rattle.std.proofs.lemmas.List.{append-nil}
 use Rattle.next_tokens.specs.Next.{ArePicked}
 
--- whatever is picked of the rest, what was found and that is picked of all
+-- the items found so far, together with those of the rest, are those of the whole list
 pub record IsSoFar {A : Type 0} (P : A → Type 0) (all found rest : List A) : Type 0 where
   pub completes : (picked : List A) → ArePicked P rest picked → ArePicked P all (found ++ picked)
 

@@ -1,4 +1,4 @@
--- What a reader's answer to some words says of what goes on with them.
+-- What a reader's answer to some words says about the words that may follow.
 use Rattle.std.proofs.Common.{◌≡◌, ◌≤◌, ◌<◌, ◌+◌, ◌-◌, zero, suc, sym, subst, refl, ap, arith, append_assoc, ℕ, Bool, true, false, List, [], ◌∷◌, ◌++◌, length, take, drop, take-append-drop, nat_eq, eqb-true, eq-eqb, Option, Some, None, is_some, not}
 use Rattle.std.specs.Prelude.{◌↔◌, unwrap_or}
 use Rattle.std.proofs.lemmas.Bool.{false≢true}
@@ -17,7 +17,7 @@ spelled_begins words p is = record {
   is = subst (λ (ws : List Word). IsSpelled 3 ws p) (sym (append-nil words)) is;
 }
 
--- where words begin a program, so do those at their front
+-- if words begin a program, so does a first part of them
 front_begins : (front back : List Word) → Begins 3 (front ++ back) → Begins 3 front
 front_begins front back b = record {
   program = b.program;
@@ -25,14 +25,14 @@ front_begins front back b = record {
   is = subst (λ (ws : List Word). IsSpelled 3 ws b.program) (append_assoc front back b.more) b.is;
 }
 
--- where no word is left at the fault, the words begin a program
+-- if no word is left at the fault, the words begin a program
 zero_begins : (words : List Word) (n : ℕ) → n ≡ 0 → IsSyntaxFault 3 words (length words - n) → Begins 3 words
 zero_begins words n none fault =
     let all : length words - n ≡ length words = omega (arith, none) in
     subst (λ (ws : List Word). Begins 3 ws) (take-length words)
     (subst (λ (k : ℕ). Begins 3 (take k words)) all fault.before)
 
--- and only there
+-- words that begin a program leave no word at the fault
 begins_zero : (words : List Word) (n : ℕ) → n ≤ length words → IsSyntaxFault 3 words (length words - n) → Begins 3 words → n ≡ 0
 begins_zero words zero within fault b = refl
 begins_zero words (suc n) within fault b =
@@ -47,7 +47,7 @@ left_begins words n within fault = (
   λ b. eq-eqb n 0 (begins_zero words n within fault b),
 )
 
--- the same of what a reader finds
+-- the same for the result of a reader
 pub begins_by : (words : List Word) (left : Option ℕ) → IsLeft words left → (nat_eq (unwrap_or left 0) 0 ≡ true) ↔ Begins 3 words
 begins_by words None is = (λ e. spelled_begins words is.0 is.1, λ b. refl)
 begins_by words (Some n) stop = left_begins words n stop.0 stop.1

@@ -1,4 +1,4 @@
--- What a search of a text with a syntax fault finds.
+-- The result of a search of a text with a syntax fault.
 use Rattle.std.proofs.Common.{◌≡◌, ◌∙◌, ap, sym, subst, ℕ, List, Option, Some, None, Result, Ok, Err, IfOk, MatchOption}
 use Rattle.tc_lexer.specs.declared.place.Place.{Place}
 use Rattle.tc_lexer.specs.declared.token.Token.{Token}
@@ -16,7 +16,7 @@ use Rattle.next_tokens.specs.helpers.Searched.{IsSearched}
 use Rattle.next_tokens.specs.declared.stuck.Stuck.{Stuck}
 
 module _ (text : List ℕ) (place : Place) (fault : IsTextFault 3 text (Parse (Syntax place))) where
-  -- the text has these tokens alone, in which the fault is
+  -- the text has only these tokens, and the fault is in them
   its_fault : (tokens : List Token) → tokens ≡ fault.tokens → IsSyntaxFault 3 (words_of tokens) fault.is.2.0
   its_fault tokens same = subst (λ (ts : List Token). IsSyntaxFault 3 (words_of ts) fault.is.2.0) (sym same) fault.is.2.1
 
@@ -33,7 +33,7 @@ module _ (text : List ℕ) (place : Place) (fault : IsTextFault 3 text (Parse (S
       let at = one_syntax_fault 3 (words_of s.0) fault.is.2.0 stuck.place (its_fault s.0 same) s.2.fault in
       (s.0, s.1, s.2, its_place s.0 stuck.place same at)
 
--- what was found of the tokens of a text is of the text
+-- a result for the tokens of a text is one for the text
 pub searched : {E : Type 0} (text : List ℕ) (tokens : List Token) (found : Result (Option Stuck) E) → AreTokens 3 text tokens
     → IfOk found (λ stuck. MatchOption stuck (AreProgram (words_of tokens)) (IsStuck (words_of tokens))) → IfOk found (IsSearched text)
 searched text tokens (Err e) read h = tt

@@ -35,7 +35,7 @@ sample k = kind_word k 0 0 (record { line = 1; col = 1 })
 abbrev pub GoesOnWith : List Word → TokenKind → Type 0
 GoesOnWith before k = Begins 3 (before ++ sample k ∷ [])
 
--- the items of the first list of which this holds, in its order
+-- the second list has those items of the first that have this property, in the same order
 abbrev pub ArePicked : {A : Type 0} → (A → Type 0) → List A → List A → Type 0
 ArePicked {A} P [] picked = picked ≡ []
 ArePicked {A} P (x ∷ xs) picked =

@@ -1,2 +1,2 @@
--- Helpers that no promise speaks of.
+-- No promise names a definition of this folder: only private contracts cite them.
 pub mod Searched

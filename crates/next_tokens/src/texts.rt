@@ -14,7 +14,7 @@ use tc_lexer::{Token, Tokens, lex};
 use tc_parser::{ParseFault, TextFault};
 use tc_tree::Word;
 
-/// The tokens that are possible at the fault of a text, if it is one of syntax.
+/// The tokens that are possible at the fault of a text, if it is a syntax fault.
 pub fn stuck_of(alloc: Global, text: &[u8], fault: &TextFault) -> Result<Option<Stuck>, AllocError>
     requires size { length text.now ≤ PROGRAM_BYTES }
     requires fault { IsTextFault 3 text.now fault.now }
@@ -26,7 +26,7 @@ pub fn stuck_of(alloc: Global, text: &[u8], fault: &TextFault) -> Result<Option<
     }
 }
 
-/// The same of a text that has tokens.
+/// The same for a text that has tokens.
 fn stuck_of_parse(
     alloc: Global,
     text: &[u8],

@@ -1,4 +1,4 @@
--- In a deadlock each thread that is blocked has a cause.
+-- In a deadlock each blocked thread has a cause.
 use Rattle.std.proofs.Common.{◌≡◌, ◌∙◌, ℕ, true, false, length, List, Some, IsSome, sym, ap, subst, arith}
 use Rattle.std.proofs.lemmas.Bool.{false≢true}
 use Rattle.tc_base.specs.Names.{Name, child}
@@ -14,14 +14,15 @@ use Rattle.path_walk.specs.declared.event.Blocked.{Blocked}
 use Rattle.path_walk.specs.declared.event.Blocked.TheVariants.{Lock, Wake, Join}
 use Rattle.path_laws.specs.Setting.{Setting}
 use Rattle.path_laws.specs.events.Done.{IsOpenAfter}
-use Rattle.path_laws.specs.history.Along.{IsThread}
+use Rattle.path_laws.specs.history.Along.{IsThread, PathThread, path_thread}
 use Rattle.path_laws.specs.stuck.Blocked.{asked_at}
 use Rattle.path_laws.proofs.of_events.Owners.{took_it, region_owned}
 use Rattle.path_laws.proofs.of_events.Waiters.{exits_told}
 use Rattle.path_laws.proofs.of_stuck.Stuck.{blocked_is_left}
 use Rattle.normal_logs.specs.Ends.{IsHeldAtEnd, NeverExits}
 use Rattle.normal_logs.specs.Normal.{HasCause}
-use Rattle.normal_logs.proofs.Reproduced.{along, fits, done}
+use Rattle.normal_logs.proofs.Reproduced.{done}
+use Rattle.path_laws.proofs.of_history.Logged.{history_again}
 
 module _ {B : Type 0} (setting : Setting B) (moves : List Move) (again : Reproduces setting.ops setting.code setting.log moves) where
   open setting use {ops, code, log}
@@ -29,31 +30,26 @@ module _ {B : Type 0} (setting : Setting B) (moves : List Move) (again : Reprodu
   abbrev h : List Deed
   h = history ops code moves
 
-  -- an owned mutex is held by the path of its owner
+  -- the path of a mutex's owner holds it at its end
   held : (m : ℕ) → IsSome (owner_in h m) → IsHeldAtEnd code log m
   held m some =
       let o = some_value (owner_in h m) some in
-      let fit = fits setting moves again in
-      let all = along setting moves again in
-      let t = (took_it setting fit h all m o.0 o.1).thread in
-      let r =
-      (region_owned setting fit h all t.place t.walk t.there m).0 (o.1 ∙ ap (λ n. Some n) (sym t.name)) in
-      let ends = done setting moves again t.place t.walk t.there in
+      let t = (took_it setting (history_again setting moves again) m o.0 o.1).thread in
+      let r = (region_owned setting (history_again setting moves again) t.thread m).0 (o.1 ∙ ap (λ n. Some n) (sym t.name_is)) in
+      let ends = done setting moves again t.thread in
       record {
-        place = t.place;
+        place = t.index;
         walk = t.walk;
         there = t.there;
         holds = record { region = r.0; there = r.1; of = r.2; lasts = subst (λ n. IsOpenAfter n r.0) ends r.3 };
       }
 
-  -- who hasn't exited has no exit on its path
+  -- a thread that hasn't exited has no exit on its path
   runs_on : (n : Name) → has_exited_in h n ≡ false → NeverExits code log n
   runs_on n going j w there name ends =
-      let all : steps_in h w.name ≡ length w.places = done setting moves again j w there in
-      let gone =
-      (exits_told setting (fits setting moves again) h
-      (along setting moves again) j w there).1
-      (ends.event, ends.there, ends.asks, omega (arith, all, ends.last)) in
+      let thread : PathThread code log = path_thread j w there in
+      let every : steps_in h w.name ≡ length w.places = done setting moves again thread in
+      let gone = (exits_told setting (history_again setting moves again) thread).1 (ends.event, ends.there, ends.asks, omega (arith, every, ends.last)) in
       false≢true (sym going ∙ ap (has_exited_in h) (sym name) ∙ gone)
 
   cause_by : (w : Walk) (b : Blocked) → IsBlockedIn h w.name (asked_at b) → HasCause code log w b
@@ -63,4 +59,4 @@ module _ {B : Type 0} (setting : Setting B) (moves : List Move) (again : Reprodu
 
   pub caused : log.failing ≡ Deadlock → (j : ℕ) (w : Walk) (b : Blocked) → IsThread code log j w → w.blocked ≡ Some b → HasCause code log w b
   caused dead j w b there blocked =
-      cause_by w b (blocked_is_left setting dead moves again j w there b blocked).1.blocked
+      cause_by w b (blocked_is_left setting dead moves again (path_thread j w there) b blocked).1.blocked

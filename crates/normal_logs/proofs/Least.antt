@@ -1,4 +1,5 @@
--- Where no step can be left out of a run, each thread but the failing one ends with a step that another may have a use for.
+-- If no step can be removed from a run, each thread except the failing one ends with a step that
+-- another may use.
 use Rattle.std.proofs.Common.{◌≡◌, ◌∙◌, ◌⊎◌, inl, inr, ℕ, zero, suc, ◌+◌, ◌<◌, ◌==◌, ℤ, Bool, true, false, not, ◌&&◌, List, [], ◌∷◌, ◌++◌, length, cond}
 use Rattle.std.proofs.Common.{Option, Some, None, refl, sym, ap, subst, arith, append_assoc, true≢false}
 use Rattle.std.specs.Prelude.{option_map, option_and_then}
@@ -23,13 +24,11 @@ use Rattle.run_history.proofs.Lists.{last_or-push}
 use Rattle.run_history.proofs.of_pending.In.{in_split, any_in}
 use Rattle.run_follows.specs.Follow.{AllFollow, OtherIs}
 use Rattle.path_walk.specs.Fits.{fails_in}
-use Rattle.path_walk.specs.Paths.{Walk}
 use Rattle.path_walk.specs.declared.event.EventKind.{EventKind}
 use Rattle.path_walk.specs.declared.event.EventKind.TheVariants as kind
 use Rattle.path_laws.specs.Setting.{Setting}
 use Rattle.path_laws.specs.Deeds.{kind_of}
 use Rattle.path_laws.specs.Prefixes.{fails_by}
-use Rattle.path_laws.specs.history.Along.{IsThread}
 use Rattle.path_laws.proofs.Prefixes.{fails_as}
 use Rattle.path_laws.proofs.of_events.Lists.{contains_in}
 use Rattle.path_laws.proofs.of_events.Steps.{steps_both, steps_first, deed_of}
@@ -37,7 +36,9 @@ use Rattle.least_runs.specs.Least.{IsLeast}
 use Rattle.least_runs.specs.Unused.{is_await_of, is_unused}
 use Rattle.normal_logs.specs.Ends.{EndsWith, IsJoined, EndsUsed}
 use Rattle.normal_logs.proofs.Deeds.{joins_thread}
-use Rattle.normal_logs.proofs.Reproduced.{run, along, fits, follow, step_named, acts, done, ends_with, join_there}
+use Rattle.normal_logs.proofs.Reproduced.{run, follow, step_named, acts, done, ends_with, join_there}
+use Rattle.path_laws.specs.history.Along.{PathThread}
+use Rattle.path_laws.proofs.of_history.Logged.{history_again}
 
 -- nothing comes after a failure
 fails_last : (buffered : Bool) (bound : Binding) (code : Code) (h older newer : List Deed) (n : Name) (k : ℕ) (v : ℤ) (o : Option Name)
@@ -75,12 +76,14 @@ module _ {B : Type 0} (setting : Setting B) (moves : List Move) (again : Reprodu
       let state_failed : again.state.failed ≡ Some f = (run setting moves again).told.tells.failure ∙ failed in
       is_eq-slice_cmp n f ∙ sym (ap (λ o. fails_by o n) state_failed) ∙ sym (fails_as ops code log moves again n) ∙ other
 
-  module _ (j : ℕ) (w : Walk) (there : IsThread code log j w) (other_thread : fails_in log w.name ≡ false) where
+  module _ (thread : PathThread code log) (other_thread : fails_in log thread.name ≡ false) where
+    open thread use {walk as w}
+
     module _ (older newer : List Deed) (k : ℕ) (took : ℤ) (other : Option Name) (last : k + 1 ≡ length w.places) where
       ends : (r : Request) (asked : EventKind) → h ≡ older ++ Did w.name k r took other ∷ newer → kind_of r other ≡ Some asked → EndsWith w asked
-      ends r asked at asks = ends_with setting moves again j w there older newer k r took other asked at last asks
+      ends r asked at asks = ends_with setting moves again thread older newer k r took other asked at last asks
 
-      -- an exit that somebody awaits
+      -- an exit for which some thread waits
       joined : h ≡ older ++ Did w.name k Finish took other ∷ newer → list_any (is_await_of w.name) newer ≡ true → IsJoined code log w.name
       joined at any =
           let deed = Did w.name k Finish took other in
@@ -94,15 +97,15 @@ module _ {B : Type 0} (setting : Setting B) (moves : List Move) (again : Reprodu
           let t =
           step_named setting moves again front s.newer a.thread a.number (Await a.join) a.took a.other whole in
           let l =
-          join_there setting moves again t.place t.walk t.there front s.newer a.number a.join a.took a.other
-          (whole ∙ ap (λ q. front ++ Did q a.number (Await a.join) a.took a.other ∷ s.newer) (sym t.name)) in
+          join_there setting moves again t.thread front s.newer a.number a.join a.took a.other
+          (whole ∙ ap (λ q. front ++ Did q a.number (Await a.join) a.took a.other ∷ s.newer) (sym t.name_is)) in
           record {
-            place = t.place;
+            place = t.index;
             walk = t.walk;
             there = t.there;
             join = l.0;
             joins = contains_in l.0 t.walk.joins l.1;
-            name = a.name ∙ ap (λ q. child q a.join) (sym t.name) ∙ ap (child t.walk.name) (sym l.2);
+            name = a.name ∙ ap (λ q. child q a.join) (sym t.name_is) ∙ ap (child t.walk.name) (sym l.2);
           }
 
       -- a create whose child does a step
@@ -147,18 +150,16 @@ module _ {B : Type 0} (setting : Setting B) (moves : List Move) (again : Reprodu
     pub used : (places : List ℕ) → w.places ≡ places → (w.places ≡ []) ⊎ EndsUsed code log w
     used [] e = inl e
     used (p ∷ ps) e =
-        let all : steps_in h w.name ≡ length w.places = done setting moves again j w there in
+        let every : steps_in h w.name ≡ length w.places = done setting moves again thread in
         let long : length w.places ≡ length ps + 1 = ap length e ∙ omega arith in
-        let d =
-        deed_of setting (fits setting moves again) h
-        (along setting moves again) j w there (length ps) (omega (arith, all, long)) in
+        let d = deed_of setting (history_again setting moves again) thread (length ps) (omega (arith, every, long)) in
         let deed = Did w.name (length ps) d.request d.took d.other in
         let count : steps_in h w.name ≡ steps_in d.older w.name + (1 + steps_in d.newer w.name) =
         ap (λ g. steps_in g w.name) d.at ∙ steps_both d.older (deed ∷ d.newer) w.name
         ∙ ap (λ m. steps_in d.older w.name + m)
         (steps_first deed d.newer w.name ∙ ap (λ b. cond b 1 0 + steps_in d.newer w.name) (same_self w.name w.name refl)) in
         let number : length ps ≡ steps_in d.older w.name = d.step.may.number in
-        let none : steps_in d.newer w.name ≡ 0 = omega (arith, all, long, count, number) in
+        let none : steps_in d.newer w.name ≡ 0 = omega (arith, every, long, count, number) in
         let needed : is_unused d.request w.name d.other d.newer ≡ false =
         subst (λ c. (c == 0 && is_unused d.request w.name d.other d.newer) ≡ false) none
         (least d.older d.newer deed d.at (apart w.name other_thread)) in

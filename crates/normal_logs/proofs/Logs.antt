@@ -1,4 +1,4 @@
--- A failure or a deadlock is that of a normal log.
+-- Each failure and each deadlock has a normal log.
 use Rattle.std.proofs.Common.{◌≡◌, ◌∙◌, ℕ, Bool, true, List, ◌++◌, length, Option, Some, None, IsSome, refl, sym, ap, subst, arith}
 use Rattle.std.specs.Prelude.{option_map, slice_get, IsSomeAnd}
 use Rattle.std.specs.FinMap as fin
@@ -36,13 +36,14 @@ use Rattle.normal_logs.specs.Within.{Allowed, at_most, HasBeginnings, ComesTo, R
 use Rattle.normal_logs.proofs.Reproduced.{fit_together}
 use Rattle.normal_logs.proofs.Least.{used}
 use Rattle.normal_logs.proofs.Deadlock.{caused}
+use Rattle.path_laws.specs.history.Along.{path_thread}
 
 module _ {B : Type 0} where
   path_of_local : (o : Option (Thread B)) → option_map path_by (option_map (λ (t : Thread B). t.local) o) ≡ option_map path_of o
   path_of_local None = refl
   path_of_local (Some t) = refl
 
-  -- the path of a thread is allowed where its outcomes are
+  -- the path of a thread is allowed if its outcomes are
   bounded_by : (s : State B) (n : Name) (a : List Bool → Bool) → ((t : Thread B) → fin.get s.threads n ≡ Some t → a t.local.outcomes ≡ true)
       → (o : Option (Thread B)) → fin.get s.threads n ≡ o → (p : Path) → option_map path_of o ≡ Some p → a p.outcomes ≡ true
   bounded_by s n a within None here p is = absurd (none-some p is)
@@ -52,7 +53,7 @@ module _ {B : Type 0} where
       → (p : Path) → path_in s n ≡ Some p → a p.outcomes ≡ true
   bounded s n a within p is = bounded_by s n a within (fin.get s.threads n) refl p is
 
-  -- a state in which no thread has failed isn't the end of a failure's log
+  -- a state without a failed thread isn't the end of a failure's log
   not_failed : (s : State B) → s.failed ≡ None → (o : Option ThreadPath) → IsSomeAnd o (λ t. s.failed ≡ Some t.name) → ⊥
   not_failed s none None e = absurd e
   not_failed s none (Some t) e = none-some t.name (sym none ∙ e)
@@ -64,7 +65,7 @@ module _ {B : Type 0} (machine : Machine B) (allowed : Allowed) where
   deadlock_by s (failing.Thread k) ts none e = absurd (not_failed s none (slice_get ts k) e)
   deadlock_by s failing.Deadlock ts none e = refl
 
-  -- a log that is reproduced leads to a state within its bound
+  -- a log whose paths are allowed leads to a state with allowed outcomes
   within_log : (log : Log) (moves : List Move) (again : Reproduces ops code log moves)
       → ((n : Name) (p : Path) → path_under n log.threads ≡ Some p → allowed n p.outcomes ≡ true)
       → (n : Name) (t : Thread B) → fin.get again.state.threads n ≡ Some t → allowed n t.local.outcomes ≡ true
@@ -159,7 +160,7 @@ module _ {B : Type 0} (machine : Machine B) (allowed : Allowed) where
         fails = subst IsSome (sym stored.1.failing) (some_is reached.0.failed f state_failed);
         used = λ j w there other.
             used (record { machine = machine; log = log; log_is = stored.1.is_log }) moves again f failed_there
-            (subst (IsLeast f) (sym reached.2) least.least) j w there other w.places refl;
+            (subst (IsLeast f) (sym reached.2) least.least) (path_thread j w there) other w.places refl;
       };
       under = stored.1.model;
       within = within;
@@ -170,7 +171,7 @@ module _ {B : Type 0} (machine : Machine B) (allowed : Allowed) where
   pub fails_to : HasBeginnings allowed → ComesTo ops code allowed (λ s. IsSome s.failed) → ReproducesSome ops code allowed model (IsNormal code)
   fails_to begins c = let f = some_value c.state.failed c.is in fails_by begins c f.0 f.1
 
--- the beginning of a list of at most `most` has at most `most`
+-- a first part of at most `most` outcomes has at most `most`
 pub few_begin : (most : ℕ) → HasBeginnings (at_most most)
 few_begin most n first later few =
     let within = leb-true (length (first ++ later)) most few in

@@ -1,4 +1,4 @@
--- What a log tells that some moves reproduce.
+-- Facts on a log that some moves reproduce.
 use Rattle.std.proofs.Common.{◌≡◌, ◌∙◌, ℕ, zero, suc, ◌+◌, ◌<◌, ℤ, true, List, ◌∷◌, ◌++◌, length, cond, Option, Some, refl, sym, ap, subst, arith, append_assoc}
 use Rattle.std.proofs.lemmas.Option.{none-some, same_Some}
 use Rattle.tc_base.specs.Names.{Name, child}
@@ -13,7 +13,6 @@ use Rattle.run_history.proofs.of_pending.In.{In, in_split, any_in, in_mapped, fr
 use Rattle.run_follows.specs.Follow.{AllFollow, StepsAreOfThreads}
 use Rattle.run_log.specs.Logs.{is_log}
 use Rattle.path_walk.specs.Events.{join_by, joins_of}
-use Rattle.path_walk.specs.Fits.{Fits}
 use Rattle.path_walk.specs.Paths.{Walk}
 use Rattle.path_walk.specs.declared.event.Event.{Event}
 use Rattle.path_walk.specs.declared.event.EventKind.{EventKind}
@@ -22,10 +21,10 @@ use Rattle.path_walk.specs.declared.event.Link.{Link}
 use Rattle.path_laws.specs.Setting.{Setting}
 use Rattle.path_laws.specs.Deeds.{kind_of}
 use Rattle.path_laws.specs.events.Done.{IsOpenAfter}
-use Rattle.path_laws.specs.history.Along.{IsAlongPaths, IsThread, IsNameOfThread, HasDoneAll}
-use Rattle.path_laws.proofs.Logs.{reproduced_fits, reproduced_alive}
-use Rattle.path_laws.proofs.of_history.Told.{RunOf, reproduced_run, reproduced_along, first_along}
-use Rattle.path_laws.proofs.of_history.Logged.{has_done}
+use Rattle.path_laws.specs.history.Along.{IsThread, IsNameOfThread, HasDoneAll, HistoryAlong, PathThread, path_thread}
+use Rattle.path_laws.proofs.Logs.{reproduced_alive}
+use Rattle.path_laws.proofs.of_history.Told.{RunOf, reproduced_run, up_to}
+use Rattle.path_laws.proofs.of_history.Logged.{has_done, history_again}
 use Rattle.path_laws.proofs.of_history.Walks.{IsWalk, walk_is, thread_named}
 use Rattle.path_laws.proofs.of_events.Lists.{in_contains, contains_in}
 use Rattle.path_laws.proofs.of_events.Events.{event_done, done_event, event_within}
@@ -46,7 +45,7 @@ join_of step kind.Load l e = absurd (none-some l e)
 join_of step k l e = absurd (none-some l e)
 
 module _ {B : Type 0} (setting : Setting B) (moves : List Move) (again : Reproduces setting.ops setting.code setting.log moves) where
-  open setting use {machine, ops, model, bound, laws, code, lawful, log, log_is as is}
+  open setting use {machine, ops, bound, code, log, log_is as is}
 
   abbrev pub h : List Deed
   h = history ops code moves
@@ -54,11 +53,8 @@ module _ {B : Type 0} (setting : Setting B) (moves : List Move) (again : Reprodu
   abbrev pub run : RunOf machine log h
   run = reproduced_run machine log moves again
 
-  abbrev pub along : IsAlongPaths ops.buffered bound code log h
-  along = reproduced_along machine log moves again
-
-  abbrev pub fits : Fits code log
-  fits = reproduced_fits code ops model bound laws lawful log moves again
+  abbrev all : HistoryAlong setting
+  all = history_again setting moves again
 
   pub follow : AllFollow ops.buffered bound code h
   follow = run.told.follow
@@ -66,15 +62,13 @@ module _ {B : Type 0} (setting : Setting B) (moves : List Move) (again : Reprodu
   pub threads : StepsAreOfThreads h
   threads = run.told.threads
 
-  -- who does a step is a thread of the paths
+  -- a thread that does a step is one of the paths
   pub step_named : (older newer : List Deed) (n : Name) (k : ℕ) (r : Request) (v : ℤ) (o : Option Name) → h ≡ older ++ Did n k r v o ∷ newer
       → IsNameOfThread code log n
   step_named older newer n k r v o at =
-      let first =
-      first_along machine log older (Did n k r v o ∷ newer) (subst (IsAlongPaths ops.buffered bound code log) at along) in
-      thread_named setting fits older n first (threads older newer n k r v o at).there
+      thread_named setting (up_to setting all older (Did n k r v o ∷ newer) at) n (threads older newer n k r v o at).there
 
-  -- who does a step in a later part of the history has a step on its path
+  -- a thread that does a step in a later part of the history has a step on its path
   pub acts : (older newer : List Deed) (n : Name) → h ≡ older ++ newer → 0 < steps_in newer n → Acts code log n
   acts older newer n at some =
       let s = step_at newer n 0 some in
@@ -82,16 +76,18 @@ module _ {B : Type 0} (setting : Setting B) (moves : List Move) (again : Reprodu
       let whole : h ≡ (older ++ s.older) ++ deed ∷ s.newer = at ∙ ap (λ g. older ++ g) s.there ∙ sym (append_assoc older s.older (deed ∷ s.newer)) in
       let t = step_named (older ++ s.older) s.newer n s.number s.request s.took s.other whole in
       let count : steps_in h n ≡ steps_in older n + steps_in newer n = ap (λ g. steps_in g n) at ∙ steps_both older newer n in
-      let all : steps_in h t.walk.name ≡ length t.walk.places = has_done setting moves again t.place t.walk t.there in
-      let own : steps_in h t.walk.name ≡ steps_in h n = ap (steps_in h) t.name in
-      record { place = t.place; walk = t.walk; there = t.there; name = t.name; steps = omega (arith, some, count, all, own) }
+      let every : steps_in h t.walk.name ≡ length t.walk.places = has_done setting moves again t.thread in
+      let own : steps_in h t.walk.name ≡ steps_in h n = ap (steps_in h) t.name_is in
+      record { place = t.index; walk = t.walk; there = t.there; name = t.name_is; steps = omega (arith, some, count, every, own) }
 
-  module _ (j : ℕ) (w : Walk) (there : IsThread code log j w) where
+  module _ (thread : PathThread code log) where
+    open thread use {walk as w}
+
     pub done : HasDoneAll h w
-    done = has_done setting moves again j w there
+    done = has_done setting moves again thread
 
     pub walk : IsWalk code log w
-    walk = walk_is code log is fits j w there
+    walk = walk_is code log is all.fits thread
 
     -- a step after which the thread does nothing is the last of its path
     pub last_number : (older newer : List Deed) (k : ℕ) (r : Request) (v : ℤ) (o : Option Name) → h ≡ older ++ Did w.name k r v o ∷ newer
@@ -103,15 +99,15 @@ module _ {B : Type 0} (setting : Setting B) (moves : List Move) (again : Reprodu
         ap (λ g. steps_in g w.name) at ∙ steps_both older (deed ∷ newer) w.name
         ∙ ap (λ m. steps_in older w.name + m)
         (steps_first deed newer w.name ∙ ap (λ b. cond b 1 0 + steps_in newer w.name) (same_self w.name w.name refl)) in
-        let all : steps_in h w.name ≡ length w.places = done in
-        omega (arith, number, count, none, all)
+        let every : steps_in h w.name ≡ length w.places = done in
+        omega (arith, number, count, none, every)
 
-    -- with what it asks the path ends
+    -- the path ends with the event of that step
     pub ends_with : (older newer : List Deed) (k : ℕ) (r : Request) (v : ℤ) (o : Option Name) (asked : EventKind) → h ≡ older ++ Did w.name k r v o ∷ newer
         → k + 1 ≡ length w.places → kind_of r o ≡ Some asked → EndsWith w asked
     ends_with older newer k r v o asked at last asks =
         let x =
-        done_event setting fits h along j w there k asked
+        done_event setting all thread k asked
         (record { older = older; newer = newer; request = r; took = v; other = o; there = at; asks = asks }) in
         record { event = x.0; there = contains_in x.0 w.events x.1; asks = x.3; last = ap (λ i. i + 1) x.2 ∙ last }
 
@@ -131,18 +127,18 @@ module _ {B : Type 0} (setting : Setting B) (moves : List Move) (again : Reprodu
         nothing zero h = refl
         nothing (suc n) h = absurd (h (omega arith))
 
-    -- the joins of a path are those among its events
+    -- the joins of a path are those of its events
     joins_are : w.joins ≡ joins_of w.events
     joins_are = subst (λ (x : Walk). x.joins ≡ joins_of x.events) (sym walk.is) refl
 
-    -- a join on the path was done
+    -- each join of the path was done
     pub joins_done : (l : Link) → In l w.joins → has_exited_in h (child w.name l.child) ≡ true
     joins_done l i =
         let from = from_mapped (λ (e : Event). join_by e.step e.kind) l w.events (subst (In l) joins_are i) in
         let asks = join_of from.of.step from.of.kind l from.gives in
         let within = event_within code log w walk from.of from.there in
-        let all : steps_in h w.name ≡ length w.places = done in
-        let d = event_done setting fits h along j w there from.of from.there (omega (arith, within, all)) in
+        let every : steps_in h w.name ≡ length w.places = done in
+        let d = event_done setting all thread from.of from.there (omega (arith, within, every)) in
         let request = await_is d.request d.other l.child (d.asks ∙ ap (λ k. Some k) asks) in
         let at : h ≡ d.older ++ Did w.name from.of.step (Await l.child) d.took d.other ∷ d.newer =
         d.there ∙ ap (λ r. d.older ++ Did w.name from.of.step r d.took d.other ∷ d.newer) request in
@@ -150,12 +146,12 @@ module _ {B : Type 0} (setting : Setting B) (moves : List Move) (again : Reprodu
         ∙ joined_exited ops.buffered bound code d.older d.newer w.name from.of.step l.child d.took d.other
         (subst (AllFollow ops.buffered bound code) at follow)
 
-    -- and a join that was done is on the path
+    -- each join that was done is on the path
     pub join_there : (older newer : List Deed) (k c : ℕ) (v : ℤ) (o : Option Name) → h ≡ older ++ Did w.name k (Await c) v o ∷ newer
         → (l : Link) × In l w.joins × (l.child ≡ c)
     join_there older newer k c v o at =
         let x =
-        done_event setting fits h along j w there k (kind.Join c)
+        done_event setting all thread k (kind.Join c)
         (record { older = older; newer = newer; request = Await c; took = v; other = o; there = at; asks = refl }) in
         let l = link x.0.step c in
         let gives : join_by x.0.step x.0.kind ≡ Some l = ap (join_by x.0.step) x.3 in
@@ -163,20 +159,20 @@ module _ {B : Type 0} (setting : Setting B) (moves : List Move) (again : Reprodu
 
   pub joined_ends : (j : ℕ) (w : Walk) → IsThread code log j w → IsJoined code log w.name → EndsWith w kind.Exit
   joined_ends j w there joined =
-      let gone = joins_done joined.place joined.walk joined.there joined.join (in_contains joined.join joined.walk.joins joined.joins) in
-      ends_with_exit j w there (ap (has_exited_in h) joined.name ∙ gone)
+      let gone = joins_done (path_thread joined.place joined.walk joined.there) joined.join (in_contains joined.join joined.walk.joins joined.joins) in
+      ends_with_exit (path_thread j w there) (ap (has_exited_in h) joined.name ∙ gone)
 
-  -- who holds a mutex at the end of its path owns it
+  -- a thread that holds a mutex at the end of its path owns it
   pub end_owned : (j m : ℕ) (w : Walk) → IsThread code log j w → HoldsAtEnd w m → owner_in h m ≡ Some w.name
   end_owned j m w there holds =
-      (region_owned setting fits h along j w there m).1
-      (holds.region, holds.there, holds.of, subst (λ n. IsOpenAfter n holds.region) (sym (done j w there)) holds.lasts)
+      (region_owned setting all (path_thread j w there) m).1
+      (holds.region, holds.there, holds.of, subst (λ n. IsOpenAfter n holds.region) (sym (done (path_thread j w there))) holds.lasts)
 
   pub fit_together : FitTogether code log
   fit_together = record {
     is_log = is;
-    fits = fits;
-    possible = reproduced_alive code ops model bound laws lawful log moves again;
+    fits = all.fits;
+    possible = reproduced_alive machine log moves again;
     joined = joined_ends;
     apart = λ i j m v w here there first second.
         same_Some v.name w.name (sym (end_owned i m v here first) ∙ end_owned j m w there second);

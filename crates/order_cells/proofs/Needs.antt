@@ -1,4 +1,4 @@
--- Nodes that are needed: they are there once they are made, and keep their names while there are more.
+-- Needed nodes exist once they are made, and keep their ids.
 use Rattle.std.proofs.Common.{◌≡◌, ℕ, ◌<◌, ℤ, Bool, true, false, List, get_or, arith, [], ◌∷◌, ◌++◌, length, Some, slice_get, refl, ap, sym, subst, ◌∙◌}
 use Rattle.std.specs.Prelude.{fold}
 use Rattle.std.specs.List.{All, Contains, list_any, position_or_len}
@@ -15,11 +15,11 @@ use Rattle.sym_terms.proofs.Same.{same_decides}
 use Rattle.sym_exec.specs.Making.{Grows}
 use Rattle.sym_exec.proofs.Grown.{grows_none, grows_both}
 
--- some node is the same as one that is there
+-- a node of the list is known
 pub is_known : (nodes : List Node) (node : Node) → Contains nodes node → list_any (same_node node) nodes ≡ true
 is_known nodes node i = list_any_at (same_node node) nodes i.0 node i.1 (ap (same_node node) i.2 ∙ (same_decides node node).1 refl)
 
--- its name
+-- the id of a node in the list is below its length
 pub id_within : (nodes : List Node) (node : Node) → Contains nodes node → id_of nodes node < length nodes
 id_within nodes node i = any_within (same_node node) nodes (is_known nodes node i)
 
@@ -31,7 +31,7 @@ pub id_stays : (nodes later : List Node) (node : Node) → Grows nodes later →
 id_stays nodes later node g i = ap (λ ns. id_of ns node) g.1 ∙ first_stays (same_node node) nodes g.0 (is_known nodes node i)
 
 module _ (nodes : List Node) (loads : List ℤ) (are : AreTerms nodes) where
-  -- its value, over the values of its parts
+  -- the value of a node, from the values of its parts
   pub value_at : (id : ℕ) (node : Node) → slice_get nodes id ≡ Some node → value_of nodes loads id ≡ node_value (values_of nodes loads) loads node
   value_at id node at =
       let within = slice_get_within nodes id node at in
@@ -44,7 +44,7 @@ module _ (nodes : List Node) (loads : List ℤ) (are : AreTerms nodes) where
       let at : slice_get nodes i.0 ≡ Some node = slice_get-get_or nodes i.0 node i.1 ∙ ap Some i.2 in
       ap (value_of nodes loads) (is_there nodes node i.0 are at).1 ∙ value_at i.0 node at
 
--- the name that it is given is its name
+-- the id that it gets is its id
 pub id_made : (nodes : List Node) (node : Node) → id_of (with_node nodes node) node ≡ id_of nodes node
 id_made nodes node = by (list_any (same_node node) nodes) refl
   where
@@ -55,11 +55,11 @@ id_made nodes node = by (list_any (same_node node) nodes) refl
     by true is = rw is refl
     by false is = rw is (position_or_len_push (same_node node) nodes node ∙ grind (arith, same, none_past (same_node node) nodes is))
 
--- it stays
+-- a node of the list is in each later list
 pub there_later : (nodes later : List Node) (node : Node) → Grows nodes later → Contains nodes node → Contains later node
 there_later nodes later node g i = subst (λ ns. Contains ns node) (sym g.1) (Contains-append_left nodes g.0 node i)
 
--- a node is there once it is made, and all are
+-- a node is in the list once it is made
 pub made_there : (nodes : List Node) (node : Node) → Contains (with_node nodes node) node
 made_there nodes node =
     let all = with_node nodes node in

@@ -1,4 +1,4 @@
--- What is known of two cells stays as it is while terms are added.
+-- What is known of two cells stays the same while terms are added.
 use Rattle.std.proofs.Common.{◌≡◌, ◌∙◌, ℕ, ◌<◌, cond, ◌&&◌, ◌==◌, List, ◌++◌, length, Option, Some, None, refl, ap, ap₂, sym, arith}
 use Rattle.std.proofs.Common.{length-append, pos, true, false}
 use Rattle.std.specs.Prelude.{fold, is_none, option_map, option_and_then, option_to_list}
@@ -58,7 +58,7 @@ module _ (nodes more : List Node) where
   same_stays w (Element f m i) (Element g n j) first second =
       ap₂ (λ x y. f == g && int_eq x y) (keep nodes more w.loads i first) (keep nodes more w.loads j second)
 
--- the name of the test that tells of two cells, once it is made, and later
+-- the id of the test of two cells, once it is made and later
 pub made_later : (nodes later : List Node) (a b : Cell) → CellIsOf (length nodes) a → CellIsOf (length nodes) b
     → Grows (fold with_node nodes (option_to_list (same_test nodes a b))) later
     → option_map (id_of nodes) (same_test nodes a b) ≡ option_map (id_of later) (same_test later a b)
@@ -75,7 +75,7 @@ made_later nodes later a b first second g = by (same_test nodes a b) g ∙ sym (
     by (Some test) g =
         ap Some (sym (id_made nodes test) ∙ sym (id_stays (with_node nodes test) later test g (made_there nodes test)))
 
--- terms of accesses are there among more terms
+-- the terms of an access stay terms
 cell_later : (nodes later : List Node) (c : Cell) → Grows nodes later → CellIsOf (length nodes) c → CellIsOf (length later) c
 cell_later nodes later (Fixed c) g below = tt
 cell_later nodes later (Element f m i) g below = stays_within nodes later i g below

@@ -1,4 +1,4 @@
--- What is known of two cells holds in every world, and the test tells the rest.
+-- What is known of two cells holds in every world, and the test decides the rest.
 use Rattle.std.proofs.Common.{◌≡◌, ℕ, ℤ, pos, Bool, true, false, cond, not, ◌&&◌, ◌==◌, List, get_or, Option, Some, None, refl, ap, ap₂}
 use Rattle.std.proofs.Common.{sym, subst, ◌∙◌}
 use Rattle.std.specs.Prelude.{is_some, is_none, option_map, option_and_then, slice_get}
@@ -26,7 +26,7 @@ module _ (nodes : List Node) (w : World) where
   abbrev value : ℕ → ℤ
   value term = value_of nodes w.loads term
 
-  -- a constant has its number
+  -- a constant has its value
   number_at : (term : ℕ) (node : Node) (n : ℤ) → slice_get nodes term ≡ Some node → number_in node ≡ Some n → value term ≡ n
   number_at term (Constant m) n at is =
       let node : get_or nodes term (Constant m) ≡ Constant m = get_or_from_slice_get nodes term (Constant m) (Constant m) at in
@@ -87,7 +87,7 @@ module _ (nodes : List Node) (w : World) where
       by true is = passes (cond_some (is_none (known_equal nodes i j)) (Binary Eq i j) test is).1
       by false is = absurd (none-some test is)
 
--- there is a test exactly where nothing is known
+-- there is a test exactly if nothing is known
 pub either : (nodes : List Node) (a b : Cell) → is_some (same_test nodes a b) ≡ is_none (known_same nodes a b)
 either nodes (Fixed c) (Fixed d) = refl
 either nodes (Fixed c) (Element g n j) = refl

@@ -1,4 +1,4 @@
--- What is in lists that are made of others, and what passes a test there.
+-- Elements of derived lists, and elements that pass a test.
 use Rattle.std.proofs.Common.{◌≡◌, ◌∙◌, ℕ, zero, suc, ◌+◌, ◌<◌, ◌⊎◌, inl, inr, Bool, true, false, cond, List, [], ◌∷◌, map, length, get_or}
 use Rattle.std.proofs.Common.{Option, Some, None, refl, sym, ap, subst, arith}
 use Rattle.std.specs.Prelude.{slice_get}
@@ -61,7 +61,7 @@ of_flat_map f y (z ∷ zs) i = elim (Contains-append_cases (f z) (flat_map f zs)
   | inr rest ↦ let o = of_flat_map f y zs rest in (o.0, in_back o.0 z zs o.1, o.2)
 ]
 
--- what a test leaves
+-- the elements that pass a test
 pub in_filter : {X : Type 0} (p : X → Bool) (x : X) (xs : List X) → Contains xs x → p x ≡ true → Contains (filter p xs) x
 in_filter p x [] i hit = absurd (of_nil x i)
 in_filter {X} p x (z ∷ zs) i hit = elim (of_cons x z zs i) [
@@ -103,7 +103,7 @@ in_filter_map {X} {Y} h x y (z ∷ zs) i gives = elim (of_cons x z zs i) [
     further None j = j
     further (Some a) j = in_back y a (filter_map h zs) j
 
--- an element of which a function gives something
+-- an element from which a function gives this
 abbrev Giver : {X Y : Type 0} → (X → Option Y) → Y → List X → Type 0
 Giver {X} h y xs = (x : X) × Contains xs x × (h x ≡ Some y)
 

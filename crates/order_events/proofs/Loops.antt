@@ -1,4 +1,4 @@
--- What a loop over a list has made, one element on.
+-- The result of a loop over a list, with one more element.
 use Rattle.std.proofs.Common.{◌≡◌, ◌∙◌, ℕ, ◌+◌, ◌<◌, List, [], ◌∷◌, ◌++◌, length, map, get_or, take, sym, ap, append_assoc, append-nil, arith}
 use Rattle.std.specs.List.{enumerate_from, flat_map}
 use Rattle.std.proofs.lemmas.List.{take_more, length-take-le, get_or_default}
@@ -43,7 +43,7 @@ module _ {A : Type 0} (xs : List A) (i : ℕ) (x : A) (within : i < length xs) (
         flat_more single (front ∙ ap (λ zs. old ++ zs) (sym (flat_map_single f (take i xs)))) step
         ∙ ap (λ zs. old ++ zs) (flat_map_single f (take (i + 1) xs))
 
--- the same where the element is read by its place
+-- the same if the element is read by its place
 module _ {A X : Type 0} (xs : List A) (i : ℕ) (d : A) (within : i < length xs) (old mid new : List X) where
   here : get_or xs i d ≡ get_or xs i (get_or xs i d)
   here = get_or_default xs i d (get_or xs i d) within

@@ -1,4 +1,4 @@
--- What threads have, one thread after another, and the numbers of steps.
+-- Elements of threads, one thread after another, and the numbers of steps.
 use Rattle.std.proofs.Common.{◌≡◌, ◌∙◌, ℕ, zero, suc, ◌+◌, ◌<◌, inl, inr, Bool, true, false, not, cond, ◌&&◌, ◌||◌, ◌==◌, List, [], ◌∷◌, ◌++◌, map}
 use Rattle.std.proofs.Common.{length, take, get_or, Some, refl, sym, ap, subst, arith, append_assoc}
 use Rattle.std.specs.Prelude.{slice_get}
@@ -13,7 +13,7 @@ use Rattle.lawful_order.specs.Events.{Of, all_from, all_events, number_of}
 use Rattle.lawful_order.specs.Whole.{HasStep}
 use Rattle.order_events.proofs.Lists.{of_nil, of_cons, in_map, of_map}
 
--- a thread more, the last
+-- one more thread, the last
 pub all_from_push : {W X : Type 0} (has : W → List X) (t : ℕ) (ws : List W) (w : W)
     → all_from has t (ws ++ w ∷ []) ≡ all_from has t ws ++ map (λ x. record { thread = t + length ws; it = x }) (has w)
 all_from_push has t [] w =
@@ -38,7 +38,7 @@ walks_on {W} {X} has ws k w old mid new xs within at own front step =
     ∙ append_assoc old before (map (λ x. record { thread = k; it = x }) xs)
     ∙ ap (λ ys. old ++ (before ++ map (λ x. record { thread = k; it = x }) ys)) own ∙ ap (λ zs. old ++ zs) (sym more)
 
--- what a thread has is there
+-- an element of a thread is in the list
 pub in_all_from : {W X : Type 0} (has : W → List X) (t u n : ℕ) (ws : List W) (w : W) (x : X) → slice_get ws u ≡ Some w → Contains (has w) x → t + u ≡ n
     → Contains (all_from has t ws) (record { thread = n; it = x })
 in_all_from has t u n [] w x at i sum = cc
@@ -54,7 +54,7 @@ in_all_from {W} {X} has t (suc u) n (v ∷ ws) w x at i sum =
     Contains-append_right (map (λ y. record { thread = t; it = y }) (has v)) (all_from has (t + 1) ws) own
     (in_all_from has (t + 1) u n ws w x at i (omega (arith, sum)))
 
--- and nothing else
+-- each element of the list belongs to a thread
 pub record IsOfThread {W X : Type 0} (has : W → List X) (t : ℕ) (ws : List W) (x : Of X) : Type 0 where
   pub place : ℕ
   pub owner : W
@@ -82,7 +82,7 @@ of_all_from {W} {X} has t (v ∷ ws) x i =
     later : IsOfThread has (t + 1) ws x → IsOfThread has t (v ∷ ws) x
     later o = record { place = suc o.place; owner = o.owner; at = o.at; thread = omega (arith, o.thread); among = o.among }
 
--- where an element passes, a first one does
+-- if an element passes, a first one does
 pub first_within : {X : Type 0} (p : X → Bool) (xs : List X) (x : X) → Contains xs x → p x ≡ true → position_or_len p xs < length xs
 first_within p [] x i hit = absurd (of_nil x i)
 first_within {X} p (z ∷ zs) x i hit = by (p z) refl (λ rest. first_within p zs x rest hit)
@@ -94,7 +94,7 @@ first_within {X} p (z ∷ zs) x i hit = by (p z) refl (λ rest. first_within p z
       | inr rest ↦ omega (arith, later rest)
     ]
 
--- a search stops at the first that passes, or at the end
+-- a search stops at the first element that passes, or at the end
 pub first_is : {X : Type 0} (p : X → Bool) (xs : List X) (i : ℕ) (x : X) → list_any p (take i xs) ≡ false → i < length xs → x ≡ get_or xs i x → p x ≡ true
     → i ≡ position_or_len p xs
 first_is p [] i x none within at hit = absurd (omega (arith, within))
@@ -136,7 +136,7 @@ has_number paths t k s =
     first_within (is_step t k) (all_events paths) (record { thread = t; it = s.0 })
     (in_all_from (λ w. w.events) 0 t t paths.threads h.0 s.0 h.1 h.2 (omega arith)) (is_own t k (record { thread = t; it = s.0 }) refl s.2)
 
--- what stands there is the step's event
+-- the event at the number of a step is that step's event
 pub is_step_at : (paths : Paths) (t k : ℕ) (d : Of Event) → number_of paths t k < length (all_events paths)
     → is_step t k (get_or (all_events paths) (number_of paths t k) d) ≡ true
 is_step_at paths t k d within = passes_at_first (is_step t k) (all_events paths) d within

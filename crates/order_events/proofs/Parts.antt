@@ -1,4 +1,4 @@
--- What is in lists that are made of each element and its place, and where a conjunct of single literals is true.
+-- Lists made from each element and its place, and the truth of conjuncts of single literals.
 use Rattle.std.proofs.Common.{◌≡◌, ◌∙◌, ℕ, Bool, true, false, List, [], ◌∷◌, map, Option, Some, None, inl, inr, get_or, refl, sym, ap, if◌then◌else◌}
 use Rattle.std.proofs.Common.{ltb-true, lt-ltb}
 use Rattle.std.specs.Prelude.{slice_get, option_to_list}
@@ -16,7 +16,7 @@ use Rattle.lawful_order.specs.Events.{all_events, place_of, IsBefore}
 use Rattle.order_events.specs.Parts.{of_each, comes_before, one_of}
 use Rattle.order_events.proofs.Lists.{in_front, in_back, of_nil, of_cons, in_map, of_map, in_flat_map, of_flat_map, in_enumerated, of_enumerated, any_in, of_any}
 
--- lists of one element, of what an option has, and of what is only there under a test
+-- lists of one element, of an option, and of an element under a test
 pub of_one : {X : Type 0} (y x : X) → Contains (x ∷ []) y → x ≡ y
 of_one y x i = elim (of_cons y x [] i) [ inl same ↦ same | inr none ↦ absurd (of_nil y none) ]
 
@@ -35,7 +35,7 @@ pub of_if : {X : Type 0} (b : Bool) (y : X) (xs : List X) → Contains (if b the
 of_if true y xs i = (refl, i)
 of_if false y xs i = absurd (of_nil y i)
 
--- of each element and its place
+-- what belongs to an element and its place is in the list for all of them
 pub in_each : {A X : Type 0} (f : ℕ → A → List X) (k : ℕ) (a : A) (y : X) (xs : List A) → slice_get xs k ≡ Some a → Contains (f k a) y
     → Contains (of_each f xs) y
 in_each {A} f k a y xs at there = in_flat_map (λ (p : ℕ × A). f p.0 p.1) (k, a) y (enumerate_from 0 xs) (in_enumerated k a xs at) there
@@ -86,7 +86,7 @@ unwanted_is true is = sym is
 unwanted_is false is = refl
 
 module _ (nodes : List Node) (w : World) where
-  -- one of some literals holds exactly where some literal of them does
+  -- some literal of a list is true exactly if the conjunct of them is
   pub one_holds : (g : Group) (l : Literal) (ls : List Literal) → Contains ls l → literal_at nodes w l ≡ true → body_at nodes w (one_of g ls).body ≡ true
   one_holds g l ls there holds =
       any_in (case_at nodes w) (l ∷ []) (map (λ (k : Literal). k ∷ []) ls) (in_map (λ (k : Literal). k ∷ []) l ls there)

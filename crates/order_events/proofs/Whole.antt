@@ -12,8 +12,8 @@ use Rattle.tc_base.specs.Paths.{ThreadPath}
 use Rattle.tc_code.specs.Code.{Code}
 use Rattle.path_walk.specs.Fits.{ending_of, places_in}
 use Rattle.path_walk.specs.Steps.{Step, is_failing, steps_at}
-use Rattle.path_walk.specs.Marks.{Marks, Marked, unmarked, marked, marked_from}
-use Rattle.path_walk.specs.Events.{event_of, kind_with, takes, leaves, left_at, regions_of, sleep_by, sleeps_of, create_by, creates_of, join_by, joins_of}
+use Rattle.path_walk.specs.Marks.{Marks, Marked, marks_at_start, marks_after_instr, marked_from}
+use Rattle.path_walk.specs.Events.{event_of, kind_with, acquired_mutex, released_mutex, release_step, regions_of, sleep_by, sleeps_of, create_by, creates_of, join_by, joins_of}
 use Rattle.path_walk.specs.Paths.{Walk, Paths, ArePaths, paths_of, walk_of, function_in}
 use Rattle.path_walk.specs.declared.event.Event.{Event}
 use Rattle.path_walk.specs.declared.event.EventKind.{EventKind}
@@ -37,11 +37,11 @@ one_more e es k s = (s.0, in_back s.0 e es s.1, s.2)
 first_of : (e : Event) (es : List Event) → IsStepOf (e ∷ es) e.step
 first_of e es = (e, in_front e es, refl)
 
-left_is_step : (m k : ℕ) (es : List Event) → left_at m es ≡ Some k → IsStepOf es k
+left_is_step : (m k : ℕ) (es : List Event) → release_step m es ≡ Some k → IsStepOf es k
 left_is_step m k [] is = absurd (none-some k is)
-left_is_step m k (e ∷ es) is = by (option_map_or (λ l. l == m) (leaves e.kind) false) is (left_is_step m k es)
+left_is_step m k (e ∷ es) is = by (option_map_or (λ l. l == m) (released_mutex e.kind) false) is (left_is_step m k es)
   where
-    by : (b : Bool) → cond b (Some e.step) (left_at m es) ≡ Some k → (left_at m es ≡ Some k → IsStepOf es k) → IsStepOf (e ∷ es) k
+    by : (b : Bool) → cond b (Some e.step) (release_step m es) ≡ Some k → (release_step m es ≡ Some k → IsStepOf es k) → IsStepOf (e ∷ es) k
     by true h later = subst (λ n. IsStepOf (e ∷ es) n) (same_Some e.step k h) (first_of e es)
     by false h later = one_more e es k (later h)
 
@@ -54,18 +54,18 @@ region_more e es r o = record { taken = one_more e es r.«from» o.taken; left =
 
 regions_are : (es : List Event) (r : Region) → Contains (regions_of es) r → IsRegionOf es r
 regions_are [] r i = absurd (of_nil r i)
-regions_are (e ∷ es) r i = by (takes e.kind) i (regions_are es r)
+regions_are (e ∷ es) r i = by (acquired_mutex e.kind) i (regions_are es r)
   where
-    new : (m : ℕ) → record { mutex = m; «from» = e.step; to = left_at m es } ≡ r → IsRegionOf (e ∷ es) r
+    new : (m : ℕ) → record { mutex = m; «from» = e.step; to = release_step m es } ≡ r → IsRegionOf (e ∷ es) r
     new m same = record {
       taken = subst (λ n. IsStepOf (e ∷ es) n) (ap (λ (s : Region). s.«from») same) (first_of e es);
       left = λ k to. one_more e es k (left_is_step m k es (ap (λ (s : Region). s.to) same ∙ to));
     }
 
-    by : (o : Option ℕ) → Contains (cons_option (option_map (λ m. record { mutex = m; «from» = e.step; to = left_at m es }) o) (regions_of es)) r
+    by : (o : Option ℕ) → Contains (cons_option (option_map (λ m. record { mutex = m; «from» = e.step; to = release_step m es }) o) (regions_of es)) r
         → (Contains (regions_of es) r → IsRegionOf es r) → IsRegionOf (e ∷ es) r
     by None j later = region_more e es r (later j)
-    by (Some m) j later = elim (of_cons r (record { mutex = m; «from» = e.step; to = left_at m es }) (regions_of es) j) [
+    by (Some m) j later = elim (of_cons r (record { mutex = m; «from» = e.step; to = release_step m es }) (regions_of es) j) [
       | inl same ↦ new m same
       | inr rest ↦ region_more e es r (later rest)
     ]
@@ -193,7 +193,7 @@ events_rise : (code : Code) (f : ℕ) (fails : Bool) (k : ℕ) (t : Marks) (step
 events_rise code f fails k t [] = tt
 events_rise code f fails k t (s ∷ steps) =
     event_rises code f k (record { number = k; step = s; fails = fails && length steps == 0; marks = t })
-    (filter_map (event_of code f) (marked_from fails (k + 1) (marked t s.instr) steps)) refl (events_rise code f fails (k + 1) (marked t s.instr) steps)
+    (filter_map (event_of code f) (marked_from fails (k + 1) (marks_after_instr t s.instr) steps)) refl (events_rise code f fails (k + 1) (marks_after_instr t s.instr) steps)
 
 rise_above : (n k : ℕ) (es : List Event) (x : Event) → RiseFrom n es → slice_get es k ≡ Some x → n ≤ x.step
 rise_above n k [] x r at = absurd (none-some x at)
@@ -210,7 +210,7 @@ rise_between n (suc j) (suc k) (e ∷ es) x y r at to less = rise_between (e.ste
 
 -- ---- all threads
 
--- the parts of a thread are those of its events
+-- the parts of a walk come from its events
 record IsWalk (q : Walk) : Type 0 where
   regions : q.regions ≡ regions_of q.events
   sleeps : q.sleeps ≡ sleeps_of q.events
@@ -225,7 +225,7 @@ walk_is code log t = record {
   creates = refl;
   joins = refl;
   rise =
-      events_rise code (function_in code log t) (is_failing (ending_of log t.name)) 0 (unmarked code (function_in code log t))
+      events_rise code (function_in code log t) (is_failing (ending_of log t.name)) 0 (marks_at_start code (function_in code log t))
       (steps_at code (function_in code log t) (places_in code log t.name (function_in code log t)));
 }
 

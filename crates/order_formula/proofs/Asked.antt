@@ -1,4 +1,5 @@
--- What was asked of an order stays there with its number, and what a formula asks is there once the formula was asked.
+-- A question of an order keeps its number, and a formula's questions are in an order that it was
+-- added to.
 use Rattle.std.proofs.Common.{◌≡◌, ℕ, Bool, true, false, ◌||◌, ◌&&◌, ◌==◌, List, [], ◌∷◌, ◌++◌, refl, ap, sym, ◌∙◌, arith}
 use Rattle.std.specs.Prelude.{fold}
 use Rattle.std.specs.List.{All, list_any, position_or_len}
@@ -37,7 +38,7 @@ longer_key e ks k = by (list_any (e k) ks) refl
     by true is = rw is (longer_none ks)
     by false is = rw is (k ∷ [], refl)
 
--- what one of some keys passes one of more passes, and the first that does is the same
+-- an element that passes in a list passes in a longer list, where the first that passes is the same
 any_longer : {K : Type 0} (q : K → Bool) (xs ys : List K) → Longer xs ys → list_any q xs ≡ true → list_any q ys ≡ true
 any_longer q xs ys l any = ap (list_any q) l.1 ∙ list_any-append q xs l.0 ∙ ap (λ b. b || list_any q l.0) any ∙ true-or (list_any q l.0)
 
@@ -48,7 +49,7 @@ first_append q (x ∷ xs) more any = grind (arith, first_append q xs more)
 first_longer : {K : Type 0} (q : K → Bool) (xs ys : List K) → Longer xs ys → list_any q xs ≡ true → position_or_len q ys ≡ position_or_len q xs
 first_longer q xs ys l any = ap (position_or_len q) l.1 ∙ first_append q xs l.0 any
 
--- a key that was put in is there
+-- an inserted key is in the list
 any_key : {K : Type 0} (e : K → K → Bool) (ks : List K) (k : K) → e k k ≡ true → list_any (e k) (insert_key e ks k) ≡ true
 any_key e ks k same = by (list_any (e k) ks) refl
   where
@@ -75,7 +76,7 @@ grows_atom o (Ends sleep by) =
     record { events = refl; sleeps = refl; pairs = longer_none o.pairs; choices = longer_key same_choice o.choices (record { sleep = sleep; by = by }) }
 grows_atom o (Test term) = grows_none o
 
--- an order grows by all of some parts where it grows by each
+-- an order that grows by each part grows by all
 grows_fold : {X : Type 0} (with : Order → X → Order) → ((o : Order) (x : X) → Grows o (with o x)) → (o : Order) (xs : List X) → Grows o (fold with o xs)
 grows_fold with each o [] = grows_none o
 grows_fold with each o (x ∷ xs) = grows_more o (with o x) (fold with (with o x) xs) (each o x) (grows_fold with each (with o x) xs)
@@ -93,7 +94,7 @@ grows_body o (body.Read r) = grows_none o
 pub grows_formula : (o : Order) (formula : List Conjunct) → Grows o (with_formula o formula)
 grows_formula o formula = grows_fold with_conjunct (λ p c. grows_body p c.body) o formula
 
--- what was asked stays so
+-- questions stay in an order that grows
 all_stay : {X : Type 0} (Is : Order → X → Type 0) → ((o p : Order) (x : X) → Grows o p → Is o x → Is p x)
     → (o p : Order) (xs : List X) → Grows o p → All (Is o) xs → All (Is p) xs
 all_stay Is each o p [] g all = All-nil (Is p)
@@ -128,7 +129,7 @@ pub choice_stays : (o p : Order) (choice : Choice) → Grows o p → list_any (s
     → choice_number p choice ≡ choice_number o choice
 choice_stays o p choice g any = first_longer (same_choice choice) o.choices p.choices g.choices any
 
--- and each part was asked once the order has it
+-- the question of each part is in the order with all parts
 all_asked : {X : Type 0} (with : Order → X → Order) (Is : Order → X → Type 0) → ((o : Order) (x : X) → Grows o (with o x))
     → ((o p : Order) (x : X) → Grows o p → Is o x → Is p x) → ((o : Order) (x : X) → Is (with o x) x)
     → (o : Order) (xs : List X) → All (Is (fold with o xs)) xs

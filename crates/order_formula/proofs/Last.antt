@@ -1,4 +1,4 @@
--- What `reduce` picks of the elements that pass a test, where of two it picks the one of the greater key.
+-- The element that `reduce` picks among those that pass a test: the one with the greatest key.
 use Rattle.std.proofs.Common.{◌≡◌, ℕ, ◌≤◌, Bool, true, false, List, [], ◌∷◌, ◌++◌, Option, Some, None, inl, inr, cond, nat_lt, slice_index_or, refl, ap, sym, subst, ◌∙◌, arith}
 use Rattle.std.specs.Prelude.{filter}
 use Rattle.std.specs.List.{Contains, reduce}
@@ -12,7 +12,7 @@ module _ {A : Type 0} (key : A → ℕ) (p : A → Bool) where
   abbrev pub pick : A → A → A
   pick a b = cond (nat_lt (key a) (key b)) b a
 
-  -- none of some elements passes; or this one does, and no other that does has a greater key
+  -- no element passes; or this one does, and no other that passes has a greater key
   abbrev pub NonePasses : List A → Type 0
   NonePasses xs = (d : A) → Contains xs d → p d ≡ false
 
@@ -29,7 +29,7 @@ module _ {A : Type 0} (key : A → ℕ) (p : A → Bool) where
       let first : c.0 ≡ 0 = omega (arith, c.1) in
       sym (subst (λ k. slice_index_or (x ∷ []) k d ≡ d) first c.2)
 
-  -- one more that fails changes nothing
+  -- one more element that fails changes nothing
   fails : (xs : List A) (x : A) (o : Option A) → p x ≡ false → Picks xs o → Picks (xs ++ x ∷ []) o
   fails xs x None lost none = λ d there. elim (Contains-append_cases xs (x ∷ []) d there) [
     | inl before ↦ none d before
@@ -44,7 +44,7 @@ module _ {A : Type 0} (key : A → ℕ) (p : A → Bool) where
     ];
   }
 
-  -- of one that passes and another the greater is picked
+  -- of two that pass, the one with the greater key is picked
   greater : (xs : List A) (x a : A) → p x ≡ true → IsGreatest xs a → (b : Bool) → nat_lt (key a) (key x) ≡ b → IsGreatest (xs ++ x ∷ []) (cond b x a)
   greater xs x a hit g true less = record {
     among = Contains-push xs x;

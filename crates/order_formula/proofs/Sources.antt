@@ -1,4 +1,4 @@
--- The last of the writes that a load sees, as one more is looked at.
+-- The last of the writes that a load sees, with one more write.
 use Rattle.std.proofs.Common.{◌≡◌, ℕ, ◌+◌, ◌<◌, Bool, true, false, List, [], ◌∷◌, ◌++◌, Some, length, get_or, take, cond, refl, ap, ◌∙◌}
 use Rattle.std.specs.Prelude.{filter}
 use Rattle.std.specs.List.{reduce}

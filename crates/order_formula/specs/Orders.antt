@@ -21,8 +21,8 @@ pub record Order : Type 0 where
   pub choices : List Choice
 
 -- an order without questions
-abbrev pub unasked : (events sleeps : ℕ) → Order
-unasked events sleeps = record { events = events; sleeps = sleeps; pairs = []; choices = [] }
+abbrev pub order_without_questions : (events sleeps : ℕ) → Order
+order_without_questions events sleeps = record { events = events; sleeps = sleeps; pairs = []; choices = [] }
 
 -- two events as a pair, the lesser number first
 abbrev pub pair_of : (first second : ℕ) → Pair

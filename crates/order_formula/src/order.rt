@@ -2,7 +2,7 @@
 ghost use Rattle.std.specs.Prelude.{◌≡◌, ◌<◌, ◌≤◌, ◌^◌, ◌-◌, length, fold, position, OnOk, OnErr, IfOk};
 ghost use Rattle.std.specs.List.{All};
 ghost use Rattle.order_formula.specs.Orders.{AtomIsIn, ChoiceIsOf, ConjunctIsIn, Grows, IsOrder, LiteralIsIn, PairIsOf};
-ghost use Rattle.order_formula.specs.Orders.{choice_number, pair_number, pair_of, same_choice, same_pair, unasked};
+ghost use Rattle.order_formula.specs.Orders.{choice_number, pair_number, pair_of, same_choice, same_pair, order_without_questions};
 ghost use Rattle.order_formula.specs.Orders.{with_atom, with_case, with_choice, with_conjunct, with_pair};
 
 use crate::{Atom, Body, Case, Conjunct, Literal};
@@ -53,7 +53,7 @@ impl Model for Order {
 impl Order {
     /// The order of these numbers of events and sleeps, without questions.
     pub fn empty(alloc: Global, events: u32, sleeps: u32) -> Order
-        ensures { result ≡ unasked events sleeps }
+        ensures { result ≡ order_without_questions events sleeps }
     {
         Order {
             events,

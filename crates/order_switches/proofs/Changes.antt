@@ -1,4 +1,4 @@
--- Neighbours that differ, in lists that are joined.
+-- Changes between neighbours, in joined lists.
 use Rattle.std.proofs.Common.{◌≡◌, ◌≢◌, ◌∙◌, ℕ, ◌+◌, ◌≤◌, ◌==◌, Bool, true, false, cond, List, [], ◌∷◌, ◌++◌, Option, Some, None, refl, ap, arith}
 use Rattle.std.specs.Option.{option_map_or}
 use Rattle.std.proofs.lemmas.Bool.{eqb-true}
@@ -11,7 +11,7 @@ pub after_more : (x : ℕ) (ys zs : List ℕ) → changes_after eq x ys ≤ chan
 after_more x [] zs = omega arith
 after_more x (y ∷ ys) zs = omega (arith, after_more y ys zs)
 
--- more elements at the end have no fewer changes
+-- a longer list has at least as many changes
 pub changes_more : (ys zs : List ℕ) → changes eq ys ≤ changes eq (ys ++ zs)
 changes_more [] zs = omega arith
 changes_more (y ∷ ys) zs = after_more y ys zs
@@ -60,7 +60,7 @@ after_push : (x : ℕ) (ys : List ℕ) (y : ℕ) → changes_after eq x (ys ++ y
 after_push x [] y = omega arith
 after_push x (z ∷ ys) y = omega (arith, after_push z ys y)
 
--- the changes with one element more
+-- the changes with one more element
 pub changes_push : (xs : List ℕ) (y : ℕ) → changes eq (xs ++ y ∷ []) ≡ changes eq xs + option_map_or (λ x. cond (x == y) 0 1) (last_of xs) 0
 changes_push [] y = refl
 changes_push (x ∷ xs) y = after_push x xs y

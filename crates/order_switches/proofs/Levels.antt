@@ -1,4 +1,4 @@
--- Levels of positions, and the changes of what stands at them.
+-- Levels of positions, and the changes of the values at them.
 use Rattle.std.proofs.Common.{◌≡◌, ◌≢◌, ◌∙◌, ℕ, zero, suc, ◌+◌, ◌-◌, ◌<◌, ◌≤◌, ◌==◌, Bool, true, false, cond, List, [], ◌∷◌, ◌++◌, length, get_or}
 use Rattle.std.proofs.Common.{Option, Some, None, append-nil, append_assoc, refl, sym, ap, ap₂, arith}
 use Rattle.std.specs.List.{cons_option, filter_map, range_with_len}
@@ -25,7 +25,7 @@ module _ (f : ℕ → Option ℕ) where
   abbrev pub below : ℕ → List ℕ
   below p = filter_map f (range_with_len 0 p)
 
-  -- up to a position where one stands
+  -- a value at a position is the last of those below the next position
   pub below_next : (p t : ℕ) → f p ≡ Some t → below (p + 1) ≡ below p ++ t ∷ []
   below_next p t at =
       ap (filter_map f) (range_join 0 p 1) ∙ filter_map-append f (range_with_len 0 p) (range_with_len (0 + p) 1)
@@ -38,7 +38,7 @@ module _ (f : ℕ → Option ℕ) where
       ∙ ap (λ q. below p ++ filter_map f (q ∷ [])) (let e : 0 + p ≡ p = omega arith in e)
       ∙ ap (λ o. below p ++ cons_option o []) at ∙ append-nil (below p)
 
-  -- and from one on to another
+  -- the values below a later position extend those below an earlier one
   below_later : (p q t : ℕ) → p < q → f q ≡ Some t → (between : List ℕ) × (below (q + 1) ≡ below (p + 1) ++ (between ++ t ∷ []))
   below_later p q t less at =
       let n = q - (p + 1) in
@@ -49,7 +49,7 @@ module _ (f : ℕ → Option ℕ) where
       let between = filter_map f (range_with_len (0 + (p + 1)) n) in
       (between, below_next q t at ∙ ap (λ xs. xs ++ t ∷ []) here ∙ append_assoc (below (p + 1)) between (t ∷ []))
 
-  -- the changes up to a position: they rise where it goes on to another
+  -- the changes of values up to a position
   abbrev pub up_to : ℕ → ℕ
   up_to p = changes eq (below (p + 1))
 
@@ -84,7 +84,7 @@ module _ (threads : List ℕ) (failing : Option ℕ) (w : World) (k : ℕ) (is :
   thread e = get_or threads e 0
 
   module _ (level : ℕ → ℕ) (are : AreLevels threads failing w k level) where
-    -- after an event the changes are at most as many as the levels above it
+    -- the changes after an event are at most the levels above its own
     abbrev After : (a n : ℕ) → Type 0
     After a n = (e : ℕ) → e < length threads → position w e < a → a + n ≡ end → level e + changes_after eq (thread e) (filter_map f (range_with_len a n)) ≤ k
 
@@ -141,7 +141,7 @@ module _ (threads : List ℕ) (failing : Option ℕ) (w : World) (k : ℕ) (is :
   stands : (e : ℕ) → e < length threads → f (position w e) ≡ Some (thread e)
   stands e there = thread_there threads w.positions e is.distinct long there
 
-  -- and the number of switches up to an event is its level
+  -- the number of switches up to each event is its level
   pub levels : switches threads failing w ≤ k → (level : ℕ → ℕ) × AreLevels threads failing w k level
   levels few = (
     λ e. up_to f (position w e),

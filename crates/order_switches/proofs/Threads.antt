@@ -9,7 +9,7 @@ use Rattle.order_switches.specs.Switches.{thread_in}
 abbrev eq : ℕ → ℕ → Bool
 eq p q = p == q
 
--- an event has its thread at its position
+-- an event's thread is the thread at its position
 pub thread_there : (threads positions : List ℕ) (e : ℕ) → IsDistinct eq positions → length threads ≡ length positions → e < length threads
     → thread_in threads positions (get_or positions e 0) ≡ Some (get_or threads e 0)
 thread_there [] positions e distinct long there = absurd (omega (arith, there))
@@ -24,7 +24,7 @@ thread_there (t ∷ threads) (q ∷ positions) (suc e) distinct long there =
     (apart_from_distinct eq (q ∷ positions) 0 (suc e) 0 distinct (omega arith) (omega (arith, there, long)))
     ∙ thread_there threads positions e (IsDistinct-tail eq q positions distinct) (omega (arith, long)) (omega (arith, there))
 
--- an event that is at a position, with its thread
+-- an event at a position, with its thread
 pub record IsAt (threads positions : List ℕ) (p t : ℕ) : Type 0 where
   pub event : ℕ
   pub there : event < length threads
@@ -34,7 +34,7 @@ pub record IsAt (threads positions : List ℕ) (p t : ℕ) : Type 0 where
 further : (s q : ℕ) (threads positions : List ℕ) (p t : ℕ) → IsAt threads positions p t → IsAt (s ∷ threads) (q ∷ positions) p t
 further s q threads positions p t a = record { event = suc a.event; there = omega (arith, a.there); position = a.position; thread = a.thread }
 
--- where there is a thread there is such an event
+-- a position with a thread has such an event
 pub event_there : (threads positions : List ℕ) (p t : ℕ) → thread_in threads positions p ≡ Some t → IsAt threads positions p t
 event_there [] positions p t is = absurd (none-some t is)
 event_there (s ∷ threads) [] p t is = absurd (none-some t is)

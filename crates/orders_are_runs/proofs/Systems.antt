@@ -1,4 +1,4 @@
--- The formula of a log is true in some world exactly where some order is lawful.
+-- The formula of a log is true in some world exactly if some order is lawful.
 use Rattle.std.proofs.Common.{◌≡◌, List, [], ◌++◌, refl, sym, subst}
 use Rattle.std.specs.Prelude.{◌↔◌, fold}
 use Rattle.tc_base.specs.declared.moves.Move.{Move}
@@ -47,7 +47,7 @@ module _ {B : Type 0} (setting : Setting B) (fits : Fits setting.code setting.lo
   are_paths : ArePaths code paths
   are_paths = record { log = log; fits = fits; are = refl }
 
-  -- the formula's terms are those of the execution, and more
+  -- the formula's terms extend those of the execution
   pub grows : Grows x.nodes s.nodes
   grows =
       let own = own_needs ops.buffered bound paths x.symbolic x.nodes in
@@ -95,7 +95,7 @@ module _ {B : Type 0} (setting : Setting B) (fits : Fits setting.code setting.lo
     abbrev pub run_world : World
     run_world = world_in ops.buffered paths x.symbolic (history ops code moves)
 
-    -- is such a world
+    -- the formula is true in the world of a run
     pub run_is_possible : IsPossible ops.buffered bound code log
     run_is_possible = record {
       lives = l.lives;

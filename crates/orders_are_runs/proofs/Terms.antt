@@ -1,4 +1,4 @@
--- The terms of a system are terms: no two are the same, and each names earlier ones.
+-- The terms of a system are distinct, and each names only earlier ones.
 use Rattle.std.proofs.Common.{◌≡◌, ◌∙◌, ℕ, ◌≤◌, Bool, true, false, not, cond, ◌&&◌, List, [], ◌∷◌, fold, length, Option, Some, None, ap, subst, arith, length-append}
 use Rattle.std.specs.Prelude.{is_none, option_and_then}
 use Rattle.std.specs.List.{All, Contains, IsDistinct, filter_map}
@@ -40,11 +40,11 @@ none_twice : IsDistinct same_node []
 unfolding IsDistinct
 none_twice = tt
 
--- no terms are terms
+-- the empty list is a list of terms
 pub no_terms : AreTerms []
 no_terms = record { distinct = none_twice; earlier = λ id node at. absurd (none-some node at) }
 
--- so are terms with nodes that name these
+-- terms stay terms with a node that names them
 below_more : (node : Node) (m n : ℕ) → m ≤ n → NamesBelow m node → NamesBelow n node
 below_more (Constant k) m n up names = tt
 below_more (Symbol k) m n up names = tt
@@ -62,7 +62,7 @@ more_terms nodes (n ∷ ns) are names =
     (All-weaker (NamesBelow (length nodes)) (NamesBelow (length next)) (λ m below. below_more m (length nodes) (length next) (longer nodes n) below) ns
     (All-tail (NamesBelow (length nodes)) n ns names))
 
--- the test of two indexes names these
+-- the test of two indexes names their terms
 test_names : (nodes : List Node) (a b : Cell) (n : Node) → CellIsOf (length nodes) a → CellIsOf (length nodes) b → same_test nodes a b ≡ Some n
     → NamesBelow (length nodes) n
 test_names nodes (Element f m i) (Element g k j) n one other is =
@@ -74,7 +74,7 @@ module _ (symbolic : Symbolic) (nodes : List Node) (have : HaveTerms nodes symbo
   abbrev Names : Node → Type 0
   Names = NamesBelow (length nodes)
 
-  -- what the order of a thread's events needs
+  -- the terms that the order of a thread's events needs
   kept_names : (buffered : Bool) (bound : Binding) (t : ℕ) (p : Two Event) (n : Node) → kept_test buffered bound symbolic nodes t p ≡ Some n → Names n
   kept_names buffered bound t p n is =
       by (keeps buffered bound true p.first p.second && not (keeps buffered bound false p.first p.second)) is
@@ -90,7 +90,7 @@ module _ (symbolic : Symbolic) (nodes : List Node) (have : HaveTerms nodes symbo
       let p = of_flat_map (two_tests buffered bound symbolic nodes o.place) n (twos o.element.events) o.there in
       kept_names buffered bound o.place p.0 n (of_option (kept_test buffered bound symbolic nodes o.place p.0) n p.2))
 
-  -- what loads need
+  -- the terms that loads need
   abbrev accesses : List (Of Access)
   accesses = all_accesses symbolic
 
@@ -118,7 +118,7 @@ module _ (symbolic : Symbolic) (nodes : List Node) (have : HaveTerms nodes symbo
       let o = of_flat_map (λ (a : Of Access). option_map_or (needs_of code accesses nodes a) a.it.takes []) n accesses i in
       All-contains Names (option_map_or (needs_of code accesses nodes o.0) o.0.it.takes []) n (load_names code o.0 o.1 o.0.it.takes) o.2)
 
--- so are those of the system of paths
+-- the terms of the system of paths are terms
 pub system_terms : (buffered : Bool) (bound : Binding) (code : Code) (paths : Paths) → IsLawful code → AreTerms (system_by buffered bound code paths).nodes
 system_terms buffered bound code paths lawful =
     let x : Executed = executed code paths [] in

@@ -1,4 +1,4 @@
--- Where a thread of a deadlock stands.
+-- Where a thread of a deadlock is blocked.
 use Rattle.std.proofs.Common.{◌≡◌, ◌∙◌, Bool, true, false, List, Option, Some, None, refl, sym, ap, ap₂, arith, true≢false}
 use Rattle.std.specs.Prelude.{slice_get, is_none, option_and_then}
 use Rattle.std.proofs.lemmas.Option.{option_and_then_some, slice_get_past}
@@ -22,7 +22,7 @@ site_waits : (b : Bool) → may_wait (site b) ≡ false
 site_waits true = refl
 site_waits false = refl
 
--- a thread may wait exactly where it can be blocked
+-- a thread may wait exactly at an instruction that can block
 pub waits_where_blocked : (t : Local) (i : Instr) → may_wait (request t i) ≡ can_block i
 waits_where_blocked t (Inside len x) = site_waits _
 waits_where_blocked t (Holds m) = site_waits _
@@ -32,7 +32,7 @@ waits_where_blocked t (Nonzero x) = site_waits _
 waits_where_blocked t (InRange x) = site_waits _
 waits_where_blocked t i = refl
 
--- and is blocked there
+-- an instruction that can block does block its thread
 blocks_some : (t : Marks) (sleeps : List Wait) (i : Instr) → can_block i ≡ true → is_none (blocked_at t sleeps i) ≡ false
 blocks_some t sleeps (Lock m) h = refl
 blocks_some t sleeps (Wake c m) h = refl
@@ -43,7 +43,7 @@ pub blocked_there : (e : Ending) (t : Marks) (sleeps : List Wait) (o : Option In
     → is_none (blocked_after e t sleeps o) ≡ false
 blocked_there e t sleeps o i rests at h = ap₂ (λ x y. is_none (blocked_after x t sleeps y)) rests at ∙ blocks_some t sleeps i h
 
--- no instruction stands behind an exit
+-- no instruction follows an exit
 pub none_behind_exit : (code : Code) (t : Local) → IsLawful code → IsPastExit code t → instr_at code t.function t.instruction ≡ None
 none_behind_exit code t lawful past =
     option_and_then_some (λ g. slice_get g.instrs past.place) (slice_get code.functions t.function) Exit past.exit

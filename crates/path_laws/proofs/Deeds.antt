@@ -26,11 +26,11 @@ use Rattle.tc_code.specs.declared.instr.Instr.{Instr}
 use Rattle.tc_code.specs.declared.instr.Instr.TheVariants.{Inside, Holds, Signal, Create, Ready, Join, Assert, Nonzero, InRange}
 use Rattle.tc_code.specs.Lawful.{IsLawful}
 use Rattle.tc_code.specs.Run.{run, IsReached}
-use Rattle.tc_code.specs.Step.{request, site, child_number, instr_of, perform, woken, opening}
+use Rattle.tc_code.specs.Step.{request, site, child_number, instr_of, perform, state_after_wake, opening}
 use Rattle.tc_code.specs.Step as machine
 use Rattle.path_walk.specs.Steps.{Step, step_at, steps_at}
 use Rattle.path_walk.specs.Fits.{fails_in, places_in, Fits}
-use Rattle.path_walk.specs.Marks.{Marks, Marked, unmarked, marked, marked_from, marked_steps}
+use Rattle.path_walk.specs.Marks.{Marks, Marked, marks_at_start, marks_after_instr, marked_from, marked_steps}
 use Rattle.path_walk.specs.Events.{kind_with, event_of, events_of}
 use Rattle.path_walk.specs.Paths.{walk_of}
 use Rattle.path_walk.specs.declared.event.Event.{Event}
@@ -39,7 +39,7 @@ use Rattle.path_walk.specs.declared.event.EventKind.TheVariants as kind
 use Rattle.path_walk.proofs.Places.{count}
 use Rattle.run_laws.proofs.Changes.{is_fail}
 use Rattle.run_laws.proofs.Names.{same_self, same_other, same_or_apart, get_put, get_put_apart}
-use Rattle.run_history.specs.History.{Deed, Did, Drained, taken, created_by, history}
+use Rattle.run_history.specs.History.{Deed, Did, Drained, value_taken, created_by, history}
 use Rattle.run_history.specs.Locals.{after_step}
 use Rattle.run_history.proofs.Frame.{Keeps, holds_after}
 use Rattle.run_history.proofs.Lists.{filter_map-push, last_or-push}
@@ -55,14 +55,14 @@ use Rattle.path_laws.proofs.States.{Stands, told, told_is, same_function, step_t
 abbrev the_done : EventDone → EventDone
 the_done e = e
 
--- a step as an event, where its thread is the one asked for
+-- the event of a step, if its thread is the one asked for
 abbrev event_if : Bool → ℕ → Option EventKind → Option EventDone
 event_if b k o = if b then option_map (λ asked. the_done (record { step = k; kind = asked })) o else None
 
--- What the steps of threads tell one by one.
+-- The facts that deeds give about threads, step by step.
 
 module _ {B : Type 0} (ops : BufferOps B) (code : Code) where
-  -- a deed tells something of its thread alone, and only where that does a step; and so a step adds to what is told of the thread
+  -- only a step of the thread gives such a fact about it, and each step adds the fact of its deed
   pub record TellsSteps {X : Type 0} (tells : Name → Deed → Option X) (is : Bool → Local → List X) : Type 0 where
     pub foreign : (q n : Name) (k : ℕ) (r : Request) (v : ℤ) (o : Option Name) → q ≢ n → tells q (Did n k r v o) ≡ None
     pub flushed : (q n : Name) (k c : ℕ) (v : ℤ) → tells q (Drained n k c v) ≡ None
@@ -76,16 +76,16 @@ module _ {B : Type 0} (ops : BufferOps B) (code : Code) where
     abbrev told_at : Bool → Option (Thread B) → List X
     told_at b o = option_map_or (λ (t : Thread B). is b t.local) o []
 
-    -- the deeds tell it of each thread, and nothing of a name that is no thread's
+    -- the deeds tell what the state does of each thread, and nothing of other names
     abbrev AreTold : State B → List Deed → Type 0
     AreTold s h = (q : Name) → filter_map (tells q) h ≡ told_at (fails_by s.failed q) (fin.get s.threads q)
 
-    -- a deed that tells nothing of a thread adds nothing
+    -- a deed that tells nothing of a thread adds nothing for it
     untold : (h : List Deed) (q : Name) (d : Deed) → tells q d ≡ None → filter_map (tells q) (h ++ d ∷ []) ≡ filter_map (tells q) h
     untold h q d none =
         filter_map-push (tells q) h d ∙ ap (λ o. filter_map (tells q) h ++ cons_option o []) none ∙ append-nil (filter_map (tells q) h)
 
-    -- a step tells of its thread, and a child begins with nothing told
+    -- a step adds the fact of its thread, and no fact about a new child
     told_by_step : (s u : State B) (h : List Deed) (n : Name) (t : Thread B) (i : Instr) (r : Request) (v : ℤ) (o : Option Name) → IsReached ops code s
         → s.failed ≡ None → Does ops code s u n t i r → kind_of r o ≡ kind_of r (created_by ops code n t.local r) → AreTold s h
         → AreTold u (h ++ Did n t.local.steps r v o ∷ [])
@@ -98,7 +98,7 @@ module _ {B : Type 0} (ops : BufferOps B) (code : Code) where
               ∙ ap (λ m. filter_map (tells m) h ++ cons_option (tells m d) []) e
               ∙ ap (λ xs. xs ++ cons_option (tells n d) [])
               (are n ∙ ap (told_at (fails_by s.failed n)) does.there ∙ ap (λ f. is (fails_by f n) t.local) going)
-              ∙ sym (laws.steps s n t i r (taken ops code s t r) v o reached going does.there does.at does.asks asks)
+              ∙ sym (laws.steps s n t i r (value_taken ops code s t r) v o reached going does.there does.at does.asks asks)
               ∙ ap (λ b. is b w.local) (sym (own_fails r n) ∙ ap (λ f. fails_by f n) (sym does.failed))
               ∙ ap (λ m. is (fails_by u.failed m) w.local) (sym e)
               ∙ ap (told_at (fails_by u.failed q)) (sym there)
@@ -115,23 +115,23 @@ module _ {B : Type 0} (ops : BufferOps B) (code : Code) where
               (ap (λ f. fails_by f q) going ∙ sym (none_else_fails r n q other) ∙ ap (λ f. fails_by f q) (sym does.failed)) (sym there)
         ]
 
-    -- so each deed keeps it
+    -- each deed keeps that the deeds tell what the state does
     keeps_told : Keeps ops code AreTold
     keeps_told = record {
       ran = λ s h n t i r reached going there at asks _ are.
-          told_by_step s (perform ops code s n t i r) h n t i r (taken ops code s t r) (created_by ops code n t.local r) reached going
+          told_by_step s (perform ops code s n t i r) h n t i r (value_taken ops code s t r) (created_by ops code n t.local r) reached going
           (ran_does ops code s n t i r going there at asks) refl are;
       waked = λ s h n u t c reached going there at _ _ are.
-          told_by_step s (woken ops s n u t c) h n t (Signal c) (WakeOne c) (pos 0) (Some u) reached going
+          told_by_step s (state_after_wake ops s n u t c) h n t (Signal c) (WakeOne c) (pos 0) (Some u) reached going
           (woke_does ops code s n u t c going there at) refl are;
       flushed = λ s h n t form _ going there _ are q.
           untold h q _ (laws.flushed q n _ _ _)
           ∙ are q
-          ∙ sym (unchanged ops code s (machine.drained ops s n t form) n t (ops.drain t.buffer form).rest
+          ∙ sym (unchanged ops code s (machine.state_after_drain ops s n t form) n t (ops.drain t.buffer form).rest
           (flush_drains ops code s n t form going there) (told_at (fails_by s.failed q)) refl q);
     }
 
-    -- at the start nothing is told
+    -- at the start, the empty history has no fact about any thread
     opening_told : AreTold (opening ops code) []
     opening_told q =
         elim (same_or_apart q []) [
@@ -144,13 +144,13 @@ module _ {B : Type 0} (ops : BufferOps B) (code : Code) where
               ∙ fin.get-empty by_name q))
         ]
 
-    -- so it is after each run
+    -- after each run the deeds tell what the state does
     pub all_told : (ms : List Move) (s : State B) → run ops code ms ≡ Some s → AreTold s (history ops code ms)
     all_told ms s leads = holds_after ops code AreTold keeps_told opening_told ms s leads
 
 -- The numbers of steps.
 
--- one number more at the end
+-- a range of numbers with one number appended
 range_push : (a n e : ℕ) → a + n ≡ e → range_with_len a (suc n) ≡ range_with_len a n ++ e ∷ []
 range_push a zero e is = let same : a ≡ e = omega (arith, is) in ap (λ k. range_with_len k 1) same
 range_push a (suc n) e is =
@@ -161,11 +161,11 @@ range_push a (suc n) e is =
 abbrev numbers_below : Bool → Local → List ℕ
 numbers_below b t = range_with_len 0 t.steps
 
--- the number of a step, where its thread is the one asked for
+-- the number of a step, if its thread is the one asked for
 abbrev number_if : Bool → ℕ → Option ℕ
 number_if b k = if b then Some k else None
 
--- the number of each step is that of the steps before it
+-- the number of a step is the number of the steps before it
 numbers_laws : {B : Type 0} (ops : BufferOps B) (code : Code) → TellsSteps ops code number_by numbers_below
 numbers_laws ops code = record {
   foreign = λ q n k r v o other. ap (λ b. number_if b k) (same_other q n other);
@@ -188,15 +188,15 @@ steps_are_numbered {B} ops code ms s n leads = all_told ops code number_by numbe
     by None = refl
     by (Some t) = refl
 
--- What a step asks, as an event.
+-- The kinds of steps as events.
 
--- a site is an event only where it fails
+-- a site is an event only if it fails
 site_kind : {B : Type 0} (ops : BufferOps B) (code : Code) (n : Name) (t : Local) (b : Bool)
     → kind_of (site b) (created_by ops code n t (site b)) ≡ (if is_fail (site b) then Some kind.Fail else None)
 site_kind ops code n t true = refl
 site_kind ops code n t false = refl
 
--- what a request asks is what the path says of the instruction
+-- the kind of a request is the one that the path gives the instruction
 kind_asked : {B : Type 0} (ops : BufferOps B) (code : Code) (n : Name) (t : Local) (m : Marks) (i : Instr) → HasMarks t m
     → kind_of (request t i) (created_by ops code n t (request t i)) ≡ kind_with m i (is_fail (request t i))
 kind_asked ops code n t m (Inside len e) marks = site_kind ops code n t _
@@ -217,7 +217,7 @@ module _ (code : Code) where
   abbrev events_told : Bool → Local → List EventDone
   events_told b t = map done_as (events_of code t.function (marked_steps code t.function b (steps_at code t.function (told code t))))
 
-  -- what a marked step asks, as an event
+  -- the event of a marked step, by its kind
   abbrev event_at : ℕ → ℕ → Step → Marks → EventKind → Event
   event_at f k x m asked = record { step = k; line = unwrap_or (line_at code f x.place) 0; kind = asked; bars = m.bars }
 
@@ -242,12 +242,12 @@ module _ (code : Code) where
       let f = t.function in
       let ss = steps_at code f ps in
       let m = marks_here code t t i ps along at in
-      let older = marked_from false 0 (unmarked code f) ss in
+      let older = marked_from false 0 (marks_at_start code f) ss in
       let own : Marked = record { number = 0 + length ss; step = now code t t i ps along at; fails = b; marks = m } in
       let number : 0 + length ss ≡ t.steps = omega (arith, length-map ps (step_at code f), count code f t.steps 0 t.outcomes ps along.told) in
       ap₂ (λ g xs. map done_as (events_of code g (marked_steps code g b (steps_at code g xs)))) function all
       ∙ ap (λ xs. map done_as (events_of code f (marked_steps code f b xs))) (steps_push code t t i ps along at)
-      ∙ ap (λ xs. map done_as (events_of code f xs)) (marked_push b 0 (unmarked code f) ss (now code t t i ps along at))
+      ∙ ap (λ xs. map done_as (events_of code f xs)) (marked_push b 0 (marks_at_start code f) ss (now code t t i ps along at))
       ∙ ap (map done_as) (filter_map-push (event_of code f) older own)
       ∙ map-append done_as (events_of code f older) (cons_option (event_of code f own) [])
       ∙ ap₂ (λ xs ys. xs ++ ys)
@@ -255,7 +255,7 @@ module _ (code : Code) where
       (done_one f (0 + length ss) (now code t t i ps along at) b m
       ∙ ap (λ k. cons_option (option_map (λ asked. the_done (record { step = k; kind = asked })) (kind_with m i b)) []) number)
 
-  -- so the deeds of a thread tell the events of its path
+  -- the deeds of a thread tell the events of its path
   events_laws : {B : Type 0} (ops : BufferOps B) → IsLawful code → TellsSteps ops code event_by events_told
   events_laws ops lawful = record {
     foreign = λ q n k r v o other. ap (λ b. event_if b k (kind_of r o)) (same_other q n other);
@@ -280,7 +280,7 @@ module _ (code : Code) where
 
 -- The events of the first steps.
 
--- an event that doesn't pass is left out
+-- an event that doesn't pass is filtered out
 left_out : (p : Event → Bool) (o : Option EventKind) (event : EventKind → Event) (es : List Event) → ((asked : EventKind) → p (event asked) ≡ false)
     → filter p (cons_option (option_map event o) es) ≡ filter p es
 left_out p None event es h = refl
@@ -292,7 +292,7 @@ kept : (p : Event → Bool) (o : Option EventKind) (event : EventKind → Event)
 kept p None event es h = refl
 kept p (Some asked) event es h = ap (λ b. cond b (event asked ∷ filter p es) (filter p es)) (h asked)
 
--- the last of both is the last of the second, if that has any
+-- the flag of the last step belongs to the second of two lists, or to the first if that is empty
 fails_last : (b : Bool) (xs ys : List Step) → (b && length (xs ++ ys) == 0) ≡ ((b && length ys == 0) && length xs == 0)
 fails_last b [] ys = sym (and-true (b && length ys == 0))
 fails_last b (x ∷ xs) ys =
@@ -300,31 +300,31 @@ fails_last b (x ∷ xs) ys =
     ∙ sym (ap (λ c. (b && length ys == 0) && c) (eqb-suc-zero (length xs)) ∙ and-false (b && length ys == 0))
 
 module _ (code : Code) (f : ℕ) where
-  -- whether an event is of a step before that of a number
+  -- whether an event is of a step before the one with this number
   abbrev before : ℕ → Event → Bool
   before k e = nat_lt e.step k
 
-  -- of later steps no event is before it
+  -- no event of later steps comes before it
   none_before : (b : Bool) (k j : ℕ) (m : Marks) (ss : List Step) → k ≤ j → filter (before k) (events_of code f (marked_from b j m ss)) ≡ []
   none_before b k j m [] few = refl
   none_before b k j m (x ∷ ss) few =
       left_out (before k) (kind_with m x.instr (b && length ss == 0)) _
-      (events_of code f (marked_from b (j + 1) (marked m x.instr) ss)) (λ asked. le-ltb j k few)
-      ∙ none_before b k (j + 1) (marked m x.instr) ss (omega (arith, few))
+      (events_of code f (marked_from b (j + 1) (marks_after_instr m x.instr) ss)) (λ asked. le-ltb j k few)
+      ∙ none_before b k (j + 1) (marks_after_instr m x.instr) ss (omega (arith, few))
 
-  -- of steps, the events before the number of one are those of the steps before it
+  -- the events before a step's number are those of the steps before it
   first_events : (b : Bool) (j : ℕ) (m : Marks) (xs ys : List Step)
       → filter (before (j + length xs)) (events_of code f (marked_from b j m (xs ++ ys))) ≡ events_of code f (marked_from (b && length ys == 0) j m xs)
   first_events b j m [] ys = none_before b (j + 0) j m ys (omega arith)
   first_events b j m (x ∷ xs) ys =
       let count : j + suc (length xs) ≡ (j + 1) + length xs = omega arith in
-      let later = events_of code f (marked_from b (j + 1) (marked m x.instr) (xs ++ ys)) in
+      let later = events_of code f (marked_from b (j + 1) (marks_after_instr m x.instr) (xs ++ ys)) in
       kept (before (j + suc (length xs))) (kind_with m x.instr (b && length (xs ++ ys) == 0)) _ later (λ asked. lt-ltb j (j + suc (length xs)) (omega arith))
       ∙ ap₂ (λ c es. cons_option (event_of code f (record { number = j; step = x; fails = c; marks = m })) es)
       (fails_last b xs ys)
-      (ap (λ k. filter (before k) later) count ∙ first_events b (j + 1) (marked m x.instr) xs ys)
+      (ap (λ k. filter (before k) later) count ∙ first_events b (j + 1) (marks_after_instr m x.instr) xs ys)
 
--- two tests that mean the same
+-- two tests with the same meaning are the same
 pub same_test : (a b c d : ℕ) → (a ≡ b → c ≡ d) → (c ≡ d → a ≡ b) → (a == b) ≡ (c == d)
 same_test a b c d to back = by (a == b) refl (c == d) refl
   where
@@ -358,7 +358,7 @@ deeds_are_events ops code log ms s p t lawful fits leads on there =
     (told_is code (fails_by s.failed n) t.local _ so.stands)
     ∙ ap (λ b. map done_as (events_of code f (marked_steps code f b front))) (so.on.fails ∙ ap (λ b. fails && b) (sym ends))
     ∙ ap (map done_as)
-    (sym (first_events code f fails 0 (unmarked code f) front rest)
+    (sym (first_events code f fails 0 (marks_at_start code f) front rest)
     ∙ ap₂ (λ j xs. filter (before code f j) (events_of code f (marked_steps code f fails xs))) count
     (sym (map-append (step_at code f) (take k all) (drop k all)) ∙ ap (steps_at code f) (take-append-drop k all)))
     ∙ ap (λ g. events_before k (events_of code g (marked_steps code g fails (steps_at code g (places_in code log n g)))))

@@ -1,4 +1,4 @@
--- What a move makes of the threads, and of the failure.
+-- The effect of a move on the threads and on the failure.
 use Rattle.std.proofs.Common.{◌≡◌, ◌≢◌, ◌∙◌, inl, inr, ℕ, ◌≤◌, ◌<◌, ℤ, Bool, true, false, List, [], ◌++◌, Option, Some, None}
 use Rattle.std.proofs.Common.{refl, sym, ap, subst, arith, append-nil, bytes_eq, true≢false}
 use Rattle.std.specs.FinMap as fin
@@ -14,13 +14,13 @@ use Rattle.tc_code.specs.Code.{Code}
 use Rattle.tc_code.specs.declared.instr.Instr.{Instr}
 use Rattle.tc_code.specs.declared.instr.Instr.TheVariants.{Signal}
 use Rattle.tc_code.specs.Run.{IsReached}
-use Rattle.tc_code.specs.Step.{request, local_after, instr_of, perform, woken, step}
+use Rattle.tc_code.specs.Step.{request, local_after, instr_of, perform, state_after_wake, step}
 use Rattle.tc_code.specs.Step as machine
 use Rattle.tc_base.proofs.Names.{same_true, same_refl}
 use Rattle.run_laws.proofs.Changes.{is_fail}
 use Rattle.run_laws.proofs.Names.{same_or_apart, one_under, get_put, get_put_apart}
 use Rattle.run_laws.proofs.Steps.{Went, step_went, none_failed}
-use Rattle.run_history.specs.History.{taken}
+use Rattle.run_history.specs.History.{value_taken}
 use Rattle.run_history.specs.Locals.{after_step}
 use Rattle.run_laws.proofs.Basics.{by_bool}
 use Rattle.run_history.proofs.Shared.{store_as}
@@ -28,7 +28,7 @@ use Rattle.run_history.proofs.Threads.{own, with_born, performed_threads, find, 
 use Rattle.path_laws.specs.Prefixes.{fails_by}
 use Rattle.path_laws.proofs.Local.{moves}
 
--- two names that are apart aren't equal as lists
+-- different names aren't equal as lists
 pub bytes_other : (q n : Name) → q ≢ n → bytes_eq q n ≡ false
 bytes_other q n apart = by (bytes_eq q n) refl
   where
@@ -36,12 +36,12 @@ bytes_other q n apart = by (bytes_eq q n) refl
     by true e = absurd (apart (same_true q n e))
     by false e = refl
 
--- who failed after a request
+-- the thread that failed after a request
 abbrev pub failed_after : Request → Name → Option Name
 failed_after Fail n = Some n
 failed_after _ n = None
 
--- the thread of a request failed exactly where it asked for that
+-- the thread of a request has failed exactly if the request is a failure
 pub own_fails : (r : Request) (n : Name) → fails_by (failed_after r n) n ≡ is_fail r
 own_fails Fail n = same_refl n
 own_fails _ n = refl
@@ -51,33 +51,33 @@ pub none_else_fails : (r : Request) (n q : Name) → q ≢ n → fails_by (faile
 none_else_fails Fail n q apart = bytes_other q n apart
 none_else_fails _ n q apart = refl
 
--- a thread has gone on: it has done no fewer steps, and has the same outcomes and maybe more
+-- a thread has gone on: it has as many steps or more, and its outcomes begin with the old ones
 pub record GoesOn (t u : Local) : Type 0 where
   pub steps : t.steps ≤ u.steps
   pub more : List Bool
   pub outcomes : u.outcomes ≡ t.outcomes ++ more
 
--- a thread that stays as it is has gone on, with nothing more
+-- an unchanged thread has gone on
 pub stays : (t : Local) → GoesOn t t
 stays t = record { steps = omega arith; more = []; outcomes = sym (append-nil t.outcomes) }
 
--- it goes on by each instruction that doesn't fail
+-- a thread goes on by each instruction that doesn't fail
 moved_on : (t : Local) (i : Instr) (v : ℤ) → GoesOn t (local_after t i v)
 moved_on t i v = let m = moves t i v in record { steps = omega (arith, m.steps); more = m.more; outcomes = m.outcomes }
 
--- and by each step
+-- a thread goes on by each step
 step_goes_on : (t : Local) (i : Instr) (r : Request) (v : ℤ) → GoesOn t (after_step t i r v)
 step_goes_on t i Fail v = record { steps = omega arith; more = []; outcomes = sym (append-nil t.outcomes) }
 step_goes_on t i _ v = moved_on t i v
 
 module _ {B : Type 0} (ops : BufferOps B) (code : Code) where
-  -- what a request makes of the failure
+  -- the failed thread after a request
   pub failed_is : (s : State B) (n : Name) (t : Thread B) (i : Instr) (r : Request) → s.failed ≡ None → (perform ops code s n t i r).failed ≡ failed_after r n
   failed_is s n t i (Write c v) going = by_bool (λ b. (store_as ops code s n t i c v b).failed ≡ None) ops.buffered going going
   failed_is s n t i Fail going = refl
   failed_is s n t i _ going = going
 
-  -- a thread does the instruction at its place, which asks this
+  -- a thread does the instruction at its place, which has this request
   pub record Does (s u : State B) (n : Name) (t : Thread B) (i : Instr) (r : Request) : Type 0 where
     pub there : fin.get s.threads n ≡ Some t
     pub at : instr_of code t.local ≡ Some i
@@ -91,7 +91,7 @@ module _ {B : Type 0} (ops : BufferOps B) (code : Code) where
     pub threads : u.threads ≡ fin.insert s.threads n (record t { buffer = b })
     pub failed : u.failed ≡ None
 
-  -- what a move does
+  -- the effect of a move
   pub data Change (s u : State B) : Type 0 where
     By_step : (n : Name) (t : Thread B) (i : Instr) (r : Request) → Does s u n t i r → Change s u
     By_drain : (n : Name) (t : Thread B) (b : B) → Drains s u n t b → Change s u
@@ -102,17 +102,17 @@ module _ {B : Type 0} (ops : BufferOps B) (code : Code) where
   ran_does s n t i r going there at asks =
       record { there = there; at = at; asks = asks; threads = performed_threads ops code s n t i r; failed = failed_is s n t i r going }
 
-  -- so does a wake
+  -- a wake move does a step
   pub woke_does : (s : State B) (n v : Name) (t : Thread B) (c : ℕ) → s.failed ≡ None → fin.get s.threads n ≡ Some t
-      → instr_of code t.local ≡ Some (Signal c) → Does s (woken ops s n v t c) n t (Signal c) (WakeOne c)
+      → instr_of code t.local ≡ Some (Signal c) → Does s (state_after_wake ops s n v t c) n t (Signal c) (WakeOne c)
   woke_does s n v t c going there at = record { there = there; at = at; asks = refl; threads = refl; failed = going }
 
-  -- a drain drains
+  -- a drain move drains a buffer
   pub flush_drains : (s : State B) (n : Name) (t : Thread B) (form : Option ℕ) → s.failed ≡ None → fin.get s.threads n ≡ Some t
-      → Drains s (machine.drained ops s n t form) n t (ops.drain t.buffer form).rest
+      → Drains s (machine.state_after_drain ops s n t form) n t (ops.drain t.buffer form).rest
   flush_drains s n t form going there = record { there = there; threads = refl; failed = going }
 
-  -- by the way that it went
+  -- the effect of a move, by its kind
   went_so : (s u : State B) (m : Move) → s.failed ≡ None → Went ops code s u m → Change s u
   went_so s u (move.Run n) going g =
       By_step n g.thread g.instr (request g.thread.local g.instr)
@@ -124,11 +124,11 @@ module _ {B : Type 0} (ops : BufferOps B) (code : Code) where
       By_drain n g.thread (ops.drain g.thread.buffer form).rest
       (subst (λ x. Drains s x n g.thread (ops.drain g.thread.buffer form).rest) (sym g.after) (flush_drains s n g.thread form going g.there))
 
-  -- each move is one of these
+  -- each move has one of these effects
   pub change_of : (s u : State B) (m : Move) → step ops code s m ≡ Some u → Change s u
   change_of s u m one = went_so s u m (none_failed ops code s u m one) (step_went ops code s u m one)
 
-  -- after its step the thread is there
+  -- the thread of a step exists after it
   pub own_there : (s u : State B) (n : Name) (t : Thread B) (i : Instr) (r : Request) → IsReached ops code s → Does s u n t i r
       → fin.get u.threads n ≡ Some (own ops code s t i r)
   own_there s u n t i r reached d =
@@ -138,25 +138,25 @@ module _ {B : Type 0} (ops : BufferOps B) (code : Code) where
         | Another other there none ↦ absurd (other refl)
       ]
 
-  -- a thread is still there, has gone on, and has done a step if it failed
+  -- a thread still exists, has gone on, and has done a step if it has failed
   pub record IsStillThere (s u : State B) (q : Name) (t : Thread B) : Type 0 where
     pub thread : Thread B
     pub there : fin.get u.threads q ≡ Some thread
     pub goes : GoesOn t.local thread.local
     pub fails : fails_by u.failed q ≡ true → t.local.steps < thread.local.steps
 
-  -- after a step
+  -- each thread still exists after a step
   still_stepped : (s u : State B) (n : Name) (t : Thread B) (i : Instr) (r : Request) → IsReached ops code s → Does s u n t i r
       → (q : Name) (x : Thread B) → fin.get s.threads q ≡ Some x → IsStillThere s u q x
   still_stepped s u n t i r reached d q x here =
       elim (find ops code s u n t i r reached d.there d.threads q) [
         | Its_own e there ↦
-            let steps = steps_by t.local i r (taken ops code s t r) in
+            let steps = steps_by t.local i r (value_taken ops code s t r) in
             subst (IsStillThere s u q) (sym (one_under s.threads q n x t e here d.there))
             (record {
               thread = own ops code s t i r;
               there = there;
-              goes = step_goes_on t.local i r (taken ops code s t r);
+              goes = step_goes_on t.local i r (value_taken ops code s t r);
               fails = λ f. omega (arith, steps);
             })
         | Its_child f vs other there new made ↦ absurd (none-some x (sym new ∙ here))
@@ -169,7 +169,7 @@ module _ {B : Type 0} (ops : BufferOps B) (code : Code) where
             }
       ]
 
-  -- what doesn't look at the buffer stays as it was where that is drained
+  -- what doesn't depend on the buffer stays the same after a drain
   pub unchanged : {X : Type 0} (s u : State B) (n : Name) (t : Thread B) (b : B) → Drains s u n t b → (f : Option (Thread B) → X)
       → f (Some t) ≡ f (Some (record t { buffer = b })) → (q : Name) → f (fin.get u.threads q) ≡ f (fin.get s.threads q)
   unchanged s u n t b d f blind q =
@@ -181,7 +181,7 @@ module _ {B : Type 0} (ops : BufferOps B) (code : Code) where
         | inr other ↦ ap f (get_put_apart s.threads n _ q other)
       ]
 
-  -- after a drain
+  -- each thread still exists after a drain
   still_drained : (s u : State B) (n : Name) (t : Thread B) (b : B) → Drains s u n t b → (q : Name) (x : Thread B) → fin.get s.threads q ≡ Some x
       → IsStillThere s u q x
   still_drained s u n t b d q x here =
@@ -206,7 +206,7 @@ module _ {B : Type 0} (ops : BufferOps B) (code : Code) where
       none_fails : {X : Type 0} → fails_by u.failed q ≡ true → X
       none_fails f = absurd (true≢false (sym f ∙ ap (λ o. fails_by o q) d.failed))
 
-  -- so is each thread after each move
+  -- each thread still exists after each move
   pub still_there : (s u : State B) → IsReached ops code s → Change s u → (q : Name) (x : Thread B) → fin.get s.threads q ≡ Some x → IsStillThere s u q x
   still_there s u reached (By_step n t i r d) q x here = still_stepped s u n t i r reached d q x here
   still_there s u reached (By_drain n t b d) q x here = still_drained s u n t b d q x here

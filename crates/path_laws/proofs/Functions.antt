@@ -16,14 +16,14 @@ use Rattle.list_laws.proofs.Lists.{get_front}
 use Rattle.path_laws.proofs.States.{created, told_is, AllKnown}
 
 module _ (code : Code) (log : Log) where
-  -- places are the first of those on the path of the thread of a name
+  -- these places are the first ones of the named thread's path
   abbrev pub AreFirst : Name → Local → List ℕ → Type 0
   AreFirst n t places = (rest : List ℕ) × (places_in code log n t.function ≡ places ++ rest)
 
   module _ {B : Type 0} (s : State B) (known : AllKnown code s.threads s.failed)
       (first : (n : Name) (t : Thread B) (there : fin.get s.threads n ≡ Some t) → function_of code log n ≡ Some t.local.function
       → AreFirst n t.local (known n t there).places) where
-    -- what a thread has created stands on its path
+    -- the path names the function of each thread that this thread has created
     born_child : (n : Name) (t : Thread B) (there : fin.get s.threads n ≡ Some t) → function_of code log n ≡ Some t.local.function → (j f : ℕ)
         → slice_get (created code t.local) j ≡ Some f → child_function code log n t.local.function (suc j) ≡ Some f
     born_child n t there function j f at =
@@ -36,7 +36,7 @@ module _ (code : Code) (log : Log) where
         ∙ get_front (started (steps_at code g k.places)) _ j f
         (ap (λ xs. slice_get (started (steps_at code g xs)) j) (sym (told_is code (fails_by s.failed n) t.local k.places k.stands)) ∙ at)
 
-    -- so its function is that of the code and log, for names of any length
+    -- a thread's function is that of the code and log, for names up to any length
     has_function : (m : ℕ) (n : Name) (t : Thread B) → length n ≤ m → fin.get s.threads n ≡ Some t → function_of code log n ≡ Some t.local.function
     has_function zero n t few there =
         elim (known n t there).born [
@@ -55,6 +55,6 @@ module _ (code : Code) (log : Log) where
               ∙ born_child b.parent b.thread b.there function b.number t.local.function b.creates
         ]
 
-    -- and for all names
+    -- a thread's function is that of the code and log
     pub function_is : (n : Name) (t : Thread B) → fin.get s.threads n ≡ Some t → function_of code log n ≡ Some t.local.function
     function_is n t there = has_function (length n) n t (omega arith) there

@@ -13,18 +13,18 @@ use Rattle.tc_code.specs.Code.{Code, instr_at}
 use Rattle.tc_code.specs.declared.instr.Instr.{Instr}
 use Rattle.tc_code.specs.declared.instr.Instr.TheVariants.{Branch, Goto, Lock, Unlock, Sleep, Wake}
 use Rattle.tc_code.specs.declared.instr.Instr.TheVariants.{Create, Join, Exit}
-use Rattle.tc_code.specs.Step.{child_number, branched, local_after, is_nonzero, value_in}
+use Rattle.tc_code.specs.Step.{child_number, step_by_branch, local_after, is_nonzero, value_in}
 use Rattle.path_walk.specs.Steps.{Step, Onward, onward, places_from, end_from, step_at, steps_at}
 use Rattle.path_walk.specs.Steps as path
 use Rattle.path_walk.specs.Fits.{starts, started}
-use Rattle.path_walk.specs.Marks.{Marks, Marked, unmarked, marked, marks_after, marked_from, marked_steps}
+use Rattle.path_walk.specs.Marks.{Marks, Marked, marks_at_start, marks_after_instr, marks_after, marked_from, marked_steps}
 use Rattle.path_walk.specs.Events.{excludes, is_impossible}
 use Rattle.path_walk.proofs.Places.{unrolled, step_more, end_more}
 use Rattle.run_history.proofs.Lists.{filter_map-push}
 use Rattle.path_walk.specs.declared.fault.Misfit.{Misfit}
 use Rattle.path_laws.specs.Along.{HasMarks, IsAlong}
 
--- where an instruction leads with more outcomes behind
+-- an instruction leads to the same place with more outcomes left
 branched_more : (next to : ℕ) (os more : List Bool) (on : Onward) → path.branched next to os ≡ Some on
     → path.branched next to (os ++ more) ≡ Some (record { place = on.place; outcomes = on.outcomes ++ more })
 branched_more next to [] more on h = absurd (none-some on h)
@@ -57,7 +57,7 @@ module _ (code : Code) (f : ℕ) where
   end_next n k os i on at leads = let same : suc n ≡ n + 1 = omega arith in end_more code f (suc n) n k os i on same at leads
 
   places_more : (n k : ℕ) (os : List Bool) (i : Instr) (on : Onward) → instr_at code f k ≡ Some i → onward k i os ≡ Some on
-      → places_from code f (suc n) k os ≡ path.before k (places_from code f n on.place on.outcomes)
+      → places_from code f (suc n) k os ≡ path.with_place k (places_from code f n on.place on.outcomes)
   places_more n k os i on at leads = let same : suc n ≡ n + 1 = omega arith in step_more code f (suc n) n k os i on same at leads
 
   abbrev the_ok : List ℕ → Result (List ℕ) Misfit
@@ -86,12 +86,12 @@ module _ (code : Code) (f : ℕ) where
       record {
         places =
             places_more (suc n) k (os ++ more) u.instr _ u.at on
-            ∙ ap (path.before k) rest.places
+            ∙ ap (path.with_place k) rest.places
             ∙ ap (λ xs. the_ok (xs ++ e ∷ [])) (sym u.all);
         end = end_next (suc n) k (os ++ more) u.instr _ u.at on ∙ rest.end;
       }
 
--- What an instruction that doesn't fail does to the path.
+-- The effect of an instruction that doesn't fail on the path.
 
 pub record Moves (t u : Local) (i : Instr) : Type 0 where
   pub more : List Bool
@@ -100,7 +100,7 @@ pub record Moves (t u : Local) (i : Instr) : Type 0 where
   pub steps : u.steps ≡ t.steps + 1
   pub function : u.function ≡ t.function
 
-branch_moves : (t : Local) (e : _) (b : Bool) (to : ℕ) → Moves t (branched t b to) (Branch e to)
+branch_moves : (t : Local) (e : _) (b : Bool) (to : ℕ) → Moves t (step_by_branch t b to) (Branch e to)
 branch_moves t e true to = record { more = true ∷ []; outcomes = refl; leads = refl; steps = refl; function = refl }
 branch_moves t e false to = record { more = false ∷ []; outcomes = refl; leads = refl; steps = refl; function = refl }
 
@@ -109,11 +109,11 @@ moves t (Branch e to) v = branch_moves t e (is_nonzero (value_in t e)) to
 moves t (Goto to) v = record { more = []; outcomes = sym (append-nil t.outcomes); leads = refl; steps = refl; function = refl }
 moves t _ v = record { more = []; outcomes = sym (append-nil t.outcomes); leads = refl; steps = refl; function = refl }
 
-branch_marks : (t : Local) (m : Marks) (b : Bool) (to : ℕ) → HasMarks t m → HasMarks (branched t b to) m
+branch_marks : (t : Local) (m : Marks) (b : Bool) (to : ℕ) → HasMarks t m → HasMarks (step_by_branch t b to) m
 branch_marks t m true to h = record { held = h.held; handles = h.handles; children = h.children }
 branch_marks t m false to h = record { held = h.held; handles = h.handles; children = h.children }
 
-pub marks_move : (t : Local) (m : Marks) (i : Instr) (v : ℤ) → HasMarks t m → HasMarks (local_after t i v) (marked m i)
+pub marks_move : (t : Local) (m : Marks) (i : Instr) (v : ℤ) → HasMarks t m → HasMarks (local_after t i v) (marks_after_instr m i)
 marks_move t m (Branch e to) v h = branch_marks t m (is_nonzero (value_in t e)) to h
 marks_move t m (Lock k) v h = record { held = ap (λ xs. slice_set xs k true) h.held; handles = h.handles; children = h.children }
 marks_move t m (Unlock k) v h = record { held = ap (λ xs. slice_set xs k false) h.held; handles = h.handles; children = h.children }
@@ -133,7 +133,7 @@ marks_move t m _ v h = record { held = h.held; handles = h.handles; children = h
 
 -- Children.
 
-branch_children : (t : Local) (b : Bool) (to : ℕ) → (branched t b to).children ≡ t.children
+branch_children : (t : Local) (b : Bool) (to : ℕ) → (step_by_branch t b to).children ≡ t.children
 branch_children t true to = refl
 branch_children t false to = refl
 
@@ -145,11 +145,11 @@ children_move t (Branch e to) v = branch_children t (is_nonzero (value_in t e)) 
 children_move t (Create k f es) v = refl
 children_move t _ v = more_none t.children
 
--- Steps that no run does.
+-- Steps that no run can do.
 
 pub marks-append : (m : Marks) (ss rest : List Step) → marks_after m (ss ++ rest) ≡ marks_after (marks_after m ss) rest
 marks-append m [] rest = refl
-marks-append m (s ∷ ss) rest = marks-append (marked m s.instr) ss rest
+marks-append m (s ∷ ss) rest = marks-append (marks_after_instr m s.instr) ss rest
 
 more_than_none : (xs : List Step) (s : Step) → (length (xs ++ s ∷ []) == 0) ≡ false
 more_than_none xs s = by (length (xs ++ s ∷ []) == 0) refl
@@ -169,9 +169,9 @@ marked_push fails k m (x ∷ ss) s =
     let number : (k + 1) + length ss ≡ k + suc (length ss) = omega arith in
     ap₂ (λ b rest. the_marked (record { number = k; step = x; fails = b; marks = m } ∷ rest))
     (ap (λ b. fails && b) (more_than_none ss s) ∙ and-false fails)
-    (marked_push fails (k + 1) (marked m x.instr) ss s
-    ∙ ap (λ n. the_marked (marked_from false (k + 1) (marked m x.instr) ss
-    ++ record { number = n; step = s; fails = fails; marks = marks_after (marked m x.instr) ss } ∷ [])) number)
+    (marked_push fails (k + 1) (marks_after_instr m x.instr) ss s
+    ∙ ap (λ n. the_marked (marked_from false (k + 1) (marks_after_instr m x.instr) ss
+    ++ record { number = n; step = s; fails = fails; marks = marks_after (marks_after_instr m x.instr) ss } ∷ [])) number)
 
 pub any_push : {X : Type 0} (p : X → Bool) (xs : List X) (x : X) → list_any p xs ≡ false → p x ≡ false → list_any p (xs ++ x ∷ []) ≡ false
 any_push p [] x h q = or-false (p x) ∙ q
@@ -196,20 +196,20 @@ module _ (code : Code) (t u : Local) (i : Instr) (ps : List ℕ) (along : IsAlon
   pub started_push : started (steps_at code t.function (ps ++ t.instruction ∷ [])) ≡ started (steps_at code t.function ps) ++ cons_option (starts i) []
   started_push = ap started steps_push ∙ filter_map-push (λ (s : Step). starts s.instr) (steps_at code t.function ps) now
 
-  -- the marks before it
+  -- the marks before the step
   abbrev pub marks_here : Marks
-  marks_here = marks_after (unmarked code t.function) (steps_at code t.function ps)
+  marks_here = marks_after (marks_at_start code t.function) (steps_at code t.function ps)
 
-  -- a step that runs may do leaves none that no run does
+  -- if a run may do the step, the path still has no step that no run can do
   pub still_possible : (fails : Bool) → excludes marks_here i fails ≡ false
       → list_any is_impossible (marked_steps code t.function fails (steps_at code t.function (ps ++ t.instruction ∷ []))) ≡ false
   still_possible fails may =
       ap (λ ss. list_any is_impossible (marked_steps code t.function fails ss)) steps_push
-      ∙ ap (list_any is_impossible) (marked_push fails 0 (unmarked code t.function) (steps_at code t.function ps) now)
-      ∙ any_push is_impossible (marked_from false 0 (unmarked code t.function) (steps_at code t.function ps)) _ along.possible may
+      ∙ ap (list_any is_impossible) (marked_push fails 0 (marks_at_start code t.function) (steps_at code t.function ps) now)
+      ∙ any_push is_impossible (marked_from false 0 (marks_at_start code t.function) (steps_at code t.function ps)) _ along.possible may
 
   -- a thread that went on is where its path leads
-  pub goes_along : Moves t u i → HasMarks u (marked marks_here i) → u.children ≡ t.children + length (cons_option (starts i) [])
+  pub goes_along : Moves t u i → HasMarks u (marks_after_instr marks_here i) → u.children ≡ t.children + length (cons_option (starts i) [])
       → excludes marks_here i false ≡ false → IsAlong code u (ps ++ t.instruction ∷ [])
   goes_along m marks children may =
       let more = one_more code t.function t.steps 0 t.outcomes m.more ps t.instruction i u.instruction along.told along.end at m.leads in
@@ -224,9 +224,9 @@ module _ (code : Code) (t u : Local) (i : Instr) (ps : List ℕ) (along : IsAlon
             ∙ ap (end_from code t.function (suc t.steps) 0) m.outcomes
             ∙ more.end;
         marks =
-            subst (λ f. HasMarks u (marks_after (unmarked code f) (steps_at code f (ps ++ t.instruction ∷ [])))) (sym m.function)
+            subst (λ f. HasMarks u (marks_after (marks_at_start code f) (steps_at code f (ps ++ t.instruction ∷ [])))) (sym m.function)
             (subst (HasMarks u)
-            (sym (ap (marks_after (unmarked code t.function)) steps_push ∙ marks-append (unmarked code t.function) (steps_at code t.function ps) (now ∷ [])))
+            (sym (ap (marks_after (marks_at_start code t.function)) steps_push ∙ marks-append (marks_at_start code t.function) (steps_at code t.function ps) (now ∷ [])))
             marks);
         children =
             ap (λ f. length (started (steps_at code f (ps ++ t.instruction ∷ [])))) m.function

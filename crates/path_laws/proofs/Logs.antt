@@ -10,13 +10,11 @@ use Rattle.std.proofs.lemmas.List.{length-append}
 use Rattle.std.proofs.lemmas.List.Folds.{list_all_at}
 use Rattle.std.proofs.lemmas.Option.{none-some, same_Some, slice_get-get_or, slice_get-map, slice_get_within}
 use Rattle.tc_base.specs.Names.{Name, child}
-use Rattle.tc_base.specs.Buffers.{BufferOps}
 use Rattle.run_log.specs.Logs.{Log}
 use Rattle.tc_base.specs.Paths.{Path, ThreadPath, path_under}
 use Rattle.tc_base.specs.States.{Local, Thread, State}
 use Rattle.tc_base.specs.declared.failing.Failing.{Failing}
 use Rattle.tc_base.specs.declared.failing.Failing.TheVariants as failing
-use Rattle.memory_models.specs.declared.model.Model.{Model}
 use Rattle.tc_base.specs.declared.moves.Move.{Move}
 use Rattle.tc_base.specs.declared.request.Request.TheVariants.{Fail}
 use Rattle.tc_base.proofs.Names.{HasParent, parent_of, same_true}
@@ -25,13 +23,10 @@ use Rattle.tc_code.specs.Step.{request}
 use Rattle.tc_code.proofs.Facts.{at_its_place}
 use Rattle.tc_code.specs.declared.instr.Instr.{Instr}
 use Rattle.tc_code.specs.declared.instr.Instr.TheVariants.{Create, Exit}
-use Rattle.tc_code.specs.Lawful.{IsLawful}
 use Rattle.tc_code.specs.Run.{Reproduces, EndsAs, IsStuck, IsReached, path_of}
-use Rattle.store_buffers.specs.Laws.{Laws}
-use Rattle.store_buffers.specs.Pending.{Binding}
-use Rattle.path_walk.specs.Steps.{step_at, steps_at, is_failing, is_site, can_block, ends_at_site, standing, ended, places_of}
+use Rattle.path_walk.specs.Steps.{step_at, steps_at, is_failing, is_site, can_block, ends_at_site, standing, places_if_well_ended, places_of}
 use Rattle.path_walk.specs.Fits.{starts, started, ending_by, ending_of, fails_in, places_in, child_function, function_of, Fits}
-use Rattle.path_walk.specs.Marks.{unmarked, marks_after, marked_steps}
+use Rattle.path_walk.specs.Marks.{marks_at_start, marks_after, marked_steps}
 use Rattle.path_walk.specs.Events.{is_impossible}
 use Rattle.path_walk.specs.Paths.{Walk, have_exited, walk_of, function_in, steps_in, is_dead, paths_of}
 use Rattle.path_walk.specs.declared.ending.Ending.{Ending}
@@ -53,6 +48,7 @@ use Rattle.path_laws.proofs.Functions as functions
 use Rattle.path_laws.proofs.Prefixes.{failing_by, ends_as, fails_as, thread_path}
 use Rattle.path_laws.proofs.Local.{still_possible, started_push, marks_here}
 use Rattle.path_laws.proofs.States.{Stands, stands_places, fail_is_site, fail_possible, AllKnown, reached_known}
+use Rattle.run_follows.specs.Machine.{Machine}
 
 get_end : {X : Type 0} (xs : List X) (x : X) → slice_get (xs ++ x ∷ []) (length (xs ++ x ∷ []) - 1) ≡ Some x
 get_end xs x =
@@ -72,7 +68,7 @@ not_all p xs i x at fails =
     let within = slice_get_within xs i x at in
     list_all_at p xs i x within (ap p (same_Some (get_or xs i x) x (sym (slice_get-get_or xs i x within) ∙ at)) ∙ fails)
 
--- where nobody failed all paths rest
+-- if no thread failed, all paths rest
 none_failed : (failed : Option Name) (n : Name) → ending_by failed n ≡ Rests → failed ≡ None
 none_failed None n e = refl
 none_failed (Some m) n e = absurd (by (bytes_eq n m) e)
@@ -81,7 +77,7 @@ none_failed (Some m) n e = absurd (by (bytes_eq n m) e)
     by true e = cc
     by false e = cc
 
--- the thread of a name, and its place
+-- the thread with this name, and its index
 pub record HasPlace (n : Name) (way : Path) (ts : List ThreadPath) : Type 0 where
   pub place : ℕ
   pub thread : ThreadPath
@@ -107,12 +103,12 @@ module _ (code : Code) where
   abbrev went : Local → Path
   went t = record { outcomes = t.outcomes; steps = t.steps }
 
-  -- what stands is told by the path, and how that ends
+  -- the path that a thread has gone, with this ending, has the thread's places
   ended_so : (e : Ending) (t : Local) (ps : List ℕ) → Stands code (is_failing e) t ps
       → (e ≡ Rests → option_map_or can_block (standing code t.function (went t)) true ≡ true) → places_of code t.function e (went t) ≡ Ok ps
   ended_so Open t ps h rests = stands_places code false t ps h
   ended_so Rests t ps h rests =
-      ap (ended code t.function Rests (went t)) (stands_places code false t ps h)
+      ap (places_if_well_ended code t.function Rests (went t)) (stands_places code false t ps h)
       ∙ ap (λ b. cond b (the_ok ps) (Err misfit.NotBlocked)) (rests refl)
   ended_so Fails t ps h rests =
       let k = h.before.instruction in
@@ -124,10 +120,10 @@ module _ (code : Code) where
       ∙ ap (λ o. option_map_or (λ j. is_site (step_at code f j).instr) o false) (get_end h.front k)
       ∙ ap (λ o. is_site (unwrap_or o Exit)) at
       ∙ fail_is_site h.before h.instr h.asks in
-      ap (ended code t.function Fails (went t)) (stands_places code true t ps h)
+      ap (places_if_well_ended code t.function Fails (went t)) (stands_places code true t ps h)
       ∙ ap (λ b. cond b (the_ok ps) (Err misfit.NotASite)) ends
 
-  -- it has created as many children as it says
+  -- a thread has created as many children as it counts
   pub created_count : (b : Bool) (t : Local) (ps : List ℕ) → Stands code b t ps → length (started (steps_at code t.function ps)) ≡ t.children
   created_count false t ps h = h.children
   created_count true t ps h =
@@ -139,7 +135,7 @@ module _ (code : Code) where
       ∙ h.along.children
       ∙ sym (ap (λ (x : Local). x.children) h.is)
 
-  -- none of its steps is one that no run does
+  -- no step of the thread is one that no run can do
   alive : (b : Bool) (t : Local) (ps : List ℕ) → Stands code b t ps
       → list_any is_impossible (marked_steps code t.function b (steps_at code t.function ps)) ≡ false
   alive false t ps h = h.possible
@@ -149,173 +145,174 @@ module _ (code : Code) where
       ∙ still_possible code h.before h.before h.instr h.front h.along at true
       (fail_possible h.before (marks_here code h.before h.before h.instr h.front h.along at) h.instr h.asks h.along.marks)
 
-  module _ {B : Type 0} (ops : BufferOps B) (model : Model) (bound : Binding) (laws : Laws ops model bound) (lawful : IsLawful code) (log : Log)
-      (moves : List Move) (r : Reproduces ops code log moves) where
-    abbrev s : State B
-    s = r.state
+module _ {B : Type 0} (machine : Machine B) (log : Log) (moves : List Move) (r : Reproduces machine.ops machine.code log moves) where
+  open machine use {ops, model, bound, laws, code, lawful}
 
-    reached : IsReached ops code s
-    reached = record { moves = moves; leads = r.leads }
+  abbrev s : State B
+  s = r.state
 
-    known : AllKnown code s.threads s.failed
-    known = reached_known ops code lawful s reached
+  reached : IsReached ops code s
+  reached = record { moves = moves; leads = r.leads }
 
-    no_path : (n : Name) → fin.get s.threads n ≡ None → path_under n log.threads ≡ None
-    no_path n none = sym (r.paths n) ∙ ap (option_map path_of) none
+  known : AllKnown code s.threads s.failed
+  known = reached_known ops code lawful s reached
 
-    -- a thread of a deadlock that hasn't exited stands where it can be blocked
-    record IsBlocked (t : Local) : Type 0 where
-      instr : Instr
-      at : standing code t.function (went t) ≡ Some instr
-      blocks : can_block instr ≡ true
+  no_path : (n : Name) → fin.get s.threads n ≡ None → path_under n log.threads ≡ None
+  no_path n none = sym (r.paths n) ∙ ap (option_map path_of) none
 
-    module _ (stuck : IsStuck ops code s) (n : Name) (t : Thread B) (there : fin.get s.threads n ≡ Some t) where
-      standing_there : standing code t.local.function (went t.local) ≡ instr_at code t.local.function t.local.instruction
-      standing_there =
-          let k = known n t there in
-          let along : IsAlong code t.local k.places = subst (λ o. Stands code (fails_by o n) t.local k.places) stuck.unfailed k.stands in
-          ap (instr_at code t.local.function) along.end
+  -- a thread of a deadlock that hasn't exited stands where it can be blocked
+  record IsBlocked (t : Local) : Type 0 where
+    instr : Instr
+    at : standing code t.function (went code t) ≡ Some instr
+    blocks : can_block instr ≡ true
 
-      is_blocked : t.local.has_exited ≡ false → IsBlocked t.local
-      is_blocked going =
-          let next = has_next ops code s lawful reached n t there going in
-          let waits = stuck_waits ops code s n t next.0 stuck.unfailed stuck.still there next.1
-          (stuck_is_drained ops model bound code s n t laws reached stuck there) in
-          record {
-            instr = next.0;
-            at = standing_there ∙ at_its_place code t.local next.0 next.1;
-            blocks = sym (waits_where_blocked t.local next.0) ∙ waits.1;
-          }
-
-      -- so it rests
-      may_rest : option_map_or can_block (standing code t.local.function (went t.local)) true ≡ true
-      may_rest = by t.local.has_exited refl
-        where
-          by : (b : Bool) → t.local.has_exited ≡ b → option_map_or can_block (standing code t.local.function (went t.local)) true ≡ true
-          by true gone =
-              ap (λ o. option_map_or can_block o true)
-              (standing_there ∙ none_behind_exit code t.local lawful ((exited_past_exit ops code s lawful reached n t there).0 gone))
-          by false going = let b = is_blocked going in ap (λ o. option_map_or can_block o true) b.at ∙ b.blocks
-
-    stuck_if : s.failed ≡ None → IsStuck ops code s
-    stuck_if none = by log.failing r.ends
-      where
-        failed_one : (o : Option ThreadPath) → IsSomeAnd o (λ t. s.failed ≡ Some t.name) → IsStuck ops code s
-        failed_one None h = absurd h
-        failed_one (Some t) h = absurd (none-some t.name (sym none ∙ h))
-
-        by : (f : Failing) → EndsAs ops code f log.threads s → IsStuck ops code s
-        by (failing.Thread k) h = failed_one (slice_get log.threads k) h
-        by failing.Deadlock h = h
-
-    placed : (n : Name) (t : Thread B) (there : fin.get s.threads n ≡ Some t)
-        → places_of code t.local.function (ending_of log n) (path_of t) ≡ Ok (known n t there).places
-    placed n t there =
+  module _ (stuck : IsStuck ops code s) (n : Name) (t : Thread B) (there : fin.get s.threads n ≡ Some t) where
+    standing_there : standing code t.local.function (went code t.local) ≡ instr_at code t.local.function t.local.instruction
+    standing_there =
         let k = known n t there in
-        ap (λ e. places_of code t.local.function e (path_of t)) (ends_as ops code log moves r n)
-        ∙ ended_so (ending_by s.failed n) t.local k.places (subst (λ b. Stands code b t.local k.places) (sym (failing_by s.failed n)) k.stands)
-        (λ rests. may_rest (stuck_if (none_failed s.failed n rests)) n t there)
+        let along : IsAlong code t.local k.places = subst (λ o. Stands code (fails_by o n) t.local k.places) stuck.unfailed k.stands in
+        ap (instr_at code t.local.function) along.end
 
-    places_are : (n : Name) (t : Thread B) (there : fin.get s.threads n ≡ Some t) → places_in code log n t.local.function ≡ (known n t there).places
-    places_are n t there =
-        ap (λ x. result_unwrap_or x [])
-        (walked_there code log n t.local.function (path_of t) (thread_path ops code log moves r n t there) ∙ placed n t there)
+    is_blocked : t.local.has_exited ≡ false → IsBlocked t.local
+    is_blocked going =
+        let next = has_next ops code s lawful reached n t there going in
+        let waits = stuck_waits ops code s n t next.0 stuck.unfailed stuck.still there next.1
+        (stuck_is_drained ops model bound code s n t laws reached stuck there) in
+        record {
+          instr = next.0;
+          at = standing_there ∙ at_its_place code t.local next.0 next.1;
+          blocks = sym (waits_where_blocked t.local next.0) ∙ waits.1;
+        }
 
-    -- the functions that a thread's path creates are those that it has created
-    child_is : (n : Name) (t : Thread B) (there : fin.get s.threads n ≡ Some t) (j : ℕ)
-        → child_function code log n t.local.function (suc j) ≡ slice_get (started (steps_at code t.local.function (known n t there).places)) j
-    child_is n t there j = ap (λ xs. slice_get (started (steps_at code t.local.function xs)) j) (places_are n t there)
-
-    -- each thread's function is that of the code and log
-    function_is : (n : Name) (t : Thread B) → fin.get s.threads n ≡ Some t → function_of code log n ≡ Some t.local.function
-    function_is = functions.function_is code log s known (λ n t there function. ([], places_are n t there ∙ sym (append-nil (known n t there).places)))
-
-    -- nothing creates a name that is no thread
-    beyond : (p : Name) (t : Thread B) (there : fin.get s.threads p ≡ Some t) (j : ℕ) (xs : List ℕ) → length xs ≡ t.local.children
-        → fin.get s.threads (child p (suc j)) ≡ None → slice_get xs j ≡ None
-    beyond p t there j xs count none =
-        elim (option_is (slice_get xs j)) [
-          | inl e ↦ e
-          | inr is ↦
-              let within = slice_get_within xs j is.0 is.1 in
-              absurd (not_there _ none ((reached_is_created ops code s reached).child_is_there p t (suc j) there
-              (record { first = omega arith; last = omega (arith, count, within) })))
-        ]
-
-    not_created : (p : Name) (t : Thread B) (there : fin.get s.threads p ≡ Some t) (k : ℕ) → fin.get s.threads (child p k) ≡ None
-        → child_function code log p t.local.function k ≡ None
-    not_created p t there zero none = refl
-    not_created p t there (suc j) none =
-        child_is p t there j
-        ∙ beyond p t there j (started (steps_at code t.local.function (known p t there).places))
-        (created_count (fails_by s.failed p) t.local (known p t there).places (known p t there).stands) none
-
-    none_created : (n : Name) → fin.get s.threads n ≡ None → function_of code log n ≡ None
-    none_created n none = by (parent_of n)
+    -- so it rests
+    may_rest : option_map_or can_block (standing code t.local.function (went code t.local)) true ≡ true
+    may_rest = by t.local.has_exited refl
       where
-        by_parent : (p : Name) (k : ℕ) → n ≡ child p k → (fin.get s.threads p ≡ None) ⊎ ((t : Thread B) × (fin.get s.threads p ≡ Some t))
-            → function_of code log n ≡ None
-        by_parent p k name (inl absent) = ap (function_of code log) name ∙ no_child code log p k (no_path p absent)
-        by_parent p k name (inr is) =
-            ap (function_of code log) name
-            ∙ function_of_child code log p k
-            ∙ ap (option_and_then (λ g. child_function code log p g k)) (function_is p is.0 is.1)
-            ∙ not_created p is.0 is.1 k (ap (fin.get s.threads) (sym name) ∙ none)
+        by : (b : Bool) → t.local.has_exited ≡ b → option_map_or can_block (standing code t.local.function (went code t.local)) true ≡ true
+        by true gone =
+            ap (λ o. option_map_or can_block o true)
+            (standing_there ∙ none_behind_exit code t.local lawful ((exited_past_exit ops code s lawful reached n t there).0 gone))
+        by false going = let b = is_blocked going in ap (λ o. option_map_or can_block o true) b.at ∙ b.blocks
 
-        by : (n ≡ []) ⊎ HasParent n → function_of code log n ≡ None
-        by (inl main) = absurd (not_there _ (ap (fin.get s.threads) (sym main) ∙ none) (main_is_there ops code s reached))
-        by (inr h) = by_parent h.parent h.number h.name (option_is (fin.get s.threads h.parent))
+  stuck_if : s.failed ≡ None → IsStuck ops code s
+  stuck_if none = by log.failing r.ends
+    where
+      failed_one : (o : Option ThreadPath) → IsSomeAnd o (λ t. s.failed ≡ Some t.name) → IsStuck ops code s
+      failed_one None h = absurd h
+      failed_one (Some t) h = absurd (none-some t.name (sym none ∙ h))
 
-    -- so nothing is wrong with any name
-    pub reproduced_fits : Fits code log
-    reproduced_fits n =
-        elim (option_is (fin.get s.threads n)) [
-          | inl none ↦ nobody code log n (none_created n none) (no_path n none)
-          | inr is ↦
-              by_path code log n is.0.local.function (path_of is.0) (function_is n is.0 is.1) (thread_path ops code log moves r n is.0 is.1)
-              ∙ ap result_err (placed n is.0 is.1)
-        ]
+      by : (f : Failing) → EndsAs ops code f log.threads s → IsStuck ops code s
+      by (failing.Thread k) h = failed_one (slice_get log.threads k) h
+      by failing.Deadlock h = h
 
-    alive_under : (t : ThreadPath) → IsSome (path_under t.name log.threads) → is_dead code log t ≡ false
-    alive_under t here =
-        elim (option_is (fin.get s.threads t.name)) [
-          | inl none ↦ absurd (not_there _ (no_path t.name none) here)
-          | inr is ↦
-              let x = is.0 in
-              let f = x.local.function in
-              ap (λ o. list_any is_impossible (marked_steps code (unwrap_or o 0) (fails_in log t.name)
-              (steps_at code (unwrap_or o 0) (places_in code log t.name (unwrap_or o 0))))) (function_is t.name x is.1)
-              ∙ ap₂ (λ b xs. list_any is_impossible (marked_steps code f b (steps_at code f xs)))
-              (fails_as ops code log moves r t.name) (places_are t.name x is.1)
-              ∙ alive (fails_by s.failed t.name) x.local (known t.name x is.1).places (known t.name x is.1).stands
-        ]
+  placed : (n : Name) (t : Thread B) (there : fin.get s.threads n ≡ Some t)
+      → places_of code t.local.function (ending_of log n) (path_of t) ≡ Ok (known n t there).places
+  placed n t there =
+      let k = known n t there in
+      ap (λ e. places_of code t.local.function e (path_of t)) (ends_as ops code log moves r n)
+      ∙ ended_so code (ending_by s.failed n) t.local k.places (subst (λ b. Stands code b t.local k.places) (sym (failing_by s.failed n)) k.stands)
+      (λ rests. may_rest (stuck_if (none_failed s.failed n rests)) n t there)
 
-    -- a thread of a deadlock that is left is blocked
-    left_is_blocked : IsStuck ops code s → list_all (λ (w : Walk). is_none w.blocked) (map (walk_of code log) log.threads) ≡ false
-    left_is_blocked stuck =
-        let n = stuck.left.0 in
-        let left = stuck.left.1 in
-        let t = left.thread in
-        let p = place_of n (path_of t) log.threads (thread_path ops code log moves r n t left.there) in
-        let q = p.thread in
-        let b = is_blocked stuck n t left.there left.going in
-        let function : function_in code log q ≡ t.local.function =
-        ap (λ m. unwrap_or (function_of code log m) 0) p.name ∙ ap (λ o. unwrap_or o 0) (function_is n t left.there) in
-        not_all (λ (w : Walk). is_none w.blocked) (map (walk_of code log) log.threads) p.place (walk_of code log q)
-        (slice_get-map (walk_of code log) log.threads p.place ∙ ap (option_map (walk_of code log)) p.there)
-        (blocked_there (ending_of log q.name) (marks_after (unmarked code (function_in code log q)) (steps_in code log q)) (walk_of code log q).sleeps
-        (standing code (function_in code log q) q.path) b.instr
-        (ends_as ops code log moves r q.name ∙ ap (λ o. ending_by o q.name) stuck.unfailed)
-        (ap₂ (standing code) function p.path ∙ b.at) b.blocks)
+  places_are : (n : Name) (t : Thread B) (there : fin.get s.threads n ≡ Some t) → places_in code log n t.local.function ≡ (known n t there).places
+  places_are n t there =
+      ap (λ x. result_unwrap_or x [])
+      (walked_there code log n t.local.function (path_of t) (thread_path ops code log moves r n t there) ∙ placed n t there)
 
-    -- so not all have exited
-    not_all_exited : have_exited log.failing (map (walk_of code log) log.threads) ≡ false
-    not_all_exited = by log.failing r.ends
-      where
-        by : (f : Failing) → EndsAs ops code f log.threads s → have_exited f (map (walk_of code log) log.threads) ≡ false
-        by (failing.Thread k) h = refl
-        by failing.Deadlock h = left_is_blocked h
+  -- the functions that a thread's path creates are those that it has created
+  child_is : (n : Name) (t : Thread B) (there : fin.get s.threads n ≡ Some t) (j : ℕ)
+      → child_function code log n t.local.function (suc j) ≡ slice_get (started (steps_at code t.local.function (known n t there).places)) j
+  child_is n t there j = ap (λ xs. slice_get (started (steps_at code t.local.function xs)) j) (places_are n t there)
 
-    -- and no path tells that no run goes so
-    pub reproduced_alive : (paths_of code log).dead ≡ false
-    reproduced_alive = ap₂ ◌||◌ (any_none (is_dead code log) log.threads (λ i t at. alive_under t (under_own log.threads i t at))) not_all_exited
+  -- each thread's function is that of the code and log
+  function_is : (n : Name) (t : Thread B) → fin.get s.threads n ≡ Some t → function_of code log n ≡ Some t.local.function
+  function_is = functions.function_is code log s known (λ n t there function. ([], places_are n t there ∙ sym (append-nil (known n t there).places)))
+
+  -- nothing creates a name that is no thread
+  beyond : (p : Name) (t : Thread B) (there : fin.get s.threads p ≡ Some t) (j : ℕ) (xs : List ℕ) → length xs ≡ t.local.children
+      → fin.get s.threads (child p (suc j)) ≡ None → slice_get xs j ≡ None
+  beyond p t there j xs count none =
+      elim (option_is (slice_get xs j)) [
+        | inl e ↦ e
+        | inr is ↦
+            let within = slice_get_within xs j is.0 is.1 in
+            absurd (not_there _ none ((reached_is_created ops code s reached).child_is_there p t (suc j) there
+            (record { first = omega arith; last = omega (arith, count, within) })))
+      ]
+
+  not_created : (p : Name) (t : Thread B) (there : fin.get s.threads p ≡ Some t) (k : ℕ) → fin.get s.threads (child p k) ≡ None
+      → child_function code log p t.local.function k ≡ None
+  not_created p t there zero none = refl
+  not_created p t there (suc j) none =
+      child_is p t there j
+      ∙ beyond p t there j (started (steps_at code t.local.function (known p t there).places))
+      (created_count code (fails_by s.failed p) t.local (known p t there).places (known p t there).stands) none
+
+  none_created : (n : Name) → fin.get s.threads n ≡ None → function_of code log n ≡ None
+  none_created n none = by (parent_of n)
+    where
+      by_parent : (p : Name) (k : ℕ) → n ≡ child p k → (fin.get s.threads p ≡ None) ⊎ ((t : Thread B) × (fin.get s.threads p ≡ Some t))
+          → function_of code log n ≡ None
+      by_parent p k name (inl absent) = ap (function_of code log) name ∙ no_child code log p k (no_path p absent)
+      by_parent p k name (inr is) =
+          ap (function_of code log) name
+          ∙ function_of_child code log p k
+          ∙ ap (option_and_then (λ g. child_function code log p g k)) (function_is p is.0 is.1)
+          ∙ not_created p is.0 is.1 k (ap (fin.get s.threads) (sym name) ∙ none)
+
+      by : (n ≡ []) ⊎ HasParent n → function_of code log n ≡ None
+      by (inl main) = absurd (not_there _ (ap (fin.get s.threads) (sym main) ∙ none) (main_is_there ops code s reached))
+      by (inr h) = by_parent h.parent h.number h.name (option_is (fin.get s.threads h.parent))
+
+  -- so nothing is wrong with any name
+  pub reproduced_fits : Fits code log
+  reproduced_fits n =
+      elim (option_is (fin.get s.threads n)) [
+        | inl none ↦ nobody code log n (none_created n none) (no_path n none)
+        | inr is ↦
+            by_path code log n is.0.local.function (path_of is.0) (function_is n is.0 is.1) (thread_path ops code log moves r n is.0 is.1)
+            ∙ ap result_err (placed n is.0 is.1)
+      ]
+
+  alive_under : (t : ThreadPath) → IsSome (path_under t.name log.threads) → is_dead code log t ≡ false
+  alive_under t here =
+      elim (option_is (fin.get s.threads t.name)) [
+        | inl none ↦ absurd (not_there _ (no_path t.name none) here)
+        | inr is ↦
+            let x = is.0 in
+            let f = x.local.function in
+            ap (λ o. list_any is_impossible (marked_steps code (unwrap_or o 0) (fails_in log t.name)
+            (steps_at code (unwrap_or o 0) (places_in code log t.name (unwrap_or o 0))))) (function_is t.name x is.1)
+            ∙ ap₂ (λ b xs. list_any is_impossible (marked_steps code f b (steps_at code f xs)))
+            (fails_as ops code log moves r t.name) (places_are t.name x is.1)
+            ∙ alive code (fails_by s.failed t.name) x.local (known t.name x is.1).places (known t.name x is.1).stands
+      ]
+
+  -- a thread of a deadlock that is left is blocked
+  left_is_blocked : IsStuck ops code s → list_all (λ (w : Walk). is_none w.blocked) (map (walk_of code log) log.threads) ≡ false
+  left_is_blocked stuck =
+      let n = stuck.left.0 in
+      let left = stuck.left.1 in
+      let t = left.thread in
+      let p = place_of n (path_of t) log.threads (thread_path ops code log moves r n t left.there) in
+      let q = p.thread in
+      let b = is_blocked stuck n t left.there left.going in
+      let function : function_in code log q ≡ t.local.function =
+      ap (λ m. unwrap_or (function_of code log m) 0) p.name ∙ ap (λ o. unwrap_or o 0) (function_is n t left.there) in
+      not_all (λ (w : Walk). is_none w.blocked) (map (walk_of code log) log.threads) p.place (walk_of code log q)
+      (slice_get-map (walk_of code log) log.threads p.place ∙ ap (option_map (walk_of code log)) p.there)
+      (blocked_there (ending_of log q.name) (marks_after (marks_at_start code (function_in code log q)) (steps_in code log q)) (walk_of code log q).sleeps
+      (standing code (function_in code log q) q.path) b.instr
+      (ends_as ops code log moves r q.name ∙ ap (λ o. ending_by o q.name) stuck.unfailed)
+      (ap₂ (standing code) function p.path ∙ b.at) b.blocks)
+
+  -- so not all have exited
+  not_all_exited : have_exited log.failing (map (walk_of code log) log.threads) ≡ false
+  not_all_exited = by log.failing r.ends
+    where
+      by : (f : Failing) → EndsAs ops code f log.threads s → have_exited f (map (walk_of code log) log.threads) ≡ false
+      by (failing.Thread k) h = refl
+      by failing.Deadlock h = left_is_blocked h
+
+  -- and no path tells that no run goes so
+  pub reproduced_alive : (paths_of code log).dead ≡ false
+  reproduced_alive = ap₂ ◌||◌ (any_none (is_dead code log) log.threads (λ i t at. alive_under t (under_own log.threads i t at))) not_all_exited

@@ -31,7 +31,7 @@ use Rattle.path_walk.proofs.Faults.{walked_there, by_path}
 use Rattle.path_walk.proofs.Places.{unrolled, count, fits_from}
 use Rattle.run_laws.proofs.Changes.{is_fail}
 use Rattle.run_laws.proofs.Steps.{none_failed}
-use Rattle.run_history.specs.History.{taken}
+use Rattle.run_history.specs.History.{value_taken}
 use Rattle.run_history.proofs.Threads.{own, steps_by}
 use Rattle.path_laws.specs.Prefixes.{fails_by, IsOnPath, AreOnPaths}
 use Rattle.path_laws.proofs.Does.{GoesOn, own_fails, Does, Change, By_step, change_of, own_there, still_there}
@@ -41,7 +41,7 @@ use Rattle.path_laws.proofs.States.{Stands, stands_places, same_function, step_t
 
 -- Beginnings.
 
--- where a thread that goes on is on its path, it is so before
+-- a thread that is on its path later is on it before
 on_before : (log : Log) (failed : Option Name) (n : Name) (t u : Local) → GoesOn t u → (fails_by failed n ≡ true → t.steps < u.steps)
     → IsOnPath log failed n u → IsOnPath log None n t
 on_before log failed n t u goes fails on = record {
@@ -62,27 +62,27 @@ on_before log failed n t u goes fails on = record {
         absurd (omega (arith, all, same, fails (on.fails ∙ ap₂ (λ x y. x && y) e (eq-eqb u.steps on.path.steps same))))
 
 module _ {B : Type 0} (ops : BufferOps B) (code : Code) (log : Log) where
-  -- where all threads are on their paths, so they are before what a move does
+  -- if all threads are on their paths after a move, they are before it
   pub on_before_change : (s u : State B) → IsReached ops code s → s.failed ≡ None → Change ops code s u → AreOnPaths log u → AreOnPaths log s
   on_before_change s u reached going change on n t there =
       let still = still_there ops code s u reached change n t there in
       subst (λ o. IsOnPath log o n t.local) (sym going)
       (on_before log u.failed n t.local still.thread.local still.goes still.fails (on n still.thread still.there))
 
-  -- so they are one move before
+  -- all threads are on their paths one move before
   pub on_before_step : (s u : State B) (m : Move) → IsReached ops code s → step ops code s m ≡ Some u → AreOnPaths log u → AreOnPaths log s
   on_before_step s u m reached one on = on_before_change s u reached (none_failed ops code s u m one) (change_of ops code s u m one) on
 
-  -- and before more moves
+  -- all threads are on their paths some moves before
   pub on_before_moves : (s u : State B) (ms : List Move) → IsReached ops code s → run_from ops code s ms ≡ Some u → AreOnPaths log u → AreOnPaths log s
   on_before_moves s u [] reached leads on = subst (AreOnPaths log) (sym (same_Some s u leads)) on
   on_before_moves s u (m ∷ ms) reached leads on =
       option_and_then_some (λ v. run_from ops code v ms) (step ops code s m) u leads
       (λ v one rest. on_before_step s v m reached one (on_before_moves v u ms (step_is_reached ops code s v m one reached) rest on))
 
--- What reproduces a log.
+-- Moves that reproduce a log.
 
--- a path ends in a failure exactly where its thread is the one that failed
+-- a path ends in a failure exactly if its thread is the one that failed
 pub failing_by : (failed : Option Name) (n : Name) → is_failing (ending_by failed n) ≡ fails_by failed n
 failing_by None n = refl
 failing_by (Some m) n = by (bytes_eq n m)
@@ -92,15 +92,15 @@ failing_by (Some m) n = by (bytes_eq n m)
     by false = refl
 
 module _ {B : Type 0} (ops : BufferOps B) (code : Code) (log : Log) (moves : List Move) (r : Reproduces ops code log moves) where
-  -- a thread's path ends in the log as it did
+  -- a thread's path ends in the log as it did in the run
   pub ends_as : (n : Name) → ending_of log n ≡ ending_by r.state.failed n
   ends_as n = ap (λ o. ending_by o n) (sym (failed_as_logged ops code log r.state r.ends))
 
-  -- it has failed exactly where it fails in the log
+  -- a thread has failed exactly if it fails in the log
   pub fails_as : (n : Name) → fails_in log n ≡ fails_by r.state.failed n
   fails_as n = ap is_failing (ends_as n) ∙ failing_by r.state.failed n
 
-  -- its path in the log is that which it went
+  -- a thread's path in the log is the one that it went
   pub thread_path : (n : Name) (t : Thread B) → fin.get r.state.threads n ≡ Some t → path_under n log.threads ≡ Some (path_of t)
   thread_path n t there = sym (r.paths n) ∙ ap (option_map path_of) there
 
@@ -115,7 +115,7 @@ module _ {B : Type 0} (ops : BufferOps B) (code : Code) (log : Log) (moves : Lis
     fails = sym (fails_as n) ∙ sym (and-true (fails_in log n)) ∙ ap (λ b. fails_in log n && b) (sym (eq-eqb t.local.steps t.local.steps refl));
   }
 
--- so the first moves of those that reproduce a log lead threads the first parts of their paths
+-- the first moves of a run that reproduces a log lead threads along first parts of their paths
 pub beginnings_on : {B : Type 0} (ops : BufferOps B) (code : Code) (log : Log) (first rest : List Move) (s : State B)
     → Reproduces ops code log (first ++ rest) → run ops code first ≡ Some s → AreOnPaths log s
 beginnings_on ops code log first rest s r leads =
@@ -133,7 +133,7 @@ own_under log is j p at =
 
 -- Places.
 
--- fewer steps by the first of the outcomes are the first of the places
+-- fewer steps by the first outcomes give the first places
 pub first_places : (code : Code) (f n m k : ℕ) (os more : List Bool) (ps qs : List ℕ) → n ≤ m → places_from code f n k os ≡ Ok ps
     → places_from code f m k (os ++ more) ≡ Ok qs → ps ≡ take n qs
 first_places code f zero m k [] more ps qs few h g = let none : [] ≡ ps = cc in sym none
@@ -150,21 +150,23 @@ first_places code f (suc n) (suc m) k os more ps qs few h g =
     let less : n ≤ m = omega (arith, few) in
     x.all ∙ ap (λ xs. k ∷ xs) (first_places code f n m x.next.place x.next.outcomes more x.rest y.rest less x.told told) ∙ sym (ap (take (suc n)) y.all)
 
--- what has no error is a value
+-- a result without an error is a value
 pub is_ok : {X E : Type 0} (r : Result X E) (d : X) → result_err r ≡ None → r ≡ Ok (result_unwrap_or r d)
 is_ok (Ok x) d h = refl
 is_ok (Err e) d h = absurd (none-some e (sym h))
 
--- a thread so far: its function is that of the code and log, and it stands where the first places of its path lead
+-- a thread so far has the function of the code and log, and is where the first places of its path
+-- lead
 pub record IsSoFar (code : Code) (log : Log) (failed : Option Name) (n : Name) (t : Local) : Type 0 where
   pub on : IsOnPath log failed n t
   pub function : function_of code log n ≡ Some t.function
-  -- its whole path is told
+  -- the code and the log determine the places of its whole path
   pub told : places_from code t.function on.path.steps 0 on.path.outcomes ≡ Ok (places_in code log n t.function)
   pub count : length (places_in code log n t.function) ≡ on.path.steps
   pub stands : Stands code (fails_by failed n) t (take t.steps (places_in code log n t.function))
 
--- a step leads one place on along the path, and fails exactly where the thread is the one that fails and has no step left
+-- a step leads one place further on the path, and fails exactly if the thread is the one that fails
+-- and has no step left
 pub record IsOnward (code : Code) (log : Log) (n : Name) (t : Local) (i : Instr) (r : Request) : Type 0 where
   pub before : IsSoFar code log None n t
   pub at : instr_at code t.function t.instruction ≡ Some i
@@ -177,7 +179,7 @@ module _ {B : Type 0} (ops : BufferOps B) (code : Code) (lawful : IsLawful code)
     abbrev known : AllKnown code s.threads s.failed
     known = reached_known ops code lawful s reached
 
-    -- the whole path of a thread is told by its function
+    -- a thread's function and path determine the places of the whole path
     whole_path : (n : Name) (t : Thread B) (there : fin.get s.threads n ≡ Some t) → function_of code log n ≡ Some t.local.function
         → places_from code t.local.function (on n t there).path.steps 0 (on n t there).path.outcomes ≡ Ok (places_in code log n t.local.function)
     whole_path n t there function =
@@ -188,7 +190,7 @@ module _ {B : Type 0} (ops : BufferOps B) (code : Code) (lawful : IsLawful code)
         fits_from code f (ending_of log n) o.path (places_from code f o.path.steps 0 o.path.outcomes) (places_in code log n f)
         (fine ∙ ap (λ r. Ok (result_unwrap_or r [])) (sym (walked_there code log n f o.path o.there)))
 
-    -- its places so far are the first of that path
+    -- a thread's places so far are the first of its whole path
     pub places_so_far : (n : Name) (t : Thread B) (there : fin.get s.threads n ≡ Some t) → function_of code log n ≡ Some t.local.function
         → (known n t there).places ≡ take t.local.steps (places_in code log n t.local.function)
     places_so_far n t there function =
@@ -198,7 +200,7 @@ module _ {B : Type 0} (ops : BufferOps B) (code : Code) (lawful : IsLawful code)
         (stands_places code (fails_by s.failed n) t.local k.places k.stands)
         (ap (places_from code t.local.function o.path.steps 0) (sym o.outcomes) ∙ whole_path n t there function)
 
-    -- so that they begin it
+    -- the places so far begin the whole path
     are_first : (n : Name) (t : Thread B) (there : fin.get s.threads n ≡ Some t) → function_of code log n ≡ Some t.local.function
         → AreFirst code log n t.local (known n t there).places
     are_first n t there function =
@@ -207,7 +209,7 @@ module _ {B : Type 0} (ops : BufferOps B) (code : Code) (lawful : IsLawful code)
           sym (take-append-drop t.local.steps all) ∙ ap (λ xs. xs ++ drop t.local.steps all) (sym (places_so_far n t there function)),
         )
 
-    -- so each thread is where the first part of its path leads
+    -- each thread is where the first part of its path leads
     pub so_far : (n : Name) (t : Thread B) → fin.get s.threads n ≡ Some t → IsSoFar code log s.failed n t.local
     so_far n t there =
         let o = on n t there in
@@ -226,7 +228,7 @@ module _ {B : Type 0} (ops : BufferOps B) (code : Code) (lawful : IsLawful code)
   pub step_is_onward : (s u : State B) (n : Name) (t : Thread B) (i : Instr) (r : Request) → IsReached ops code s → s.failed ≡ None → Does ops code s u n t i r
       → AreOnPaths log u → IsOnward code log n t.local i r
   step_is_onward s u n t i r reached going does on =
-      let v = taken ops code s t r in
+      let v = value_taken ops code s t r in
       let f = t.local.function in
       let all = places_in code log n f in
       let w = (own ops code s t i r).local in

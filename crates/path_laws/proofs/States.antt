@@ -1,4 +1,4 @@
--- What holds of the paths of all threads, in each state of a run.
+-- Facts on the paths of all threads in each state of a run.
 use Rattle.std.proofs.Common.{◌≡◌, ◌≢◌, ◌∙◌, ◌⊎◌, inl, inr, ℕ, suc, ◌+◌, ◌-◌, ℤ, pos, ◌||◌, Bool, true, false, List, [], ◌∷◌, ◌++◌, length}
 use Rattle.std.proofs.Common.{Option, Some, None, Ok, refl, sym, ap, ap₂, subst, arith, append-nil, slice_index_or, IsTrue, true≢false}
 use Rattle.std.specs.Prelude.{slice_get, is_none, not}
@@ -21,8 +21,8 @@ use Rattle.tc_code.specs.declared.instr.Instr.TheVariants.{Inside, Branch, Goto,
 use Rattle.tc_code.specs.declared.instr.Instr.TheVariants.{Signal, Create, Ready, Assert, Nonzero, InRange}
 use Rattle.tc_code.specs.Lawful.{IsLawful}
 use Rattle.tc_code.specs.Run.{IsReached}
-use Rattle.tc_code.specs.Step.{request, site, holds, handle_of, can_be_joined, stepped, local_after, arguments_of, instr_of, allows}
-use Rattle.tc_code.specs.Step.{drains_first, perform, born, woken, opening}
+use Rattle.tc_code.specs.Step.{request, site, holds, handle_of, can_be_joined, step_in_place, local_after, arguments_of, instr_of, allows}
+use Rattle.tc_code.specs.Step.{drains_first, perform, born, state_after_wake, opening}
 use Rattle.tc_code.specs.Step as machine
 use Rattle.list_laws.proofs.Lists.{get_front, get_seam}
 use Rattle.path_walk.specs.Steps.{onward, places_from, steps_at, is_site}
@@ -43,7 +43,7 @@ use Rattle.path_laws.specs.Prefixes.{fails_by}
 use Rattle.path_laws.proofs.Does.{bytes_other, failed_after, failed_is}
 use Rattle.path_laws.proofs.Local.{one_more, moves, marks_move, children_move, started_push, goes_along, marks_here}
 
--- A site that is false.
+-- A site whose test is false.
 
 site_fails : (b : Bool) → site b ≡ Fail → b ≡ false
 site_fails true e = absurd cc
@@ -58,13 +58,13 @@ fail_is_site t (Nonzero e) h = refl
 fail_is_site t (InRange e) h = refl
 fail_is_site t i h = absurd cc
 
--- it leads to the next place
+-- a site leads to the next place
 site_leads : (t : Local) (k : ℕ) (i : Instr) → request t i ≡ Fail → onward k i [] ≡ Some (record { place = k + 1; outcomes = [] })
 site_leads t k (Branch e to) h = absurd cc
 site_leads t k (Goto to) h = absurd cc
 site_leads t k _ h = refl
 
--- it isn't one that no run does
+-- a false site isn't a step that no run can do
 pub fail_possible : (t : Local) (m : Marks) (i : Instr) → request t i ≡ Fail → HasMarks t m → excludes m i true ≡ false
 fail_possible t m (Lock k) h marks = absurd cc
 fail_possible t m (Holds k) h marks = ap (λ b. beq b true) (ap (λ xs. slice_index_or xs k false) marks.held ∙ site_fails (holds t k) h)
@@ -72,7 +72,7 @@ fail_possible t m (Ready k) h marks =
     ap (λ b. beq b true) (ap (λ xs. can_be_joined (slice_index_or xs k Unset)) marks.handles ∙ site_fails (can_be_joined (handle_of t k)) h)
 fail_possible t m _ h marks = refl
 
--- A step of a thread, one at which it fails included.
+-- A step of a thread, including one at which it fails.
 
 -- where a step leads, with its outcome if it has one
 record IsLed (t u : Local) (i : Instr) : Type 0 where
@@ -81,12 +81,12 @@ record IsLed (t u : Local) (i : Instr) : Type 0 where
   to : ℕ
   leads : onward t.instruction i more ≡ Some (record { place = to; outcomes = [] })
 
--- so does each instruction that doesn't fail
+-- each instruction that doesn't fail leads on
 led_on : (t : Local) (i : Instr) (v : ℤ) → IsLed t (local_after t i v) i
 led_on t i v =
     let m = moves t i v in record { more = m.more; outcomes = m.outcomes; to = (local_after t i v).instruction; leads = m.leads }
 
--- and each step
+-- each step leads on
 led_by : (t : Local) (i : Instr) (r : Request) (v : ℤ) → request t i ≡ r → IsLed t (after_step t i r v) i
 led_by t i Fail v asks = record {
   more = [];
@@ -96,12 +96,12 @@ led_by t i Fail v asks = record {
 }
 led_by t i _ v asks = led_on t i v
 
--- a step leaves the function
+-- a step stays in its function
 pub same_function : (t : Local) (i : Instr) (r : Request) (v : ℤ) → (after_step t i r v).function ≡ t.function
 same_function t i Fail v = refl
 same_function t i _ v = (moves t i v).function
 
--- where a thread is along places, a step adds the place of its instruction
+-- a step adds the place of its instruction to the places of a thread
 pub step_told : (code : Code) (t : Local) (i : Instr) (r : Request) (v : ℤ) (ps : List ℕ) → IsAlong code t ps → instr_at code t.function t.instruction ≡ Some i
     → request t i ≡ r
     → places_from code (after_step t i r v).function (after_step t i r v).steps 0 (after_step t i r v).outcomes ≡ Ok (ps ++ t.instruction ∷ [])
@@ -114,13 +114,13 @@ step_told code t i r v ps along at asks =
     ∙ ap (places_from code t.function (suc t.steps) 0) led.outcomes
     ∙ more.places
 
--- a site begins no thread
+-- a site creates no thread
 pub site_starts_none : (b : Bool) (f : ℕ) → site b ≡ Start f → ⊥
 site_starts_none true f e = cc
 site_starts_none false f e = cc
 
 module _ (code : Code) where
-  -- a thread failed at a site that is false, and stayed there
+  -- a thread failed at a false site, and is still there
   pub record HasFailed (t : Local) (ps : List ℕ) : Type 0 where
     pub before : Local
     pub front : List ℕ
@@ -128,10 +128,10 @@ module _ (code : Code) where
     pub instr : Instr
     pub at : instr_of code before ≡ Some instr
     pub asks : request before instr ≡ Fail
-    pub is : t ≡ stepped before
+    pub is : t ≡ step_in_place before
     pub all : ps ≡ front ++ before.instruction ∷ []
 
-  -- where a thread stands, which failed or didn't
+  -- a thread has gone along these places, and has failed if the flag is true
   abbrev pub Stands : Bool → Local → List ℕ → Type 0
   Stands true t ps = HasFailed t ps
   Stands false t ps = IsAlong code t ps
@@ -157,7 +157,7 @@ module _ (code : Code) where
   told_is b t ps h = ap (λ r. result_unwrap_or r []) (stands_places b t ps h)
 
   module _ {B : Type 0} where
-    -- a thread is a child that another has created, to do a function
+    -- a thread is a child that another thread created to run this function
     pub record IsBornOf (ts : ByName (Thread B)) (n : Name) (f : ℕ) : Type 0 where
       pub parent : Name
       pub number : ℕ
@@ -166,7 +166,7 @@ module _ (code : Code) where
       pub there : fin.get ts parent ≡ Some thread
       pub creates : slice_get (created thread.local) number ≡ Some f
 
-    -- it is that, or main
+    -- a thread is such a child, or main
     abbrev pub IsBorn : ByName (Thread B) → Name → ℕ → Type 0
     IsBorn ts n f = ((n ≡ []) × (f ≡ length code.functions - 1)) ⊎ IsBornOf ts n f
 
@@ -178,7 +178,7 @@ module _ (code : Code) where
     abbrev pub AllKnown : ByName (Thread B) → Option Name → Type 0
     AllKnown ts failed = (n : Name) (t : Thread B) → fin.get ts n ≡ Some t → Known ts failed n t.local
 
-    -- a thread is still there, and has created what it had
+    -- a thread still exists, and has created at least the same children
     record Grown (us : ByName (Thread B)) (p : Name) (t : Thread B) : Type 0 where
       thread : Thread B
       there : fin.get us p ≡ Some thread
@@ -240,7 +240,7 @@ module _ (code : Code) where
                 }
           ]
 
-    -- A child is there.
+    -- A new child.
     module _ (ops : BufferOps B) (ts : ByName (Thread B)) (n : Name) (t : Thread B) (k f : ℕ) (vs : List ℤ) (there : fin.get ts n ≡ Some t)
         (known : AllKnown ts None) (creates : slice_get (created t.local) k ≡ Some f) (none : fin.get ts (child n (suc k)) ≡ None) where
       abbrev baby : Thread B
@@ -279,7 +279,7 @@ module _ (code : Code) where
 -- Each step.
 
 module _ {B : Type 0} (ops : BufferOps B) (code : Code) (lawful : IsLawful code) where
-  -- an instruction that may be done, and doesn't fail, isn't one that no run does
+  -- an instruction that is allowed and doesn't fail isn't one that no run can do
   module _ (s : State B) (n : Name) (t : Thread B) (m : Marks) (reached : IsReached ops code s) (there : fin.get s.threads n ≡ Some t)
       (marks : HasMarks t.local m) where
     free_not_held : (k : ℕ) (b : Bool) → holds t.local k ≡ b → IsTrue (is_none (owner_of s k)) → b ≡ false
@@ -313,7 +313,7 @@ module _ {B : Type 0} (ops : BufferOps B) (code : Code) (lawful : IsLawful code)
   create_is t (InRange x) f e = absurd (site_starts_none _ f e)
   create_is t i f e = absurd cc
 
-  -- One step of a thread that is known.
+  -- A step of a thread whose path is known.
   module _ (s : State B) (n : Name) (t : Thread B) (i : Instr) (reached : IsReached ops code s) (there : fin.get s.threads n ≡ Some t)
       (at : instr_of code t.local ≡ Some i) (known : AllKnown code s.threads None) where
     abbrev own_known_at : Known code s.threads None n t.local
@@ -328,7 +328,7 @@ module _ {B : Type 0} (ops : BufferOps B) (code : Code) (lawful : IsLawful code)
     placed : instr_at code t.local.function t.local.instruction ≡ Some i
     placed = at_its_place code t.local i at
 
-    -- what it has created after the step
+    -- the children created after the step
     more_created : (v : Local) → v.function ≡ t.local.function → told code v ≡ ps ++ t.local.instruction ∷ []
         → created code v ≡ created code t.local ++ cons_option (starts i) []
     more_created v same is =
@@ -339,7 +339,7 @@ module _ {B : Type 0} (ops : BufferOps B) (code : Code) (lawful : IsLawful code)
     nobody : (q : Name) → q ≢ n → fails_by None q ≡ false
     nobody q apart = refl
 
-    -- it goes on
+    -- the thread goes on
     abbrev marks_now : Marks
     marks_now = marks_here code t.local t.local i ps along placed
 
@@ -361,18 +361,18 @@ module _ {B : Type 0} (ops : BufferOps B) (code : Code) (lawful : IsLawful code)
         (ps ++ t.local.instruction ∷ []) new (cons_option (starts i) [])
         (more_created (local_after t.local i v) function (told_is code false (local_after t.local i v) (ps ++ t.local.instruction ∷ []) new)) nobody
 
-    -- it fails
+    -- the thread fails
     failed_known : (b : B) → request t.local i ≡ Fail
-        → AllKnown code (fin.insert s.threads n (record { local = stepped t.local; buffer = b })) (Some n)
+        → AllKnown code (fin.insert s.threads n (record { local = step_in_place t.local; buffer = b })) (Some n)
     failed_known b asks =
-        let failed : HasFailed code (stepped t.local) (ps ++ t.local.instruction ∷ []) =
+        let failed : HasFailed code (step_in_place t.local) (ps ++ t.local.instruction ∷ []) =
         record { before = t.local; front = ps; along = along; instr = i; at = at; asks = asks; is = refl; all = refl } in
-        put_known code s.threads n t (record { local = stepped t.local; buffer = b }) (Some n) there known refl (ps ++ t.local.instruction ∷ [])
-        (subst (λ x. Stands code x (stepped t.local) (ps ++ t.local.instruction ∷ [])) (sym (same_refl n)) failed) (cons_option (starts i) [])
-        (more_created (stepped t.local) refl (told_is code true (stepped t.local) (ps ++ t.local.instruction ∷ []) failed))
+        put_known code s.threads n t (record { local = step_in_place t.local; buffer = b }) (Some n) there known refl (ps ++ t.local.instruction ∷ [])
+        (subst (λ x. Stands code x (step_in_place t.local) (ps ++ t.local.instruction ∷ [])) (sym (same_refl n)) failed) (cons_option (starts i) [])
+        (more_created (step_in_place t.local) refl (told_is code true (step_in_place t.local) (ps ++ t.local.instruction ∷ []) failed))
         (λ q apart. bytes_other q n apart)
 
-    -- it creates a child
+    -- the thread creates a child
     child_known : (f : ℕ) (vs : List ℤ) (v : ℤ) (b : B) → request t.local i ≡ Start f → excludes marks_now i false ≡ false
         → AllKnown code (fin.insert (fin.insert s.threads n (record { local = local_after t.local i v; buffer = b })) (child n (t.local.children + 1))
         (born ops code f vs)) None
@@ -394,7 +394,7 @@ module _ {B : Type 0} (ops : BufferOps B) (code : Code) (lawful : IsLawful code)
         subst (λ j. AllKnown code (fin.insert (fin.insert s.threads n own) (child n j) (born ops code f vs)) None) number
         (add_known code ops (fin.insert s.threads n own) n own k f vs (get_put s.threads n own) (went_known v b may) creates none)
 
-    -- whatever it asks
+    -- the thread does any request
     asked_known : (r : Request) → request t.local i ≡ r → IsTrue (allows ops s n t (request t.local i))
         → AllKnown code (with_born ops code n t i r (fin.insert s.threads n (own ops code s t i r))) (failed_after r n)
     asked_known Fail asks may = failed_known _ asks
@@ -405,7 +405,7 @@ module _ {B : Type 0} (ops : BufferOps B) (code : Code) (lawful : IsLawful code)
       → AllKnown code s.threads s.failed
   known_kept s threads failed e f known = subst (AllKnown code s.threads) (sym f) (subst (λ ts. AllKnown code ts failed) (sym e) known)
 
-  -- each step keeps it
+  -- each step keeps the paths known
   keeps_known : Keeps ops code (λ s h. AllKnown code s.threads s.failed)
   keeps_known = record {
     ran = λ s h n t i r reached going there at asks may known.
@@ -414,11 +414,11 @@ module _ {B : Type 0} (ops : BufferOps B) (code : Code) (lawful : IsLawful code)
         (asked_known s n t i reached there at known r asks (subst (λ q. IsTrue (allows ops s n t q)) (sym asks) may));
     waked = λ s h n u t c reached going there at empty waits known.
         let known : AllKnown code s.threads None = subst (AllKnown code s.threads) going known in
-        known_kept (woken ops s n u t c) _ None refl going (went_known s n t (Signal c) reached there at known (pos 0) t.buffer refl);
+        known_kept (state_after_wake ops s n u t c) _ None refl going (went_known s n t (Signal c) reached there at known (pos 0) t.buffer refl);
     flushed = λ s h n t form reached going there may known.
         let known : AllKnown code s.threads None = subst (AllKnown code s.threads) going known in
         let k = known n t there in
-        known_kept (machine.drained ops s n t form) _ None refl going
+        known_kept (machine.state_after_drain ops s n t form) _ None refl going
         (put_known code s.threads n t (record t { buffer = (ops.drain t.buffer form).rest }) None there known refl k.places k.stands []
         (sym (append-nil (created code t.local))) (λ q apart. refl));
   }
@@ -442,7 +442,7 @@ module _ {B : Type 0} (ops : BufferOps B) (code : Code) (lawful : IsLawful code)
         born = inl (refl, refl);
       }
 
-  -- so each state of a run has it
+  -- the paths are known in each state of a run
   pub reached_known : (s : State B) → IsReached ops code s → AllKnown code s.threads s.failed
   reached_known s r =
       holds_after ops code (λ s h. AllKnown code s.threads s.failed) keeps_known opening_known r.moves s r.leads

@@ -63,8 +63,8 @@ pub fn deeds_are_steps<B>()
         ≡ range_with_len 0 (option_map_or (λ t. t.local.steps) (fin.get s.threads n) 0) }
 {}
 
-/// If all threads have followed prefixes of their paths in a log that fits, the events of a thread
-/// in the history are the events of its path for the steps that it has done.
+/// Take a log that fits, and threads that have followed prefixes of their paths in it. A thread's
+/// events in the history are the events of its path for the steps that it has done.
 pub fn deeds_are_events<B>()
     ensures { (ops : BufferOps B) (code : Code) (log : Log) (moves : List Move) (s : State B) (p : ThreadPath) (t : Thread B)
         → IsLawful code → Fits code log → run ops code moves ≡ Some s → AreOnPaths log s → fin.get s.threads p.name ≡ Some t

@@ -1,4 +1,4 @@
--- Bits of a byte, tried at each byte.
+-- The bits of a byte, by trying each byte.
 use Rattle.std.proofs.Common.{◌≡◌, ◌<◌, ℕ, zero, suc, Bool, true, ◌&&◌, not, List, [], ◌∷◌, refl, ap, ◌∙◌, arith, inl, inr}
 use Rattle.std.specs.Prelude.{bit_and, ◌==◌}
 use Rattle.std.specs.Bool.{beq}
@@ -11,7 +11,7 @@ all_below : (ℕ → Bool) → ℕ → Bool
 all_below p zero = true
 all_below p (suc n) = p n && all_below p n
 
--- what the masks of a byte's bits give
+-- the bits that the masks give for a byte
 abbrev masked : ℕ → List Bool
 masked b =
     not (bit_and b 128 == 0) ∷ not (bit_and b 64 == 0) ∷ not (bit_and b 32 == 0) ∷ not (bit_and b 16 == 0)

@@ -1,4 +1,4 @@
--- A text is that of one log, or breaks the form at one offset.
+-- A text is the text of one log, or breaks the form at one offset.
 use Rattle.std.proofs.Common.{◌≡◌, ◌<◌, ◌≤◌, ◌+◌, ℕ, suc, Bool, true, ◌&&◌, leb, ltb, eqb, List, [], ◌∷◌, ◌++◌, length, Option, Some, None, Ok, Err}
 use Rattle.std.proofs.Common.{refl, sym, ap, ◌∙◌, subst, arith, append_assoc, inl, inr, ◌^◌, lit<}
 use Rattle.std.specs.Prelude.{codes, bytes_eq, is_some, IfSome}
@@ -213,12 +213,12 @@ ending_again both count failing rest offset has there few =
     such_again one_byte (passes both count) (offset, ending_code failing ∷ rest) failing (offset + 1, rest) read
     (and_from (has_ending both failing) (is_there failing count) has there)
 
--- The body.
+-- The body of the text.
 
 abbrev stored : Option (List ℕ) × Model → Failing → List ThreadPath → StoredLog
 stored h failing ts = record { digest = h.0; log = record { model = h.1; failing = failing; threads = ts } }
 
--- the threads that were read make a log
+-- the threads that were read are those of a log
 pub are_a_log : (as_runs : Bool) (m : Model) (count : ℕ) (failing : Failing) (place after : Place) (ts : List ThreadPath) → is_there failing count ≡ true
     → threads as_runs count None place ≡ Ok (ts, after) → is_log (record { model = m; failing = failing; threads = ts }) ≡ true
 are_a_log as_runs m count failing place after ts there e =

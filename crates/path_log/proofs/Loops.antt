@@ -44,7 +44,7 @@ use Rattle.path_log.specs.Texts.{is_within}
 use Rattle.path_log.specs.Fields.{Place, Fields, done, behind, kept, ◌such◌, ◌>>=◌, two, times, lengths, alternating, runs_of, thread, threads}
 use Rattle.path_log.specs.helpers.Reading.{Fails, last_name}
 
--- what is read, as a name that a proof can take apart
+-- the result of a read, under a name that a proof can take apart
 abbrev pub Read : Type 0 → Type 0
 Read X = Result (X × Place) ℕ
 
@@ -74,7 +74,7 @@ within low high fields place x e =
     let passes = and_parts (leb low x.0) (leb x.0 high) (such_passes fields (is_within low high) place x e).1 in
     (leb-true _ _ passes.0, leb-true _ _ passes.1)
 
--- what was read before, and what is still read
+-- the result with what was read before
 abbrev pub with_front : {X : Type 0} → List X → Read (List X) → Read (List X)
 with_front front read = behind read (λ others. done (front ++ others))
 
@@ -94,11 +94,11 @@ fails_through {X} (Form offset) read more h = ap (λ (r : Read X). behind r more
 same_fails : {X : Type 0} (fault : LogFault) (this that : Read X) → this ≡ that → Fails fault this → Fails fault that
 same_fails {X} fault this that e h = subst (λ (r : Read X). Fails fault r) e h
 
--- a value, and those behind it
+-- a value, and the values after it
 abbrev and_others : {X : Type 0} → (X → Fields (List X)) → X → Fields (List X)
 and_others later x = later x >>= λ others. done (x ∷ others)
 
--- One turn of a loop: all that is left to read begins with one more value.
+-- One turn of a loop: the rest to read begins with one more value.
 module _ {X : Type 0} (front : List X) (first : Read X) (later : X → Fields (List X)) (all total : Read (List X))
     (begins : all ≡ behind first (and_others later)) (so_far : with_front front all ≡ total) where
   one_on : (x : X) (after : Place) → first ≡ Ok (x, after) → with_front (front ++ x ∷ []) (later x after) ≡ total
@@ -117,7 +117,7 @@ all_read : {X : Type 0} (front : List X) (place : Place) (all total : Read (List
 all_read {X} front place all total none so_far =
     sym so_far ∙ (ap (with_front front) none ∙ ap (λ (xs : List X). whole_read (xs, place)) (append-nil front))
 
--- so many are left, and so many after the next
+-- the number left, by the number left after the next one
 next_left : (count i : ℕ) → i < count → count - i ≡ suc (count - (i + 1))
 next_left count i lt = omega arith
 
@@ -178,7 +178,7 @@ module _ (as_runs : Bool) (front : List ThreadPath) (count i : ℕ) (place : Pla
 
 -- Runs.
 
--- some outcomes were read, and so many are left, of which the first is this one
+-- some outcomes were read, and `left` more follow, the first of which is this one
 pub record RunsSoFar (front : List Bool) (outcome : Bool) (left : ℕ) (place : Place) (total : Read (List Bool)) : Type 0 where
   pub most : ℕ
   pub enough : left ≤ most

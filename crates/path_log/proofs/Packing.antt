@@ -45,7 +45,7 @@ use Rattle.std.proofs.lemmas.List.Concat.{flat_map-cons}
 use Rattle.path_log.specs.Texts.{AreBytes, bits_value, packed, bytes_for}
 use Rattle.path_log.specs.Fields.{bits_of, all_bits, is_padded}
 
--- so many bits, those that aren't there being 0
+-- the first `n` bits, with 0 for those beyond the end
 abbrev padded : ℕ → List Bool → List Bool
 padded zero bs = []
 padded (suc n) [] = false ∷ padded n []
@@ -64,7 +64,7 @@ no_bits : (n : ℕ) → bits_of n 0 ≡ padded n []
 no_bits zero = refl
 no_bits (suc n) = rw (lt-leb (2 ^ n) 0 (power_some n), zero-mod (2 ^ n), no_bits n) refl
 
--- the bits of what bits are worth
+-- the bits of the number of some bits are these bits, padded
 bits_of_value : (n : ℕ) (bs : List Bool) → bits_of n (bits_value n bs) ≡ padded n bs
 bits_of_value zero bs = refl
 bits_of_value (suc n) [] = no_bits (suc n)
@@ -77,7 +77,7 @@ bits_of_value (suc n) (false ∷ bs) =
     let plain : 0 + bits_value n bs ≡ bits_value n bs = omega arith in
     ap (bits_of (suc n)) plain ∙ rw (lt-leb (2 ^ n) (bits_value n bs) below, mod-eq_of_lt below, bits_of_value n bs) refl
 
--- what the bits of a number are worth
+-- the number of the bits of a number is the number
 value_of_bits : (n v : ℕ) → v < 2 ^ n → bits_value n (bits_of n v) ≡ v
 value_of_bits zero v lt = omega arith
 value_of_bits (suc n) v lt = elim (cases_Bool (leb (2 ^ n) v)) [
@@ -92,7 +92,7 @@ value_of_bits (suc n) v lt = elim (cases_Bool (leb (2 ^ n) v)) [
       rw (h, mod-eq_of_lt low, value_of_bits n v low) (omega arith)
 ]
 
--- only the first bits count
+-- only the first `n` bits count
 value_front : (n : ℕ) (front rest : List Bool) → length front ≡ n → bits_value n (front ++ rest) ≡ bits_value n front
 value_front zero front rest e = refl
 value_front (suc n) [] rest e = absurd (omega arith)
@@ -131,7 +131,7 @@ padded_parts (suc n) k (b ∷ bs) =
     let next : suc n + k ≡ suc (n + k) = omega arith in
     ap (λ (m : ℕ). padded m (b ∷ bs)) next ∙ ap (λ (xs : List Bool). b ∷ xs) (padded_parts n k bs)
 
--- so many bytes have eight times as many bits
+-- the number of bits in `n` bytes
 abbrev bits_in : ℕ → ℕ
 bits_in zero = 0
 bits_in (suc n) = 8 + bits_in n
@@ -208,7 +208,7 @@ rest_padded (b ∷ bs) (suc k) le = rest_padded bs k (omega arith)
 room : (n : ℕ) → n ≤ bits_in (bytes_for n)
 room n = let are = bits_in_is (bytes_for n) in omega arith
 
--- bytes whose further bits are 0 are those of their first bits
+-- bytes whose other bits are 0 are the packed first bits
 pub packed_again : (n : ℕ) (bytes : List ℕ) → AreBytes bytes → length bytes ≡ bytes_for n → is_padded n bytes ≡ true
     → packed (bytes_for n) (take n (all_bits bytes)) ≡ bytes
 packed_again n bytes h len pads =

@@ -10,11 +10,11 @@ use Rattle.std.proofs.lemmas.Grind.{replicate_next}
 use Rattle.path_log.specs.Texts.{runs_behind}
 use Rattle.path_log.specs.Fields.{alternating}
 
--- each run has an outcome
+-- each run has at least one outcome
 abbrev pub are_runs : List ℕ → Bool
 are_runs ns = list_all (λ n. leb 1 n) ns
 
--- how many outcomes the runs have together
+-- the number of outcomes of all runs together
 abbrev pub total : List ℕ → ℕ
 total [] = 0
 total (n ∷ ns) = n + total ns
@@ -36,7 +36,7 @@ runs_again b n (suc m ∷ ns) h =
     rw (other b) (ap (λ (ks : List ℕ). n ∷ ks) (run_goes_on (not b) 1 m (alternating (not (not b)) ns)
     ∙ (runs_again (not b) (1 + m) ns parts.1 ∙ ap (λ (k : ℕ). k ∷ ns) (omega arith))))
 
--- the runs of alternating runs
+-- the runs of alternating outcomes are their lengths
 pub runs_of_alternating : (b : Bool) (m : ℕ) (ns : List ℕ) → are_runs ns ≡ true
     → runs_behind b 1 (replicate m b ++ alternating (not b) ns) ≡ suc m ∷ ns
 runs_of_alternating b m ns h =
@@ -48,7 +48,7 @@ not_same true false h = refl
 not_same false true h = refl
 not_same false false h = absurd cc
 
--- runs alternate
+-- alternating outcomes of the runs are the outcomes
 pub alternating_of_runs : (b : Bool) (n : ℕ) (bs : List Bool) → alternating b (runs_behind b n bs) ≡ replicate n b ++ bs
 alternating_of_runs b n [] = refl
 alternating_of_runs b n (c ∷ bs) = elim (cases_Bool (beq b c)) [

@@ -1,4 +1,4 @@
--- What is read of a text is written so, and what is written is read again.
+-- Writing what was read gives the text again, and reading what was written gives the value again.
 use Rattle.std.proofs.Common.{
   ◌≡◌,
   ◌<◌,
@@ -56,13 +56,13 @@ use Rattle.path_log.proofs.Loops.{Read, whole_read, read_is, such_passes, within
 use Rattle.path_log.proofs.Packing.{packed_again, length-taken, length-packed, taken_packed, packed_pads}
 use Rattle.path_log.proofs.Runs.{are_runs, total, runs_of_alternating, alternating_of_runs, runs_are_runs, total-runs, length-alternating}
 
--- fields of which the first were whole
+-- fields after a first field that was read
 pub behind_ok : {X Y : Type 0} (r : Read X) (more : X → Fields Y) (y : Y × Place) → behind r more ≡ Ok y
     → (x : X × Place) × (r ≡ Ok x) × (more x.0 x.1 ≡ Ok y)
 behind_ok (Ok x) more y e = (x, refl, e)
 behind_ok (Err offset) more y e = absurd cc
 
--- a front of a text, and the bytes behind it
+-- a first part of a text, and the bytes after it
 pub record Takes (bytes front rest : List ℕ) : Type 0 where
   pub parts : bytes ≡ front ++ rest
   pub are : AreBytes rest
@@ -73,7 +73,7 @@ Takes-then a x b y c p q = record { parts = p.parts ∙ (ap (λ (t : List ℕ). 
 pub Takes-nothing : (bytes : List ℕ) → AreBytes bytes → Takes bytes [] bytes
 Takes-nothing bytes h = record { parts = refl; are = h }
 
--- the fields give this value of a text, whatever follows
+-- the fields read this value, whatever follows
 pub record ReadsAs {X : Type 0} (read : Read X) (x : X) (rest : List ℕ) : Type 0 where
   pub end : ℕ
   pub read_is : read ≡ Ok (x, (end, rest))
@@ -476,7 +476,7 @@ thread_again as_runs last t rest offset above h =
           ∙ ap (λ (r : Read (List Bool)). behind r (λ found. done (path_of t.name t.path.steps found))) found.read_is)));
     }
 
--- threads that are read rise
+-- the names of the threads read rise
 pub threads_rise : (as_runs : Bool) (n : ℕ) (last : Option Name) (place : Place) (x : List ThreadPath × Place) → threads as_runs n last place ≡ Ok x
     → (rises_from last x.0 ≡ true) × (length x.0 ≡ n)
 unfolding threads

@@ -16,7 +16,7 @@ use Rattle.path_log.specs.Texts.{is_within, has_ending, bytes_for}
 abbrev pub Place : Type 0
 Place = ℕ × List ℕ
 
--- a reader of fields: it gives their value and the place behind them, or the offset of the first
+-- a reader of fields: it gives their value and the place after them, or the offset of the first
 -- field that is cut short or breaks its rule
 abbrev pub Fields : Type 0 → Type 0
 Fields X = Place → Result (X × Place) ℕ
@@ -79,7 +79,7 @@ bits_of (suc k) n = nat_le (2 ^ k) n ∷ bits_of k (n % 2 ^ k)
 abbrev pub all_bits : List ℕ → List Bool
 all_bits bytes = flat_map (bits_of 8) bytes
 
--- whether all bits behind the first n are 0
+-- whether all bits after the first n are 0
 abbrev pub is_padded : ℕ → List ℕ → Bool
 is_padded n bytes = list_all not (drop n (all_bits bytes))
 

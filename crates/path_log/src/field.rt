@@ -9,7 +9,7 @@ use crate::cursor::Cursor;
 use crate::fault::LogFault;
 use byteorder::{BigEndian, ByteOrder};
 
-/// A field of `len` bytes, and the place behind it.
+/// A field of `len` bytes, and the place after it.
 pub(crate) fn field<'a>(len: usize, cursor: Cursor<'a>) -> Result<(&'a [u8], Cursor<'a>), LogFault>
     ensures gives { Gives (λ x. (x.0.now, place x.1)) result (fields.field len (place cursor.entry)) }
     ensures len { IfOk result (λ x. length x.0.now ≡ len) }

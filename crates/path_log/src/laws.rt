@@ -10,7 +10,7 @@ pub fn logs_are_one()
     ensures whole { (this that : StoredLog) (more : List ℕ) → HasText this → HasText that → log_text this ++ more ≡ log_text that → more ≡ [] }
 {}
 
-/// Bytes that are no log break the format at exactly one offset, and the bytes of a log at none.
+/// Bytes that aren't a log break the format at exactly one offset, and the bytes of a log at none.
 pub fn faults_are_one()
     ensures some { (text : List ℕ) → AreBytes text → ((log : StoredLog) → IsLog text log → ⊥) → (offset : ℕ) × BreaksAt text offset }
     ensures one { (text : List ℕ) (this that : ℕ) → BreaksAt text this → BreaksAt text that → this ≡ that }

@@ -71,7 +71,7 @@ fn bits_of(byte: u8) -> [bool; 8]
     ]
 }
 
-/// Whether all bits behind the first `count` are 0.
+/// Whether all bits after the first `count` are 0.
 fn is_padded(count: usize, bits: &[bool]) -> bool
     ensures { result ≡ list_all not (drop count bits.now) }
 {

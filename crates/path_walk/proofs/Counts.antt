@@ -4,11 +4,11 @@ use Rattle.std.specs.Prelude.{slice_get, slice_index_or, unwrap_or}
 use Rattle.tc_code.specs.declared.instr.Instr.{Instr}
 use Rattle.tc_code.specs.declared.instr.Instr.TheVariants.{Exit}
 use Rattle.path_walk.specs.Events.{operators_of}
-use Rattle.path_walk.specs.Paths.{counted}
+use Rattle.path_walk.specs.Paths.{saturated_count}
 
--- of each instruction that is there, and else 0, as many as an exit has
+-- the number of operators of the instruction at a place, or 0 if there is none
 pub count_at : (instrs : List Instr) (k : ℕ)
-    → slice_index_or (map (λ i. counted (operators_of i)) instrs) k 0 ≡ counted (operators_of (unwrap_or (slice_get instrs k) Exit))
+    → slice_index_or (map (λ i. saturated_count (operators_of i)) instrs) k 0 ≡ saturated_count (operators_of (unwrap_or (slice_get instrs k) Exit))
 count_at [] k = refl
 count_at (i ∷ instrs) zero = refl
 count_at (i ∷ instrs) (suc k) = count_at instrs k

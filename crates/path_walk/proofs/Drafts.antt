@@ -1,4 +1,4 @@
--- The threads of a log, told one after another.
+-- The threads of a log, added one after another.
 use Rattle.std.proofs.Common.{◌≡◌, ◌∙◌, ◌⊎◌, inl, inr, ℕ, zero, suc, ◌+◌, ◌-◌, ◌≤◌, ◌<◌, Bool, true, false, cond, ◌||◌}
 use Rattle.std.proofs.Common.{List, [], ◌∷◌, ◌++◌, length, map, take, drop, get_or, slice_index, sum, ◌==◌}
 use Rattle.std.proofs.Common.{IsSome, Option, Some, None, Result, Ok, Err, refl, sym, ap, subst, arith, true≢false, bytes_eq}
@@ -22,7 +22,7 @@ use Rattle.tc_code.specs.Code.{Code}
 use Rattle.run_log.specs.Logs.{rises_from, is_there}
 use Rattle.path_walk.specs.Steps.{steps_at, places_of}
 use Rattle.path_walk.specs.Fits.{started, ending_of, places_in, child_function, function_of, misfit_of, IsFault, Fits}
-use Rattle.path_walk.specs.Paths.{Walk, have_exited, walk_of, function_in, steps_in, operators_in, is_dead, counted, Paths, paths_of}
+use Rattle.path_walk.specs.Paths.{Walk, have_exited, walk_of, function_in, steps_in, operators_in, is_dead, saturated_count, Paths, paths_of}
 use Rattle.path_walk.specs.helpers.Accounts.{Account, account_by, mapped}
 use Rattle.path_walk.specs.helpers.Drafts.{Draft, IsMissing, IsAtLeast, IsAbsentChild, IsFirstAbsent, IsNext, IsDraft, first_fault, least}
 use Rattle.path_walk.specs.helpers.Drafts.{added, no_draft, started_at, paths_by, finished, finished_by}
@@ -43,7 +43,7 @@ pub has_thread : (failing : Failing) (count : ℕ) → is_there failing count �
 has_thread (failing.Thread k) count h = let within = ltb-true k count h in omega (arith, within)
 has_thread failing.Deadlock count h = ltb-true 0 count h
 
--- where a mapped answer comes from
+-- a mapped result comes from a result
 pub mapped_ok : {X Y : Type 0} (f : X → Y) (r : Result X Misfit) (y : Y) → mapped f r ≡ Ok y → (x : X) × (r ≡ Ok x) × (f x ≡ y)
 mapped_ok f (Ok x) y h = (x, refl, cc)
 mapped_ok f (Err e) y h = absurd cc
@@ -52,7 +52,7 @@ pub mapped_err : {X Y : Type 0} (f : X → Y) (r : Result X Misfit) (e : Misfit)
 mapped_err f (Ok x) e h = absurd cc
 mapped_err f (Err d) e h = cc
 
--- the last number of a name, and those before it
+-- the last number of a name, and the numbers before it
 pub take_last : (xs : List ℕ) → 0 < length xs → xs ≡ take (length xs - 1) xs ++ slice_index xs (length xs - 1) ∷ []
 take_last xs some =
     let long : length xs ≡ (length xs - 1) + 1 = omega arith in
@@ -70,7 +70,7 @@ take_next xs k x lt e =
     let next : suc k ≡ k + 1 = omega arith in
     ap (λ n. take n xs) next ∙ take_more xs k x lt ∙ ap (λ y. take k xs ++ y ∷ []) (sym e)
 
--- what is under a name in front of one more thread, or is that thread
+-- a name in a list with one more thread is in the list, or is that thread's
 under_both : (n : Name) (ts : List ThreadPath) (t : ThreadPath) → IsSome (path_under n (ts ++ t ∷ [])) → IsSome (path_under n ts) ⊎ (n ≡ t.name)
 under_both n [] t h = by (bytes_eq n t.name) refl h
   where
@@ -84,7 +84,7 @@ under_both n (o ∷ ts) t h = by (bytes_eq n o.name) (λ g. under_both n ts t g)
     by true rest h = inl refl
     by false rest h = rest h
 
--- what is under a name in front stays so
+-- a name in a list is in a longer list
 under_more : (n : Name) (ts us : List ThreadPath) → IsSome (path_under n ts) → IsSome (path_under n (ts ++ us))
 under_more n [] us h = absurd (true≢false (sym h))
 under_more n (o ∷ ts) us h = by (bytes_eq n o.name) (λ g. under_more n ts us g) h
@@ -102,7 +102,7 @@ under_last (o ∷ ts) t = by (bytes_eq t.name o.name) (under_last ts t)
     by true rest = refl
     by false rest = rest
 
--- a thread of a list is under its name
+-- each thread of a list is found under its name
 pub under_own : (ts : List ThreadPath) (i : ℕ) (t : ThreadPath) → slice_get ts i ≡ Some t → IsSome (path_under t.name ts)
 under_own [] i t e = absurd (none-some t e)
 under_own (o ∷ ts) zero t e =
@@ -188,7 +188,7 @@ any_push p (o ∷ ts) t = by (p o) (any_push p ts t)
     by true rest = refl
     by false rest = rest
 
-counted_sum : (a b : ℕ) → counted (counted a + counted b) ≡ counted (a + b)
+counted_sum : (a b : ℕ) → saturated_count (saturated_count a + saturated_count b) ≡ saturated_count (a + b)
 counted_sum a b = omega arith
 
 -- the first child that isn't in the log
@@ -208,7 +208,7 @@ first_found log parent k count n within name absent before = record {
     by j none (inr le) = subst (λ m. is_lt (by_name (child parent (j + 1)) m) ≡ false) (sym name) (later_child parent (j + 1) (k + 1) (omega arith))
 
 module _ (code : Code) (log : Log) where
-  -- what is missing among some threads is missing among others that have the parent
+  -- a child missing from some threads is missing from others that have its parent
   missing_among : (ts us : List ThreadPath) (n : Name) (is : IsMissing code log ts n) → IsSome (path_under is.parent us) → IsMissing code log us n
   missing_among ts us n is within = record {
     parent = is.parent;
@@ -219,7 +219,7 @@ module _ (code : Code) (log : Log) where
     absent = is.absent;
   }
 
-  -- nothing is wrong with a name that isn't missing, where the paths of the names up to it are told
+  -- a name that isn't missing has no misfit, if these threads have the paths of all names up to it
   clear : (ts : List ThreadPath) → ((n : Name) → IsSome (path_under n ts) → misfit_of code log n ≡ None) → IsSome (path_under [] log.threads)
       → (r : Name) → ((p : Name) → (p ≡ r) ⊎ (by_name p r ≡ Less) → IsSome (path_under p log.threads) → IsSome (path_under p ts))
       → (IsMissing code log ts r → ⊥) → misfit_of code log r ≡ None
@@ -259,7 +259,7 @@ module _ (code : Code) (log : Log) where
         | inr f ↦ missing code log q f.0 f.1 is.absent
       ]
 
-  -- what is first, where nothing but a missing child can be wrong below a name
+  -- the first fault, if only a missing child can be at fault below a name
   first_by : (ts : List ThreadPath) (n : Name) (m : Misfit) → misfit_of code log n ≡ Some m
       → ((r : Name) → by_name r n ≡ Less → (IsMissing code log ts r → ⊥) → misfit_of code log r ≡ None)
       → (o : Option Name) → IfSome o (IsMissing code log ts) → ((r : Name) → IsMissing code log ts r → IsAtLeast o r)
@@ -291,11 +291,11 @@ module _ (code : Code) (log : Log) where
     rising : rises_from None (done ++ t ∷ later) ≡ true
     rising = subst (λ ts. rises_from None ts ≡ true) split draft.rises
 
-    -- the thread is under its name
+    -- the thread's path is under its name
     pub next_path : path_under t.name log.threads ≡ Some t.path
     next_path = ap (path_under t.name) split ∙ own_path t later None done rising
 
-    -- what is under a lesser name is told
+    -- the threads read so far have the paths of all lesser names
     older_path : (p : Name) → by_name p t.name ≡ Less → path_under p log.threads ≡ path_under p done
     older_path p less = ap (path_under p) split ∙ lesser_is_older t later p None done rising less
 
@@ -309,11 +309,11 @@ module _ (code : Code) (log : Log) where
         covers : (p : Name) → (p ≡ r) ⊎ (by_name p r ≡ Less) → IsSome (path_under p log.threads) → IsSome (path_under p done)
         covers p at h = subst IsSome (older_path p (below p at)) h
 
-    -- a fault of the thread, or that of a lesser child that is missing, is the first
+    -- a fault of the thread, or of a lesser missing child, is the first fault
     pub first_is : (m : Misfit) → misfit_of code log t.name ≡ Some m → IsFault code log (first_fault d.missing t.name m)
     first_is m at = first_by done t.name m at clears d.missing draft.missing draft.least
 
-    -- the thread's function, where its parent is told
+    -- the function of a child, if its parent is among the threads read so far
     pub told_child : (p : Name) (i j : ℕ) (w : Walk) → slice_get d.threads i ≡ Some w → bytes_eq p w.name ≡ true
         → started_at d.started i j ≡ function_of code log (child p j)
     told_child p i j w at same = by_walk (map_get (walk_of code log) done i w (ap (λ ws. slice_get ws i) (sym draft.threads) ∙ at))
@@ -360,7 +360,7 @@ module _ (code : Code) (log : Log) where
         by true rest h = absurd (true≢false h)
         by false rest h = rest h
 
-    -- it has none, where its parent isn't told
+    -- a child has no function if its parent isn't among the threads read so far
     pub untold_child : (p : Name) (j : ℕ) → t.name ≡ child p j → list_any (λ (w : Walk). bytes_eq p w.name) d.threads ≡ false
         → function_of code log (child p j) ≡ None
     untold_child p j name none =
@@ -368,7 +368,7 @@ module _ (code : Code) (log : Log) where
         (older_path p (subst (λ n. by_name p n ≡ Less) (sym name) (child_is_above p j))
         ∙ none_named p done (ap (list_any (λ (w : Walk). bytes_eq p w.name)) (sym draft.threads) ∙ none))
 
-    -- a fault of its path is its fault
+    -- a fault of the thread's path is its fault
     pub path_fault : (f : ℕ) (m : Misfit) → function_of code log t.name ≡ Some f → places_of code f (ending_of log t.name) t.path ≡ Err m
         → misfit_of code log t.name ≡ Some m
     path_fault f m e err = by_path code log t.name f t.path e next_path ∙ ap result_err err
@@ -468,11 +468,11 @@ module _ (code : Code) (log : Log) where
         pushed : {Y : Type 0} (g : ThreadPath → Y) (ys : List Y) (y : Y) → ys ≡ map g done → g t ≡ y → ys ++ y ∷ [] ≡ map g with_it
         pushed g ys y is own = ap (λ zs. zs ++ y ∷ []) is ∙ ap (λ z. map g done ++ z ∷ []) (sym own) ∙ sym (map-append g done (t ∷ []))
 
-        -- the draft with the thread is one
+        -- the draft with one more thread is a draft
         pub is_added : length account.walk.events ≤ 65536 → IsDraft code log (added d account found)
         is_added few =
             let events : length (walk_of code log t).events ≡ length account.walk.events = ap (λ (c : Account). length c.walk.events) account_is in
-            let operators : counted (operators_in code log t) ≡ account.operators = ap (λ (c : Account). c.operators) account_is in
+            let operators : saturated_count (operators_in code log t) ≡ account.operators = ap (λ (c : Account). c.operators) account_is in
             record {
               rises = draft.rises;
               main = draft.main;
@@ -490,11 +490,11 @@ module _ (code : Code) (log : Log) where
                   ∙ ap (λ ts. sum (map (λ (x : ThreadPath). length (walk_of code log x).events) ts)) (sym with_next);
               few = let before = draft.few in omega (arith, before, few, longer);
               operators =
-                  ap (λ n. counted (n + account.operators)) draft.operators
-                  ∙ ap (λ n. counted (counted (sum (map (operators_in code log) done)) + n)) (sym operators)
+                  ap (λ n. saturated_count (n + account.operators)) draft.operators
+                  ∙ ap (λ n. saturated_count (saturated_count (sum (map (operators_in code log) done)) + n)) (sym operators)
                   ∙ counted_sum (sum (map (operators_in code log) done)) (operators_in code log t)
-                  ∙ ap counted (sym (sum_push (operators_in code log) done t))
-                  ∙ ap (λ ts. counted (sum (map (operators_in code log) ts))) (sym with_next);
+                  ∙ ap saturated_count (sym (sum_push (operators_in code log) done t))
+                  ∙ ap (λ ts. saturated_count (sum (map (operators_in code log) ts))) (sym with_next);
               dead =
                   ap (λ b. b || account.dead) draft.dead
                   ∙ ap (λ b. list_any (is_dead code log) done || b) (sym (ap (λ (c : Account). c.dead) account_is))
@@ -535,7 +535,7 @@ module _ (code : Code) (log : Log) where
           ap (λ (x : Draft). length x.threads) now ∙ length-append d.threads (c.walk ∷ []),
         )
 
-    -- the thread's function, by the place of its parent among those told
+    -- the thread's function, by the index of its parent among the threads read so far
     pub told_at : (p : Name) (i j : ℕ) → IfSome (slice_get d.threads i) (λ w. bytes_eq p w.name ≡ true) → i < length d.threads
         → started_at d.started i j ≡ function_of code log (child p j)
     told_at p i j h within = by (option_is (slice_get d.threads i))
@@ -544,7 +544,7 @@ module _ (code : Code) (log : Log) where
         by (inl none) = absurd (not_there _ none (get_within d.threads i within))
         by (inr is) = told_child d t draft next p i j is.0 is.1 (subst (λ o. IfSome o (λ (w : Walk). bytes_eq p w.name ≡ true)) is.1 h)
 
-  -- A whole draft.
+  -- A complete draft.
 
   module _ (d : Draft) (draft : IsDraft code log d) (all : length d.threads ≡ length log.threads) where
     whole : take (length d.threads) log.threads ≡ log.threads
@@ -561,7 +561,7 @@ module _ (code : Code) (log : Log) where
       failing = e i;
       threads = (draft.threads ∙ ap (map (walk_of code log)) whole) i;
       events = (draft.events ∙ ap (λ ts. sum (map (λ (x : ThreadPath). length (walk_of code log x).events) ts)) whole) i;
-      operators = (draft.operators ∙ ap (λ ts. counted (sum (map (operators_in code log) ts))) whole) i;
+      operators = (draft.operators ∙ ap (λ ts. saturated_count (sum (map (operators_in code log) ts))) whole) i;
       dead = (draft.dead ∙ ap (list_any (is_dead code log)) whole) i || have_exited (e i) ((draft.threads ∙ ap (map (walk_of code log)) whole) i);
     }
 
@@ -581,7 +581,7 @@ module _ (code : Code) (log : Log) where
           least = λ r less. clear_whole r (λ m. true≢false (sym less ∙ least r m));
         })
 
-    -- the paths of a whole draft are those of the log, which fits
+    -- the paths of a complete draft are those of the log, which fits
     pub whole_fits : (r : Paths) → finished d log.failing ≡ Ok r → Fits code log
     whole_fits r h = (fits_by d.missing draft.least log.failing r h).0
 
@@ -605,7 +605,7 @@ module _ (code : Code) (log : Log) where
 
   -- Main.
 
-  -- main isn't in a log whose first name is another
+  -- a log whose first name isn't main's doesn't have main
   no_main : (ts : List ThreadPath) → rises_from None ts ≡ true → (t : ThreadPath) → t ≡ get_or ts 0 t → 0 < length ts → 0 < length t.name
       → path_under [] ts ≡ None
   no_main [] h t e some long = absurd (omega arith)
@@ -628,7 +628,7 @@ module _ (code : Code) (log : Log) where
     least = λ q less. absurd (none_less q less);
   }
 
-  -- main is in a log whose first name is its
+  -- a log whose first name is main's has main
   has_main : (ts : List ThreadPath) (t : ThreadPath) → t ≡ get_or ts 0 t → 0 < length ts → length t.name ≡ 0 → IsSome (path_under [] ts)
   has_main [] t e some short = absurd (omega arith)
   has_main (o ∷ ts) t e some short = by o.name refl (ap (λ (x : ThreadPath). x.name) e)

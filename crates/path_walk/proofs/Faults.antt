@@ -1,4 +1,4 @@
--- Which names have a fault.
+-- The names that have a fault.
 use Rattle.std.proofs.Common.{◌≡◌, ◌∙◌, ◌⊎◌, inl, inr, ℕ, zero, suc, ◌-◌, cond, List, [], ◌∷◌, ◌++◌, length}
 use Rattle.std.proofs.Common.{IsSome, Option, Some, None, Err, refl, sym, ap, subst, append_assoc, append-nil, true≢false}
 use Rattle.std.specs.Prelude.{is_some, option_and_then, slice_get}
@@ -14,11 +14,11 @@ use Rattle.tc_base.specs.Paths.{Path, path_under}
 use Rattle.tc_base.proofs.Names.{same_name, turned}
 use Rattle.tc_code.specs.Code.{Code}
 use Rattle.path_walk.specs.Steps.{steps_at, places_of}
-use Rattle.path_walk.specs.Fits.{IsFirst, started, ending_of, walked, child_function, function_below, function_of, unless_absent, misfit_of}
+use Rattle.path_walk.specs.Fits.{IsFirst, started, ending_of, places_or_misfit, child_function, function_below, function_of, unless_absent, misfit_of}
 use Rattle.path_walk.specs.declared.fault.Misfit.{Misfit}
 use Rattle.path_walk.specs.declared.fault.Misfit.TheVariants as misfit
 
--- what an option is
+-- an option is none or has a value
 pub option_is : {X : Type 0} (o : Option X) → (o ≡ None) ⊎ ((x : X) × (o ≡ Some x))
 option_is None = inl refl
 option_is (Some x) = inr (x, refl)
@@ -53,17 +53,17 @@ module _ (code : Code) (log : Log) where
   pub function_of_child : (p : Name) (k : ℕ) → function_of code log (child p k) ≡ option_and_then (λ g. child_function code log p g k) (function_of code log p)
   function_of_child p k = below_child [] (length code.functions - 1) p k
 
-  pub walked_absent : (n : Name) (f : ℕ) → path_under n log.threads ≡ None → walked code log n f ≡ Err misfit.Missing
+  pub walked_absent : (n : Name) (f : ℕ) → path_under n log.threads ≡ None → places_or_misfit code log n f ≡ Err misfit.Missing
   walked_absent n f e = ap (λ o. option_map_or (places_of code f (ending_of log n)) o (Err misfit.Missing)) e
 
-  pub walked_there : (n : Name) (f : ℕ) (p : Path) → path_under n log.threads ≡ Some p → walked code log n f ≡ places_of code f (ending_of log n) p
+  pub walked_there : (n : Name) (f : ℕ) (p : Path) → path_under n log.threads ≡ Some p → places_or_misfit code log n f ≡ places_of code f (ending_of log n) p
   walked_there n f p e = ap (λ o. option_map_or (places_of code f (ending_of log n)) o (Err misfit.Missing)) e
 
   none_started : (n : Name) (f k : ℕ) → path_under n log.threads ≡ None → child_function code log n f k ≡ None
   none_started n f zero e = refl
   none_started n f (suc k) e = ap (λ r. slice_get (started (steps_at code f (result_unwrap_or r []))) k) (walked_absent n f e)
 
-  -- a name without a path creates nothing
+  -- a name without a path creates no child
   pub no_child : (p : Name) (k : ℕ) → path_under p log.threads ≡ None → function_of code log (child p k) ≡ None
   no_child p k e = function_of_child p k ∙ none_from (function_of code log p)
     where
@@ -71,10 +71,10 @@ module _ (code : Code) (log : Log) where
       none_from None = refl
       none_from (Some g) = none_started p g k e
 
-  -- what is wrong with a name, case by case
+  -- the fault of a name, by whether it has a function
   fault_by : (n : Name) (o : Option ℕ) → function_of code log n ≡ o
-      → misfit_of code log n ≡ option_map_or (λ f. result_err (walked code log n f)) o (unless_absent code log n)
-  fault_by n o e = ap (λ o. option_map_or (λ f. result_err (walked code log n f)) o (unless_absent code log n)) e
+      → misfit_of code log n ≡ option_map_or (λ f. result_err (places_or_misfit code log n f)) o (unless_absent code log n)
+  fault_by n o e = ap (λ o. option_map_or (λ f. result_err (places_or_misfit code log n f)) o (unless_absent code log n)) e
 
   pub missing : (n : Name) (f : ℕ) → function_of code log n ≡ Some f → path_under n log.threads ≡ None → misfit_of code log n ≡ Some misfit.Missing
   missing n f e absent = fault_by n (Some f) e ∙ ap result_err (walked_absent n f absent)
@@ -89,7 +89,7 @@ module _ (code : Code) (log : Log) where
       → misfit_of code log n ≡ result_err (places_of code f (ending_of log n) p)
   by_path n f p e here = fault_by n (Some f) e ∙ ap result_err (walked_there n f p here)
 
-  -- a thread of the log that has no fault has a function
+  -- a thread of the log without a fault has a function
   pub fitting : (n : Name) (p : Path) → path_under n log.threads ≡ Some p → misfit_of code log n ≡ None → (f : ℕ) × (function_of code log n ≡ Some f)
   fitting n p here fits =
       elim (option_is (function_of code log n)) [
@@ -97,7 +97,7 @@ module _ (code : Code) (log : Log) where
         | inr is ↦ is
       ]
 
-  -- the least name that has a fault is one name, with one fault
+  -- only one name is the least with a fault, and it has one fault
   pub one_first : (n q : Name) (m k : Misfit) → IsFirst code log n m → IsFirst code log q k → (n ≡ q) × (m ≡ k)
   one_first n q m k f g = by (by_name n q) refl
     where

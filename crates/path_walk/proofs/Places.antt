@@ -8,10 +8,10 @@ use Rattle.std.proofs.lemmas.List.{length-drop, length-map}
 use Rattle.tc_base.specs.Paths.{Path}
 use Rattle.tc_code.specs.Code.{Code, instr_at}
 use Rattle.tc_code.specs.declared.instr.Instr.{Instr}
-use Rattle.path_walk.specs.Steps.{Onward, onward, before, places_from, end_from, standing, Step, step_at, steps_at}
-use Rattle.path_walk.specs.Steps.{ends_at_site, can_block, ended}
+use Rattle.path_walk.specs.Steps.{Onward, onward, with_place, places_from, end_from, standing, Step, step_at, steps_at}
+use Rattle.path_walk.specs.Steps.{ends_at_site, can_block, places_if_well_ended}
 use Rattle.path_walk.specs.Fits.{starts, started}
-use Rattle.path_walk.specs.Marks.{Marks, unmarked, marked, marked_from, marked_steps}
+use Rattle.path_walk.specs.Marks.{Marks, marks_at_start, marks_after_instr, marked_from, marked_steps}
 use Rattle.path_walk.specs.Events.{event_of, events_of}
 use Rattle.path_walk.specs.declared.ending.Ending.{Ending}
 use Rattle.path_walk.specs.declared.ending.Ending.TheVariants.{Fails, Rests, Open}
@@ -23,12 +23,12 @@ use Rattle.path_walk.specs.declared.fault.Misfit.TheVariants.{OutcomesShort, Out
 -- the places from an instruction on, if there is one
 abbrev from_instr : Code → ℕ → ℕ → ℕ → List Bool → Option Instr → Result (List ℕ) Misfit
 from_instr code f n k os o =
-    option_map_or (λ i. option_map_or (λ (on : Onward). before k (places_from code f n on.place on.outcomes)) (onward k i os) (Err OutcomesShort)) o
+    option_map_or (λ i. option_map_or (λ (on : Onward). with_place k (places_from code f n on.place on.outcomes)) (onward k i os) (Err OutcomesShort)) o
     (Err PastExit)
 
--- those from where it leads
+-- the places from the position to which an instruction leads
 abbrev from_onward : Code → ℕ → ℕ → ℕ → Option Onward → Result (List ℕ) Misfit
-from_onward code f n k o = option_map_or (λ (on : Onward). before k (places_from code f n on.place on.outcomes)) o (Err OutcomesShort)
+from_onward code f n k o = option_map_or (λ (on : Onward). with_place k (places_from code f n on.place on.outcomes)) o (Err OutcomesShort)
 
 pub past_exit : (code : Code) (f n k : ℕ) (os : List Bool) → 0 < n → instr_at code f k ≡ None → places_from code f n k os ≡ Err PastExit
 past_exit code f zero k os lt e = absurd (omega arith)
@@ -40,13 +40,13 @@ short code f zero k os i lt e on = absurd (omega arith)
 short code f (suc n) k os i lt e on = ap (from_instr code f n k os) e ∙ ap (from_onward code f n k) on
 
 pub step_more : (code : Code) (f n m k : ℕ) (os : List Bool) (i : Instr) (on : Onward) → n ≡ m + 1 → instr_at code f k ≡ Some i → onward k i os ≡ Some on
-    → places_from code f n k os ≡ before k (places_from code f m on.place on.outcomes)
+    → places_from code f n k os ≡ with_place k (places_from code f m on.place on.outcomes)
 step_more code f zero m k os i on less e leads = absurd (omega arith)
 step_more code f (suc n) m k os i on less e leads =
     let same : n ≡ m = omega arith in
-    ap (from_instr code f n k os) e ∙ ap (from_onward code f n k) leads ∙ ap (λ x. before k (places_from code f x on.place on.outcomes)) same
+    ap (from_instr code f n k os) e ∙ ap (from_onward code f n k) leads ∙ ap (λ x. with_place k (places_from code f x on.place on.outcomes)) same
 
--- where the rest leads
+-- the place to which the remaining steps lead
 pub end_more : (code : Code) (f n m k : ℕ) (os : List Bool) (i : Instr) (on : Onward) → n ≡ m + 1 → instr_at code f k ≡ Some i → onward k i os ≡ Some on
     → end_from code f n k os ≡ end_from code f m on.place on.outcomes
 end_more code f zero m k os i on less at leads = absurd (omega arith)
@@ -60,7 +60,7 @@ pub end_here : (code : Code) (f n k : ℕ) (os : List Bool) → n ≡ 0 → end_
 end_here code f zero k os e = refl
 end_here code f (suc n) k os e = absurd (omega arith)
 
-pub prefixed_before : (front : List ℕ) (k : ℕ) (r : Result (List ℕ) Misfit) → prefixed front (before k r) ≡ prefixed (front ++ k ∷ []) r
+pub prefixed_before : (front : List ℕ) (k : ℕ) (r : Result (List ℕ) Misfit) → prefixed front (with_place k r) ≡ prefixed (front ++ k ∷ []) r
 prefixed_before front k (Ok places) = ap Ok (sym (append_assoc front (k ∷ []) places))
 prefixed_before front k (Err e) = refl
 
@@ -81,7 +81,7 @@ pub all_done : (code : Code) (f n k used : ℕ) (os : List Bool) (front : List �
     → prefixed front (places_from code f n k (drop used os)) ≡ Ok front
 all_done code f n k used os front e le = done_by code f n k (drop used os) front e (omega (arith, length-drop used os))
 
--- a path of one step and more, told
+-- a path of one step and more, unrolled
 pub record Unrolled (code : Code) (f n k : ℕ) (os : List Bool) (ps : List ℕ) : Type 0 where
   pub instr : Instr
   pub at : instr_at code f k ≡ Some instr
@@ -95,7 +95,7 @@ pub unrolled : (code : Code) (f n k : ℕ) (os : List Bool) (ps : List ℕ) → 
 unrolled code f n k os ps h = by_instr (instr_at code f k) refl h
   where
     by_rest : (i : Instr) → instr_at code f k ≡ Some i → (on : Onward) → onward k i os ≡ Some on → (r : Result (List ℕ) Misfit)
-        → places_from code f n on.place on.outcomes ≡ r → before k r ≡ Ok ps → Unrolled code f n k os ps
+        → places_from code f n on.place on.outcomes ≡ r → with_place k r ≡ Ok ps → Unrolled code f n k os ps
     by_rest i at on leads (Ok rest) told h = record { instr = i; at = at; next = on; leads = leads; rest = rest; told = told; all = cc }
     by_rest i at on leads (Err e) told h = absurd cc
 
@@ -108,7 +108,7 @@ unrolled code f n k os ps h = by_instr (instr_at code f k) refl h
     by_instr (Some i) at h = by_onward i at (onward k i os) refl h
     by_instr None at h = absurd cc
 
--- at each place of a path stands an instruction
+-- each place of a path has an instruction
 pub all_there : (code : Code) (f n k : ℕ) (os : List Bool) (ps : List ℕ) → places_from code f n k os ≡ Ok ps → (j d : ℕ) → j < length ps
     → IsSome (instr_at code f (slice_index_or ps j d))
 all_there code f zero k [] ps h j d lt = let none : [] ≡ ps = cc in absurd (omega (arith, ap length none))
@@ -132,7 +132,7 @@ count code f (suc n) k os ps h =
     let rest = count code f n u.next.place u.next.outcomes u.rest u.told in
     omega (arith, rest, ap length u.all)
 
--- what fits is told by the steps alone
+-- a path that fits has the places of its steps, however it ends
 abbrev the_ok : List ℕ → Result (List ℕ) Misfit
 the_ok places = Ok places
 
@@ -140,7 +140,7 @@ if_kept : (b : Bool) (places ps : List ℕ) (m : Misfit) → cond b (the_ok plac
 if_kept true places ps m h = h
 if_kept false places ps m h = absurd cc
 
-pub fits_from : (code : Code) (f : ℕ) (ending : Ending) (path : Path) (r : Result (List ℕ) Misfit) (ps : List ℕ) → ended code f ending path r ≡ Ok ps
+pub fits_from : (code : Code) (f : ℕ) (ending : Ending) (path : Path) (r : Result (List ℕ) Misfit) (ps : List ℕ) → places_if_well_ended code f ending path r ≡ Ok ps
     → r ≡ Ok ps
 fits_from code f Fails path (Ok places) ps h = if_kept (ends_at_site code f places) places ps NotASite h
 fits_from code f Rests path (Ok places) ps h = if_kept (option_map_or can_block (standing code f path) true) places ps NotBlocked h
@@ -148,7 +148,7 @@ fits_from code f Fails path (Err e) ps h = absurd cc
 fits_from code f Rests path (Err e) ps h = absurd cc
 fits_from code f Open path r ps h = h
 
--- What is told of steps isn't longer than they.
+-- A list with at most one entry for each step isn't longer than the steps.
 
 cons_short : {X : Type 0} (o : Option X) (ys : List X) (n : ℕ) → length ys ≤ n → length (cons_option o ys) ≤ suc n
 cons_short None ys n le = omega arith
@@ -160,7 +160,7 @@ filter_short f (x ∷ xs) = cons_short (f x) (filter_map f xs) (length xs) (filt
 
 marked_long : (fails : Bool) (k : ℕ) (m : Marks) (ss : List Step) → length (marked_from fails k m ss) ≡ length ss
 marked_long fails k m [] = refl
-marked_long fails k m (s ∷ ss) = ap suc (marked_long fails (k + 1) (marked m s.instr) ss)
+marked_long fails k m (s ∷ ss) = ap suc (marked_long fails (k + 1) (marks_after_instr m s.instr) ss)
 
 pub started_few : (code : Code) (f : ℕ) (ps qs xs : List ℕ) → xs ≡ started (steps_at code f ps) → ps ≡ qs → length qs < 65536 → length xs < 65536
 started_few code f ps qs xs is same few =
@@ -175,6 +175,6 @@ events_few code f fails ps qs es is same few =
       ap length same,
       few,
       filter_short (event_of code f) (marked_steps code f fails (steps_at code f ps)),
-      marked_long fails 0 (unmarked code f) (steps_at code f ps),
+      marked_long fails 0 (marks_at_start code f) (steps_at code f ps),
       length-map ps (step_at code f),
     )

@@ -55,25 +55,25 @@ abbrev pub events_of : Code → ℕ → List Marked → List Event
 events_of code f steps = filter_map (event_of code f) steps
 
 -- the mutex that an event acquires, if any
-abbrev pub takes : EventKind → Option ℕ
-takes (kind.Lock m) = Some m
-takes (kind.Wake c m) = Some m
-takes _ = None
+abbrev pub acquired_mutex : EventKind → Option ℕ
+acquired_mutex (kind.Lock m) = Some m
+acquired_mutex (kind.Wake c m) = Some m
+acquired_mutex _ = None
 
 -- the mutex that an event releases, if any
-abbrev pub leaves : EventKind → Option ℕ
-leaves (kind.Unlock m) = Some m
-leaves (kind.Sleep c m) = Some m
-leaves _ = None
+abbrev pub released_mutex : EventKind → Option ℕ
+released_mutex (kind.Unlock m) = Some m
+released_mutex (kind.Sleep c m) = Some m
+released_mutex _ = None
 
 -- the step of the first event that releases the mutex, if any
-abbrev pub left_at : ℕ → List Event → Option ℕ
-left_at m [] = None
-left_at m (e ∷ es) = if option_map_or (λ l. l == m) (leaves e.kind) false then Some e.step else left_at m es
+abbrev pub release_step : ℕ → List Event → Option ℕ
+release_step m [] = None
+release_step m (e ∷ es) = if option_map_or (λ l. l == m) (released_mutex e.kind) false then Some e.step else release_step m es
 
 -- the region of an event that acquires a mutex: from its step to the release, if there is one
 abbrev pub region_of : Event → List Event → Option Region
-region_of e later = option_map (λ m. record { mutex = m; «from» = e.step; to = left_at m later }) (takes e.kind)
+region_of e later = option_map (λ m. record { mutex = m; «from» = e.step; to = release_step m later }) (acquired_mutex e.kind)
 
 abbrev pub regions_of : List Event → List Region
 regions_of [] = []

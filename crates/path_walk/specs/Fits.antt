@@ -41,12 +41,12 @@ fails_in log n = is_failing (ending_of log n)
 
 module _ (code : Code) (log : Log) where
   -- the places of the named thread's steps in function f, or what is wrong with its path
-  abbrev pub walked : Name → ℕ → Result (List ℕ) Misfit
-  walked n f = option_map_or (places_of code f (ending_of log n)) (path_under n log.threads) (Err misfit.Missing)
+  abbrev pub places_or_misfit : Name → ℕ → Result (List ℕ) Misfit
+  places_or_misfit n f = option_map_or (places_of code f (ending_of log n)) (path_under n log.threads) (Err misfit.Missing)
 
   -- the places of the named thread's steps in function f, and none if its path is wrong
   abbrev pub places_in : Name → ℕ → List ℕ
-  places_in n f = result_unwrap_or (walked n f) []
+  places_in n f = result_unwrap_or (places_or_misfit n f) []
 
   -- the function of the thread's child k, from 1. A path with a fault counts no children, which is
   -- harmless: their names are greater than that of the faulty thread
@@ -69,7 +69,7 @@ module _ (code : Code) (log : Log) where
 
   -- what is wrong with the named thread, if anything
   abbrev pub misfit_of : Name → Option Misfit
-  misfit_of n = option_map_or (λ f. result_err (walked n f)) (function_of n) (unless_absent n)
+  misfit_of n = option_map_or (λ f. result_err (places_or_misfit n f)) (function_of n) (unless_absent n)
 
   -- nothing is wrong with any thread
   abbrev pub Fits : Type 0

@@ -10,7 +10,7 @@ use Rattle.tc_code.specs.Code.{Code}
 use Rattle.tc_code.specs.declared.instr.Instr.{Instr}
 use Rattle.path_walk.specs.Steps.{Step, is_failing, steps_at, standing}
 use Rattle.path_walk.specs.Fits.{fails_in, ending_of, places_in, function_of, Fits}
-use Rattle.path_walk.specs.Marks.{Marks, unmarked, marks_after, marked_steps}
+use Rattle.path_walk.specs.Marks.{Marks, marks_at_start, marks_after, marked_steps}
 use Rattle.path_walk.specs.Events.{events_of, regions_of, sleeps_of, creates_of, joins_of, blocked_at, is_impossible, operators_of}
 use Rattle.path_walk.specs.declared.ending.Ending.{Ending}
 use Rattle.path_walk.specs.declared.ending.Ending.TheVariants.{Rests}
@@ -48,8 +48,8 @@ pub record Paths : Type 0 where
   pub dead : Bool
 
 -- a number as a saturating 64-bit counter shows it
-abbrev pub counted : ℕ → ℕ
-counted n = min n (2 ^ 64 - 1)
+abbrev pub saturated_count : ℕ → ℕ
+saturated_count n = min n (2 ^ 64 - 1)
 
 -- what blocks a thread at the end of its path, if it rests there and has not exited
 abbrev pub blocked_after : Ending → Marks → List Sleep → Option Instr → Option Blocked
@@ -72,7 +72,7 @@ walk_by code ending t f places =
       sleeps = sleeps;
       creates = creates_of events;
       joins = joins_of events;
-      blocked = blocked_after ending (marks_after (unmarked code f) steps) sleeps (standing code f t.path);
+      blocked = blocked_after ending (marks_after (marks_at_start code f) steps) sleeps (standing code f t.path);
     }
 
 -- whether the log claims a deadlock although no thread is blocked
@@ -103,7 +103,7 @@ module _ (code : Code) (log : Log) where
     failing = log.failing;
     threads = map walk_of log.threads;
     events = sum (map (λ t. length (walk_of t).events) log.threads);
-    operators = counted (sum (map operators_in log.threads));
+    operators = saturated_count (sum (map operators_in log.threads));
     dead = list_any is_dead log.threads || have_exited log.failing (map walk_of log.threads);
   }
 

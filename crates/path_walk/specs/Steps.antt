@@ -29,9 +29,9 @@ onward k (Goto to) outcomes = Some (record { place = to; outcomes = outcomes })
 onward k _ outcomes = Some (record { place = k + 1; outcomes = outcomes })
 
 -- a place in front of the places found, or the fault
-abbrev pub before : ℕ → Result (List ℕ) Misfit → Result (List ℕ) Misfit
-before k (Ok places) = Ok (k ∷ places)
-before k (Err fault) = Err fault
+abbrev pub with_place : ℕ → Result (List ℕ) Misfit → Result (List ℕ) Misfit
+with_place k (Ok places) = Ok (k ∷ places)
+with_place k (Err fault) = Err fault
 
 -- the places of n steps of function f from place k on with these outcomes, or what is wrong
 abbrev pub places_from : Code → ℕ → ℕ → ℕ → List Bool → Result (List ℕ) Misfit
@@ -39,7 +39,7 @@ places_from code f zero k [] = Ok []
 places_from code f zero k (_ ∷ _) = Err OutcomesLeft
 places_from code f (suc n) k outcomes =
     option_map_or
-    (λ i. option_map_or (λ on. before k (places_from code f n on.place on.outcomes)) (onward k i outcomes) (Err OutcomesShort))
+    (λ i. option_map_or (λ on. with_place k (places_from code f n on.place on.outcomes)) (onward k i outcomes) (Err OutcomesShort))
     (instr_at code f k) (Err PastExit)
 
 -- whether a thread fails in the last step of its path
@@ -92,11 +92,11 @@ can_block (Join h) = true
 can_block _ = false
 
 -- the places found, if the path ends well: a failure at a site, a rest after an exit or at a block
-abbrev pub ended : Code → ℕ → Ending → Path → Result (List ℕ) Misfit → Result (List ℕ) Misfit
-ended code f Fails path (Ok places) = if ends_at_site code f places then Ok places else Err NotASite
-ended code f Rests path (Ok places) = if option_map_or can_block (standing code f path) true then Ok places else Err NotBlocked
-ended code f _ path found = found
+abbrev pub places_if_well_ended : Code → ℕ → Ending → Path → Result (List ℕ) Misfit → Result (List ℕ) Misfit
+places_if_well_ended code f Fails path (Ok places) = if ends_at_site code f places then Ok places else Err NotASite
+places_if_well_ended code f Rests path (Ok places) = if option_map_or can_block (standing code f path) true then Ok places else Err NotBlocked
+places_if_well_ended code f _ path found = found
 
 -- the places of a thread's steps in function f, from its path and ending, or what is wrong
 abbrev pub places_of : Code → ℕ → Ending → Path → Result (List ℕ) Misfit
-places_of code f ending path = ended code f ending path (places_from code f path.steps 0 path.outcomes)
+places_of code f ending path = places_if_well_ended code f ending path (places_from code f path.steps 0 path.outcomes)

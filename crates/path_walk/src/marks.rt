@@ -2,7 +2,7 @@
 ghost use Rattle.std.specs.Prelude.{◌≡◌, ◌+◌, ◌<◌, ◌^◌, IfOk, slice_set};
 ghost use Rattle.tc_base.specs.declared.handle.Handle.{Handle};
 ghost use Rattle.tc_code.specs.Step as step;
-ghost use Rattle.path_walk.specs.Marks.{unmarked, has_mutex, handle_in, marked};
+ghost use Rattle.path_walk.specs.Marks.{marks_at_start, has_mutex, handle_in, marks_after_instr};
 ghost use Rattle.path_walk.specs.Events.{asks, kind_with, excludes, last_sleep, blocked_at};
 
 use crate::{Blocked, EventKind, Sleep};
@@ -36,7 +36,7 @@ impl Model for Marks {
 impl Marks {
     /// The marks at the start of a function.
     pub fn at_start(alloc: Global, code: &Code, function: usize) -> Result<Marks, AllocError>
-        ensures { IfOk result (λ t. t ≡ unmarked code.now function) }
+        ensures { IfOk result (λ t. t ≡ marks_at_start code.now function) }
     {
         let handles = match code.functions().get(function) {
             Some(func) => func.handles,
@@ -130,7 +130,7 @@ impl Marks {
     pub fn apply(&mut self, instr: &Instr)
         requires children { self.old.children + 1 < 2 ^ 32 }
         requires bars { self.old.bars + 1 < 2 ^ 64 }
-        ensures { self.new ≡ marked self.old instr.now }
+        ensures { self.new ≡ marks_after_instr self.old instr.now }
     {
         match instr {
             Instr::Lock { mutex } | Instr::Wake { mutex, .. } => self.hold(*mutex, true),

@@ -3,14 +3,14 @@ ghost use Rattle.std.specs.Prelude.{◌≡◌, ℕ, map, sum, IfOk, slice_get, s
 ghost use Rattle.tc_code.specs.Code.{instr_at};
 ghost use Rattle.path_walk.specs.Steps.{step_at, steps_at};
 ghost use Rattle.path_walk.specs.Events.{operators, operators_of};
-ghost use Rattle.path_walk.specs.Paths.{counted};
+ghost use Rattle.path_walk.specs.Paths.{saturated_count};
 
 use std::alloc::{AllocError, Global};
 use tc_code::{Code, Expr, Instr, Node};
 
 /// The number of operators in an expression.
 fn in_expr(e: &Expr) -> u64
-    ensures { result ≡ counted (operators e.now) }
+    ensures { result ≡ saturated_count (operators e.now) }
 {
     match &e.node {
         Node::Number(_) | Node::Slot(_) => 0,
@@ -23,7 +23,7 @@ fn in_expr(e: &Expr) -> u64
 
 /// The number of operators in a list of expressions.
 fn in_exprs(exprs: &[Expr]) -> u64
-    ensures { result ≡ counted (sum (map operators exprs.now)) }
+    ensures { result ≡ saturated_count (sum (map operators exprs.now)) }
 {
     let mut count: u64 = 0;
     for e in exprs {
@@ -34,7 +34,7 @@ fn in_exprs(exprs: &[Expr]) -> u64
 
 /// The number of operators in an instruction's expressions.
 fn in_instr(instr: &Instr) -> u64
-    ensures { result ≡ counted (operators_of instr.now) }
+    ensures { result ≡ saturated_count (operators_of instr.now) }
 {
     match instr {
         Instr::Set { value, .. } | Instr::Store { value, .. } | Instr::Swap { value, .. } => {
@@ -66,7 +66,7 @@ fn instrs_of(code: &Code, function: usize) -> &[Instr]
 
 /// The number of operators in each instruction of a function, in order.
 fn in_function(alloc: Global, code: &Code, function: usize) -> Result<Vec<u64>, AllocError>
-    ensures { IfOk result (λ counts. (k : ℕ) → slice_index_or counts.items k 0 ≡ counted (operators_of (step_at code.now function k).instr)) }
+    ensures { IfOk result (λ counts. (k : ℕ) → slice_index_or counts.items k 0 ≡ saturated_count (operators_of (step_at code.now function k).instr)) }
 {
     let mut counts = Vec::new(alloc);
     for instr in instrs_of(code, function) {
@@ -83,7 +83,7 @@ pub fn operators(
     function: usize,
     places: &[usize],
 ) -> Result<u64, AllocError>
-    ensures { IfOk result (λ n. n ≡ counted (sum (map (λ s. operators_of s.instr) (steps_at code.now function places.now)))) }
+    ensures { IfOk result (λ n. n ≡ saturated_count (sum (map (λ s. operators_of s.instr) (steps_at code.now function places.now)))) }
 {
     let counts = in_function(alloc, code, function)?;
     let mut total: u64 = 0;

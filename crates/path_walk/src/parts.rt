@@ -3,7 +3,7 @@ ghost use Rattle.std.specs.Prelude.{◌≡◌, ℕ, ◌+◌, ◌<◌, List, ◌�
 ghost use Rattle.std.specs.List.{cons_option};
 ghost use Rattle.std.specs.BTreeMap as tree;
 ghost use Rattle.std.specs.Ordering.{nat_cmp};
-ghost use Rattle.path_walk.specs.Events.{takes, leaves, left_at, region_of, regions_of, sleeps_of, sleep_by};
+ghost use Rattle.path_walk.specs.Events.{acquired_mutex, released_mutex, release_step, region_of, regions_of, sleeps_of, sleep_by};
 ghost use Rattle.path_walk.specs.Events.{create_by, join_by, creates_of, joins_of};
 
 use crate::{Event, EventKind, Link, Region, Sleep};
@@ -25,7 +25,7 @@ pub struct Parts {
 
 /// The mutex that an event acquires, if any.
 fn taken(kind: EventKind) -> Option<u32>
-    ensures { result ≡ takes kind }
+    ensures { result ≡ acquired_mutex kind }
 {
     match kind {
         EventKind::Lock(mutex) => Some(mutex),
@@ -36,7 +36,7 @@ fn taken(kind: EventKind) -> Option<u32>
 
 /// The mutex that an event releases, if any.
 fn left(kind: EventKind) -> Option<u32>
-    ensures { result ≡ leaves kind }
+    ensures { result ≡ released_mutex kind }
 {
     match kind {
         EventKind::Unlock(mutex) => Some(mutex),
@@ -56,7 +56,7 @@ fn event_at(events: &[Event], place: usize) -> Event
 /// The region of an event that acquires a mutex; the map has the first later step that releases
 /// each mutex.
 fn region(event: Event, ends: &BTreeMap<u32, usize>) -> Option<Region>
-    ensures { (later : List Event) → ((m : ℕ) → tree.get nat_cmp ends.now m ≡ left_at m later) → result ≡ region_of event later }
+    ensures { (later : List Event) → ((m : ℕ) → tree.get nat_cmp ends.now m ≡ release_step m later) → result ≡ region_of event later }
 {
     match taken(event.kind) {
         Some(mutex) => Some(Region {
@@ -70,8 +70,8 @@ fn region(event: Event, ends: &BTreeMap<u32, usize>) -> Option<Region>
 
 /// Notes that an event releases a mutex, if it does.
 fn note_left(ends: &mut BTreeMap<u32, usize>, event: Event) -> Result<(), AllocError>
-    ensures { OnOk result ((later : List Event) → ((m : ℕ) → tree.get nat_cmp ends.old m ≡ left_at m later)
-        → (m : ℕ) → tree.get nat_cmp ends.new m ≡ left_at m (event ∷ later)) }
+    ensures { OnOk result ((later : List Event) → ((m : ℕ) → tree.get nat_cmp ends.old m ≡ release_step m later)
+        → (m : ℕ) → tree.get nat_cmp ends.new m ≡ release_step m (event ∷ later)) }
 {
     if let Some(mutex) = left(event.kind) {
         ends.insert(mutex, event.step)?;

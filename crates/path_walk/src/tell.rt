@@ -3,7 +3,7 @@ ghost use Rattle.std.specs.Prelude.{◌≡◌, ℕ, ◌<◌, ◌≤◌, ◌^◌,
 ghost use Rattle.std.specs.List.{All, list_any};
 ghost use Rattle.tc_code.specs.Code.{instr_at};
 ghost use Rattle.path_walk.specs.Steps.{steps_at};
-ghost use Rattle.path_walk.specs.Marks.{unmarked, marks_after, marked_steps};
+ghost use Rattle.path_walk.specs.Marks.{marks_at_start, marks_after, marked_steps};
 ghost use Rattle.path_walk.specs.Events.{events_of, is_impossible};
 
 use crate::Event;
@@ -36,7 +36,7 @@ pub fn tell(
         ≡ events_of code.now function (marked_steps code.now function fails (steps_at code.now function places.now))) }
     ensures dead { IfOk result (λ t. t.dead
         ≡ list_any is_impossible (marked_steps code.now function fails (steps_at code.now function places.now))) }
-    ensures marks { IfOk result (λ t. t.marks ≡ marks_after (unmarked code.now function) (steps_at code.now function places.now)) }
+    ensures marks { IfOk result (λ t. t.marks ≡ marks_after (marks_at_start code.now function) (steps_at code.now function places.now)) }
 {
     let mut marks = Marks::at_start(alloc, code, function)?;
     let mut events = Vec::new(alloc);

@@ -1,4 +1,4 @@
--- What one deed more makes of a history.
+-- A history with one more deed.
 use Rattle.std.proofs.Common.{◌≡◌, ◌∙◌, ◌≢◌, ℕ, ◌+◌, ◌≤◌, ℤ, Bool, true, false, ◌||◌, cond, List, [], ◌∷◌, ◌++◌, Option, Some, None, refl, ap, arith}
 use Rattle.std.specs.List.{filter_map, list_any, cons_option}
 use Rattle.std.specs.Option.{option_or}
@@ -13,7 +13,7 @@ use Rattle.run_history.proofs.Lists.{filter_map-push, last_of-push, count-push}
 use Rattle.path_walk.specs.declared.event.EventKind.TheVariants as kind
 use Rattle.path_laws.specs.Deeds.{kind_of}
 
--- Threads stay, and steps grow.
+-- Threads stay, and the numbers of their steps grow.
 pub record GoesOn (h g : List Deed) : Type 0 where
   pub there : (n : Name) → is_thread_in h n ≡ true → is_thread_in g n ≡ true
   pub grows : (n : Name) → steps_in h n ≤ steps_in g n
@@ -38,7 +38,7 @@ goes_push h d = record {
   grows = λ n. omega (arith, count-push (is_step_of n) h d);
 }
 
--- a step is one more of its thread, and of no other
+-- a step adds one to the steps of its thread, and nothing to those of others
 pub steps_own : (h : List Deed) (n : Name) (k : ℕ) (r : Request) (v : ℤ) (o : Option Name) → steps_in (h ++ Did n k r v o ∷ []) n ≡ steps_in h n + 1
 steps_own h n k r v o = count-push (is_step_of n) h (Did n k r v o) ∙ ap (λ b. steps_in h n + cond b 1 0) (same_self n n refl)
 
@@ -51,7 +51,7 @@ steps_other h n q k r v o apart =
 pub steps_drained : (h : List Deed) (n q : Name) (k c : ℕ) (v : ℤ) → steps_in (h ++ Drained n k c v ∷ []) q ≡ steps_in h q
 steps_drained h n q k c v = let e = count-push (is_step_of q) h (Drained n k c v) in omega (arith, e)
 
--- who has failed
+-- the failed thread after a deed
 pub failed_after : (h : List Deed) (d : Deed) → failed_in h ≡ None → failed_in (h ++ d ∷ []) ≡ fails d
 failed_after h d none = last_of-push fails h d ∙ ap (option_or (fails d)) none ∙ or_nothing (fails d)
   where

@@ -1,4 +1,4 @@
--- The end of a lawful world: the position of the event that fails, or one past all.
+-- The end of a lawful world: the position of the event that fails, or the one after all events.
 use Rattle.std.proofs.Common.{◌≡◌, ◌∙◌, ◌≢◌, ◌⊎◌, inl, inr, ℕ, zero, suc, ◌+◌, ◌≤◌, ◌<◌, true, false, List, [], ◌∷◌, length, get_or, fold}
 use Rattle.std.proofs.Common.{Option, Some, None, refl, sym, ap, subst, arith}
 use Rattle.std.specs.Prelude.{max, slice_get}
@@ -35,7 +35,7 @@ failure_is k e = absurd cc
 pub failure_of : (k : EventKind) → k ≡ kind.Fail → is_failure k ≡ true
 failure_of k e = ap is_failure e
 
--- a bound of all
+-- the fold is at least its start
 at_least : (a : ℕ) (xs : List ℕ) → a ≤ fold (λ n p. max n (p + 1)) a xs
 at_least a [] = omega arith
 at_least a (x ∷ xs) = let rest = at_least (max a (x + 1)) xs in let first = le-max_left a (x + 1) in omega (arith, rest, first)
@@ -62,7 +62,7 @@ module _ {B : Type 0} (setting : Setting B) (nodes : List Node) (w : World) (l :
     pub fails : e.it.kind ≡ kind.Fail
     pub last : place code log w e.thread e.it ≡ end
 
-  -- none does, and all come before
+  -- no event fails, and all come before the end
   pub record NoneFails : Type 0 where
     pub kinds : (t : ℕ) (q : Walk) (x : Event) → IsThread code log t q → Contains q.events x → x.kind ≢ kind.Fail
     pub before : (t : ℕ) (q : Walk) (x : Event) → IsThread code log t q → Contains q.events x → place code log w t x < end
@@ -109,7 +109,7 @@ module _ {B : Type 0} (setting : Setting B) (nodes : List Node) (w : World) (l :
   pub none_before : (t : ℕ) (q : Walk) (x : Event) → IsThread code log t q → Contains q.events x → place code log w t x < end → x.kind ≢ kind.Fail
   none_before t q x there i before fails = omega (arith, before, fail_ends t q x there i fails)
 
-  -- all others come before it, but for stores that wait
+  -- all other events come before the end, except stores that wait
   pub others_before : (t : ℕ) (q : Walk) (x : Event) → IsThread code log t q → Contains q.events x → is_failure x.kind ≡ false
       → is_pending ops.buffered x ≡ false → place code log w t x < end
   others_before t q x there i kept now = by end_is
@@ -122,7 +122,7 @@ module _ {B : Type 0} (setting : Setting B) (nodes : List Node) (w : World) (l :
           (λ fails. false≢true (sym kept ∙ failure_of x.kind fails)) now in
           omega (arith, before, f.last)
 
-  -- where no thread fails in the log, all come before
+  -- if no thread fails in the log, all events come before the end
   pub all_before : ((t : ℕ) (q : Walk) → IsThread code log t q → fails_in log q.name ≡ false) → (t : ℕ) (q : Walk) (x : Event) → IsThread code log t q
       → Contains q.events x → place code log w t x < end
   all_before no_thread t q x there i = by end_is

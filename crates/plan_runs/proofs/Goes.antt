@@ -15,7 +15,7 @@ use Rattle.path_walk.specs.declared.event.Event.{Event}
 use Rattle.path_walk.specs.declared.event.EventKind.TheVariants as kind
 use Rattle.path_walk.specs.declared.event.Sleep.{Sleep}
 use Rattle.path_laws.specs.Setting.{Setting}
-use Rattle.path_laws.specs.history.Along.{IsThread}
+use Rattle.path_laws.specs.history.Along.{IsThread, PathThread, path_thread}
 use Rattle.path_laws.proofs.of_events.Events.{event_within}
 use Rattle.path_laws.proofs.of_events.Lists.{in_contains}
 use Rattle.path_laws.proofs.of_history.Stays.{start_along}
@@ -29,10 +29,11 @@ use Rattle.world_plan.specs.Plan.{event_at, drains_next, does_next, goes_on, goe
 use Rattle.world_plan.proofs.Numbers.{event_numbered, number_is, one_event}
 use Rattle.world_plan.proofs.Places.{event_at_is, none_at}
 use Rattle.plan_runs.proofs.Deeds.{GoesOn, goes_nowhere, goes_further, goes_push}
-use Rattle.plan_runs.proofs.Given.{Gone, At, Given}
+use Rattle.plan_runs.proofs.Given.{Gone, Given, Here}
 use Rattle.plan_runs.proofs.Next as next
 use Rattle.plan_runs.proofs.Next.{NextIs, next_is, paths_whole}
 use Rattle.plan_runs.proofs.Steps.{below_next, quiet_goes, event_goes, drain_goes, one_more, QuietAt}
+use Rattle.plan_runs.proofs.Histories.{history_of}
 
 at_most : (a b : ℕ) → (a ≤ b) ⊎ (b < a)
 at_most a b = by (cases_order a b)
@@ -42,7 +43,7 @@ at_most a b = by (cases_order a b)
     by (inr (inl lt)) = inl (omega (arith, lt))
     by (inr (inr gt)) = inr gt
 
--- one step more, at the end
+-- one more step, at the end
 pub goes_last : (buffered : Bool) (code : Code) (paths : Paths) (w : World) (m : ℕ) (h : List Deed) (t : ℕ) (n : Name)
     → goes_on buffered code paths w (suc m) h t n
     ≡ goes_on buffered code paths w m h t n ++ does_next buffered code paths w (goes_on buffered code paths w m h t n) t n
@@ -64,32 +65,33 @@ module _ {B : Type 0} (setting : Setting B) (nodes : List Node) (w : World) (l :
   abbrev Quiet : Walk → ℕ → Type 0
   Quiet q k = QuietAt setting nodes w l g q k
 
-  -- a thread has done so many steps more, and nobody has seen anything
+  -- a thread has done `k` of its steps, and no other thread has seen anything new
   pub record Reached (p : ℕ) (h : List Deed) (q : Walk) (k : ℕ) (later : List Deed) : Type 0 where
     pub gone : is_gone p later
     pub steps : steps_in later q.name ≡ k
     pub on : GoesOn h later
 
-  pub quiet_on : (m p : ℕ) (h : List Deed) → is_gone p h → (t : ℕ) (q : Walk) → IsThread code log t q → is_thread_in h q.name ≡ true
-      → steps_in h q.name + m ≤ length q.places → ((k : ℕ) → steps_in h q.name ≤ k → k < steps_in h q.name + m → Quiet q k)
-      → Reached p h q (steps_in h q.name + m) (goes m h t q.name)
-  quiet_on zero p h gone t q there is_there few quiet = record { gone = gone; steps = omega arith; on = goes_nowhere h }
-  quiet_on (suc m) p h gone t q there is_there few quiet =
-      let n = next_is setting nodes w l p h gone t q there is_there (omega (arith, few)) in
-      let d = next.deed setting nodes w l p h gone t q there n in
-      let one = one_more setting nodes w l g p h gone t q there n in
-      let later = quiet_goes setting nodes w l g p h gone t q there n (quiet (steps_in h q.name) (omega arith) (omega arith)) in
-      let rest = quiet_on m p (h ++ d ∷ []) later t q there (one.goes.there q.name is_there) (omega (arith, one.steps, few))
+  pub quiet_on : (m p : ℕ) (h : List Deed) → is_gone p h → (t : PathThread code log) → is_thread_in h t.name ≡ true
+      → steps_in h t.name + m ≤ length t.places → ((k : ℕ) → steps_in h t.name ≤ k → k < steps_in h t.name + m → Quiet t.walk k)
+      → Reached p h t.walk (steps_in h t.name + m) (goes m h t.index t.name)
+  quiet_on zero p h gone t is_there few quiet = record { gone = gone; steps = omega arith; on = goes_nowhere h }
+  quiet_on (suc m) p h gone t is_there few quiet =
+      let q = t.walk in
+      let n = next_is setting nodes w l p h gone t is_there (omega (arith, few)) in
+      let d = next.deed setting nodes w l p h gone t n in
+      let one = one_more setting nodes w l g p h gone t n in
+      let later = quiet_goes setting nodes w l g p h gone t n (quiet (steps_in h q.name) (omega arith) (omega arith)) in
+      let rest = quiet_on m p (h ++ d ∷ []) later t (one.goes.there q.name is_there) (omega (arith, one.steps, few))
       (λ k low high. quiet k (omega (arith, low, one.steps)) (omega (arith, high, one.steps))) in
-      subst (λ ds. Reached p h q (steps_in h q.name + suc m) (goes m (h ++ ds) t q.name))
-      (sym (next.does_it setting nodes w l p h gone t q there n))
+      subst (λ ds. Reached p h q (steps_in h q.name + suc m) (goes m (h ++ ds) t.index q.name))
+      (sym (next.does_it setting nodes w l p h gone t n))
       (record {
         gone = rest.gone;
         steps = omega (arith, rest.steps, one.steps);
-        on = goes_further h (h ++ d ∷ []) (goes m (h ++ d ∷ []) t q.name) one.goes rest.on;
+        on = goes_further h (h ++ d ∷ []) (goes m (h ++ d ∷ []) t.index q.name) one.goes rest.on;
       })
 
-  -- before an event of a thread all steps that are left are quiet
+  -- all steps before a thread's next event are quiet
   not_pending : (b c : Bool) → b ≡ false → (not b || c) ≡ true
   not_pending false c e = refl
   not_pending true c e = absurd cc
@@ -106,18 +108,20 @@ module _ {B : Type 0} (setting : Setting B) (nodes : List Node) (w : World) (l :
           absurd (omega (arith, done, low, step))
 
   pub within : (t : ℕ) (q : Walk) (x : Event) → IsThread code log t q → Contains q.events x → x.step < length q.places
-  within t q x there i = event_within code log q (walk_is code log setting.log_is l.fits t q there) x (in_contains x q.events i)
+  within t q x there i = event_within code log q (walk_is code log setting.log_is l.fits (path_thread t q there)) x (in_contains x q.events i)
 
   -- An event that comes.
-  module _ (p : ℕ) (h : List Deed) (gone : is_gone p h) (t : ℕ) (q : Walk) (x : Event) (there : IsThread code log t q) (i : Contains q.events x)
-      (here : place code log w t x ≡ p) where
+  module _ (e : Here setting nodes w) where
+    open e use {position as p, deeds as h, gone, thread, event as x, among as i, at as here}
+    open thread use {index as t, walk as q, there}
+
     abbrev is_there : is_thread_in h q.name ≡ true
-    is_there = g.there p h t q x gone there i here
+    is_there = g.there e
 
     abbrev upto : List Deed
     upto = goes_to ops.buffered code paths w h t q.name (x.step + 1)
 
-    -- a store that waits has been issued, or is now
+    -- a store that waits was issued before, or is issued now
     module _ (waits : is_pending ops.buffered x ≡ true) where
       pub quiet_through : (k : ℕ) → steps_in h q.name ≤ k → k < steps_in h q.name + (x.step + 1 - steps_in h q.name) → Quiet q k
       quiet_through k low high =
@@ -132,21 +136,23 @@ module _ {B : Type 0} (setting : Setting B) (nodes : List Node) (w : World) (l :
       pub few_left : steps_in h q.name + (x.step + 1 - steps_in h q.name) ≤ length q.places
       few_left =
           elim (at_most (x.step + 1) (steps_in h q.name)) [
-            | inl done ↦ omega (arith, done, few_steps setting l.fits h t q gone.along there)
+            | inl done ↦ omega (arith, done, few_steps setting (history_of l gone) thread)
             | inr left ↦ omega (arith, left, within t q x there i)
           ]
 
       issued : Reached p h q (steps_in h q.name + (x.step + 1 - steps_in h q.name)) upto
-      issued = quiet_on (x.step + 1 - steps_in h q.name) p h gone t q there is_there few_left quiet_through
+      issued = quiet_on (x.step + 1 - steps_in h q.name) p h gone thread is_there few_left quiet_through
 
       pub pending_passes : is_gone (suc p) (upto ++ drains_next ops.buffered upto q.name x.step)
           × GoesOn h (upto ++ drains_next ops.buffered upto q.name x.step)
       pending_passes =
           let done : x.step < steps_in upto q.name = omega (arith, issued.steps) in
-          let turn = g.turns p upto t q x issued.gone there i waits here done in
+          let issued_at : Here setting nodes w =
+          record { position = p; deeds = upto; gone = issued.gone; thread = thread; event = x; among = i; at = here } in
+          let turn = g.turns issued_at waits done in
           let d = Drained q.name x.step turn.0 turn.1 in
           subst (λ ds. is_gone (suc p) (upto ++ ds) × GoesOn h (upto ++ ds)) (sym turn.3) (
-            drain_goes setting nodes w l g p upto issued.gone t q there x i here waits done turn.0 turn.1 turn.2,
+            drain_goes setting nodes w l g issued_at waits done turn.0 turn.1 turn.2,
             goes_further h upto (upto ++ d ∷ []) issued.on (goes_push upto d),
           )
 
@@ -168,16 +174,13 @@ module _ {B : Type 0} (setting : Setting B) (nodes : List Node) (w : World) (l :
 
       pub come : Reached p h q x.step before
       come =
-          let r = quiet_on (x.step - steps_in h q.name) p h gone t q there is_there (omega (arith, not_done, within t q x there i))
+          let r = quiet_on (x.step - steps_in h q.name) p h gone thread is_there (omega (arith, not_done, within t q x there i))
           (λ k low high. quiet_before p h gone t q x there i here k low (omega (arith, high, low, not_done))) in
           record { gone = r.gone; steps = omega (arith, r.steps, not_done); on = r.on }
 
-      pub at_it : At setting nodes w p before t q x
-      at_it = record { gone = come.gone; thread = there; event = i; at = here; steps = come.steps }
-
-      pub next_there : NextIs setting nodes w l before t q
+      pub next_there : NextIs setting nodes w l before thread
       next_there =
-          next_is setting nodes w l p before come.gone t q there (come.on.there q.name is_there)
+          next_is setting nodes w l p before come.gone thread (come.on.there q.name is_there)
           (omega (arith, come.steps, within t q x there i))
 
       upto_is : upto ≡ before ++ does_next ops.buffered code paths w before t q.name
@@ -188,10 +191,10 @@ module _ {B : Type 0} (setting : Setting B) (nodes : List Node) (w : World) (l :
       pub event_passes : x.kind ≢ kind.Fail → is_gone (suc p) upto × GoesOn h upto
       event_passes not =
           let n = next_there in
-          let d = next.deed setting nodes w l p before come.gone t q there n in
+          let d = next.deed setting nodes w l p before come.gone thread n in
           subst (λ k. is_gone (suc p) k × GoesOn h k)
-          (sym (upto_is ∙ ap (λ ds. before ++ ds) (next.does_it setting nodes w l p before come.gone t q there n))) (
-            event_goes setting nodes w l g p before come.gone t q there n x at_it now not,
+          (sym (upto_is ∙ ap (λ ds. before ++ ds) (next.does_it setting nodes w l p before come.gone thread n))) (
+            event_goes setting nodes w l g p before come.gone thread n x i here come.steps now not,
             goes_further h before (before ++ d ∷ []) come.on (goes_push before d),
           )
 
@@ -210,7 +213,7 @@ module _ {B : Type 0} (setting : Setting B) (nodes : List Node) (w : World) (l :
     nowhere : (t : ℕ) (q : Walk) (x : Event) → IsThread code log t q → Contains q.events x → place code log w t x ≡ p → ⊥
     nowhere t q x there i at = none_at paths w l.world l.of.events (paths_whole setting nodes w l) p t q x none there i at
 
-    -- so nothing ends a sleep there
+    -- no sleep ends at a position without an event
     no_ender : (s k : ℕ) (x : Of Sleep) → slice_get (all_sleeps paths) s ≡ Some x → ender_of w s ≡ Some k → position w k ≡ p → ⊥
     no_ender s k x is ends at =
         elim (l.of.enders s k x.it.condition x (record { is = is; condition = refl }) ends) [
@@ -281,10 +284,10 @@ module _ {B : Type 0} (setting : Setting B) (nodes : List Node) (w : World) (l :
       nothing_ends [] e newer is = cc
       nothing_ends (d ∷ older) e newer is = cc
 
-  -- So up to each position before that of the failing event.
+  -- The plan goes up to each position before that of the failing event.
   module _ (end : ℕ)
       (unfailed : (t : ℕ) (q : Walk) (x : Event) → IsThread code log t q → Contains q.events x → place code log w t x < end → x.kind ≢ kind.Fail) where
-    -- an event comes by its thread
+    -- the deeds by which an event comes, given its thread
     abbrev by_walk : List Deed → Of Event → Option Walk → List Deed
     by_walk h e o =
         option_map_or (λ (q : Walk). with_drain ops.buffered code paths w (goes_to ops.buffered code paths w h e.thread q.name (e.it.step + 1)) q.name e.it)
@@ -295,7 +298,7 @@ module _ {B : Type 0} (setting : Setting B) (nodes : List Node) (w : World) (l :
     event_is_passed p h gone lt e is =
         let a = event_at_is paths w l.world l.of.events (paths_whole setting nodes w l) p e is in
         subst (is_gone (suc p)) (ap (by_walk h e) (sym a.1))
-        (passes p h gone e.thread a.0 e.it a.1 a.2 a.3 (unfailed e.thread a.0 e.it a.1 a.2 (omega (arith, a.3, lt)))).0
+        (passes (record { position = p; deeds = h; gone = gone; thread = path_thread e.thread a.0 a.1; event = e.it; among = a.2; at = a.3 }) (unfailed e.thread a.0 e.it a.1 a.2 (omega (arith, a.3, lt)))).0
 
     pub gone_up_to : (p : ℕ) → p ≤ end → is_gone p (up_to ops.buffered code paths w p)
     gone_up_to zero le = starts

@@ -1,4 +1,4 @@
--- What the rules of a lawful order let a thread do.
+-- The rules of a lawful order allow the steps of threads.
 use Rattle.std.proofs.Common.{◌≡◌, ◌∙◌, inl, inr, suc, ◌+◌, ◌&&◌, Bool, true, List, [], ◌∷◌, ◌++◌, Option, Some, None, refl, ap, arith, subst}
 use Rattle.std.specs.Prelude.{option_and_then, if◌then◌else◌}
 use Rattle.run_history.specs.History.{Did, Drained}
@@ -39,40 +39,44 @@ module _ {B : Type 0} (setting : Setting B) (nodes : List Node) (w : World) (l :
   pub given : Given setting nodes w
   given = record {
     empties = empty_there setting nodes w l;
-    loads = λ p h t q x at r asks course a m there i step takes. takes_its setting nodes w l p h t q x at r asks course a m there i step takes;
-    turns = λ p h t q x gone there. has_turn setting nodes w l p h gone t q there x;
+    loads = takes_its setting nodes w l;
+    turns = λ e waits issued.
+        has_turn setting nodes w l e.position e.deeds e.gone e.thread.index e.thread.walk e.thread.there e.event e.among waits e.at issued;
     steps_drain = λ p h n k r took other gone. step_drained setting nodes w l p h gone n k r took other;
-    quiet_seen = λ p h t q k r took other gone there quiet. (
-      step_drained setting nodes w l p h gone q.name k r took other,
-      quiet_order setting nodes w l p h gone (Did q.name k r took other)
-          (hidden ops.buffered (record { thread = q.name; step = k }) (kind_of r other) quiet),
+    quiet_seen = λ p h t k r took other gone quiet. (
+      step_drained setting nodes w l p h gone t.name k r took other,
+      quiet_order setting nodes w l p h gone (Did t.name k r took other)
+          (hidden ops.buffered (record { thread = t.name; step = k }) (kind_of r other) quiet),
     );
-    event_seen = λ p h t q x r took other at now kind. (
-      event_drained setting nodes w l p h at.gone t q x at.thread at.event at.at now r took other,
-      event_order setting nodes w l p h at.gone t q x.step r took other at.thread at.at,
+    event_seen = λ e r took other now kind. (
+      event_drained setting nodes w l e.position e.deeds e.gone e.thread.index e.thread.walk e.event e.thread.there e.among e.at now r took other,
+      event_order setting nodes w l e.position e.deeds e.gone e.thread.index e.thread.walk e.event.step r took other e.thread.there e.at,
     );
-    drain_seen = λ p h t q x c v gone there i waits here issued. (
-      drain_drained setting nodes w l p h gone t q x there i here c v,
-      drain_order setting nodes w l p h gone t q x.step c v there here,
+    drain_seen = λ e c v waits issued. (
+      drain_drained setting nodes w l e.position e.deeds e.gone e.thread.index e.thread.walk e.event e.thread.there e.among e.at c v,
+      drain_order setting nodes w l e.position e.deeds e.gone e.thread.index e.thread.walk e.event.step c v e.thread.there e.at,
     );
     all_drain = all_drain setting nodes w l;
     frees = is_free setting nodes w l;
-    woken = λ p h t q x at c m is. waits_no_more setting nodes w l p h t q x at c;
-    waits = λ p h t q x at c signals u. finds_its_own setting nodes w l p h t q x at c signals u;
+    woken = λ e c m is. waits_no_more setting nodes w l e c;
+    waits = λ e c signals u. finds_its_own setting nodes w l e c signals u;
     lost = finds_none setting nodes w l;
     exits = has_exited setting nodes w l;
-    there = λ p h t q x gone. there_at setting nodes w l p h gone t q x;
+    there = λ e. there_at setting nodes w l e.position e.deeds e.gone e.thread.index e.thread.walk e.event e.thread.there e.among e.at;
     all_there = all_there setting nodes w l;
-    quiet_sleeps = λ p h t q r took other gone. step_until setting nodes w l p h gone t q (steps_in h q.name) r took other;
-    event_sleeps = λ p h t q x r took at now along.
-        let other = other_of (paths_of code log) w h t q.name r in
+    quiet_sleeps = λ p h t r took other gone. step_until setting nodes w l p h gone t.index t.walk (steps_in h t.name) r took other t.there;
+    event_sleeps = λ e r took now along.
+        let h = e.deeds in
+        let q = e.thread.walk in
+        let other = other_of (paths_of code log) w h e.thread.index q.name r in
         let d = Did q.name (steps_in h q.name) r took other in
-        let next : p + 1 ≡ suc p = omega arith in
+        let next : e.position + 1 ≡ suc e.position = omega arith in
         subst (λ n. SleepUntilEnded code log w n (h ++ d ∷ [])) next
-        (event_until setting nodes w l p h at.gone d along t q x at (steps_in h q.name) r took other refl refl);
-    drain_sleeps = λ p h t q x c v gone there i waits here along.
-        let next : p + 1 ≡ suc p = omega arith in
-        subst (λ n. SleepUntilEnded code log w n (h ++ Drained q.name x.step c v ∷ [])) next
-        (drained_until setting nodes w l p h gone t q x q.name x.step c v there i waits here along);
+        (event_until setting nodes w l e.position h e.gone d along e.thread.index q e.event e.thread.there e.among e.at e.steps (steps_in h q.name) r took other refl refl);
+    drain_sleeps = λ e c v waits along.
+        let next : e.position + 1 ≡ suc e.position = omega arith in
+        let n = e.thread.walk.name in
+        subst (λ m. SleepUntilEnded code log w m (e.deeds ++ Drained n e.event.step c v ∷ [])) next
+        (drained_until setting nodes w l e.position e.deeds e.gone e.thread.index e.thread.walk e.event n e.event.step c v e.thread.there e.among waits e.at along);
     blocks = λ p h dead gone before done. all_blocked setting nodes w l p h gone dead done;
   }

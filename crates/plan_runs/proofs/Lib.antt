@@ -1,3 +1,4 @@
+pub mod Histories
 pub mod Given
 pub mod Deeds
 pub mod May

@@ -14,9 +14,8 @@ use Rattle.run_history.specs.History.{Deed, pending}
 use Rattle.run_history.specs.Told.{children_in, owner_in}
 use Rattle.run_history.proofs.Lists.{last_or-push}
 use Rattle.run_follows.specs.Follow.{may_do_in, OtherIs}
-use Rattle.path_walk.specs.Events.{takes}
-use Rattle.path_walk.specs.Paths.{Walk, paths_of}
-use Rattle.path_walk.specs.declared.event.Event.{Event}
+use Rattle.path_walk.specs.Events.{acquired_mutex}
+use Rattle.path_walk.specs.Paths.{paths_of}
 use Rattle.path_walk.specs.declared.event.EventKind.{EventKind}
 use Rattle.path_walk.specs.declared.event.EventKind.TheVariants as kind
 use Rattle.path_laws.specs.Setting.{Setting}
@@ -26,9 +25,9 @@ use Rattle.order_formula.specs.Worlds.{World}
 use Rattle.lawful_order.specs.Events.{number_of}
 use Rattle.lawful_order.specs.Memory.{may_overtake}
 use Rattle.world_plan.specs.Plan.{woken_by, other_of}
-use Rattle.plan_runs.proofs.Given.{IsQuiet, At, Given}
+use Rattle.plan_runs.proofs.Given.{IsQuiet, Given, Next}
 
--- a create asks for the child that it makes
+-- the request of a create is a create of that child
 pub start_kind : (h : List Deed) (n : Name) (f : ℕ) (other : Option Name) → OtherIs h n (Start f) other
     → kind_of (Start f) other ≡ Some (kind.Create (children_in h n + 1))
 start_kind h n f other is =
@@ -56,21 +55,22 @@ quiet_may buffered h n r other is (inl none) = none_may buffered h n r other is 
 quiet_may buffered h n r other is (inr store) = store_may buffered h n r other is store.1
 
 -- The step of the event at a position.
-module _ {B : Type 0} (setting : Setting B) (nodes : List Node) (w : World) (g : Given setting nodes w) (p : ℕ) (h : List Deed) (t : ℕ) (q : Walk) (x : Event)
-    (at : At setting nodes w p h t q x) where
+module _ {B : Type 0} (setting : Setting B) (nodes : List Node) (w : World) (g : Given setting nodes w) (now : Next setting nodes w) where
   open setting use {ops, code, log}
+  open now use {deeds as h, thread, event as x, steps}
+  open thread use {index as t, walk as q}
 
-  -- what may not overtake stores finds them in memory, and the other threads let it
+  -- an event that may not overtake stores finds them in memory, and the other threads allow it
   drained : (k : EventKind) → k ≡ x.kind → may_overtake k ≡ false → is_nil (stores (pending ops.buffered h q.name)) ≡ true
-  drained k same not = g.empties p h t q x at (ap may_overtake (sym same) ∙ not)
+  drained k same not = g.empties now (ap may_overtake (sym same) ∙ not)
 
-  free : (m : ℕ) (k : EventKind) → k ≡ x.kind → takes k ≡ Some m → is_none (owner_in h m) ≡ true
-  free m k same is = ap is_none (g.frees p h t q x at m (ap takes (sym same) ∙ is))
+  free : (m : ℕ) (k : EventKind) → k ≡ x.kind → acquired_mutex k ≡ Some m → is_none (owner_in h m) ≡ true
+  free m k same is = ap is_none (g.frees now m (ap acquired_mutex (sym same) ∙ is))
 
   signal_may : (c : ℕ) (o : Option Name) → kind.Signal c ≡ x.kind
       → woken_by (paths_of code log) w (number_of (paths_of code log) t x.step) ≡ o → may_do_in ops.buffered h q.name (WakeOne c) o ≡ true
-  signal_may c (Some u) same is = and_from _ _ (drained (kind.Signal c) same refl) (g.waits p h t q x at c (sym same) u is)
-  signal_may c None same is = and_from _ _ (drained (kind.Signal c) same refl) (g.lost p h t q x at c (sym same) is)
+  signal_may c (Some u) same is = and_from _ _ (drained (kind.Signal c) same refl) (g.waits now c (sym same) u is)
+  signal_may c None same is = and_from _ _ (drained (kind.Signal c) same refl) (g.lost now c (sym same) is)
 
   pub event_may : (r : Request) → kind_of r (other_of (paths_of code log) w h t q.name r) ≡ Some x.kind
       → may_do_in ops.buffered h q.name r (other_of (paths_of code log) w h t q.name r) ≡ true
@@ -89,16 +89,16 @@ module _ {B : Type 0} (setting : Setting B) (nodes : List Node) (w : World) (g :
   event_may (EndWait c m) e =
       let same = same_Some (kind.Wake c m) x.kind e in
       and_from _ _ (drained (kind.Wake c m) same refl)
-      (and_from _ _ (ap not (g.woken p h t q x at c m (sym same))) (free m (kind.Wake c m) same refl))
+      (and_from _ _ (ap not (g.woken now c m (sym same))) (free m (kind.Wake c m) same refl))
   event_may (WakeOne c) e =
       signal_may c _ (same_Some (kind.Signal c) x.kind e)
-      (ap (λ k. woken_by (paths_of code log) w (number_of (paths_of code log) t k)) (sym at.steps))
+      (ap (λ k. woken_by (paths_of code log) w (number_of (paths_of code log) t k)) (sym steps))
   event_may (WakeAll c) e = and_from _ _ (drained (kind.Broadcast c) (same_Some (kind.Broadcast c) x.kind e) refl) refl
   event_may (Start f) e =
       let made = start_kind h q.name f (other_of (paths_of code log) w h t q.name (Start f)) refl in
       and_from _ _ (drained (kind.Create (children_in h q.name + 1)) (same_Some _ x.kind (sym made ∙ e)) refl) refl
   event_may (Await k) e =
       let same = same_Some (kind.Join k) x.kind e in
-      and_from _ _ (drained (kind.Join k) same refl) (g.exits p h t q x at k (sym same))
+      and_from _ _ (drained (kind.Join k) same refl) (g.exits now k (sym same))
   event_may OrderStores e = and_from _ _ (drained kind.Fence (same_Some kind.Fence x.kind e) refl) refl
   event_may Finish e = and_from _ _ (drained kind.Exit (same_Some kind.Exit x.kind e) refl) refl

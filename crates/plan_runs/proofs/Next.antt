@@ -1,4 +1,4 @@
--- What a thread does next, on its path and under the values that a lawful world gives its loads.
+-- The next step of a thread on its path, given the values of a lawful world's loads.
 use Rattle.std.proofs.Common.{◌≡◌, ◌∙◌, ℕ, ◌<◌, true, List, [], ◌∷◌, ◌++◌, length, get_or, Option, Some, refl, sym, ap, arith}
 use Rattle.std.specs.Prelude.{slice_get}
 use Rattle.std.specs.Option.{option_map_or}
@@ -12,11 +12,10 @@ use Rattle.run_follows.specs.Follow.{taken_in, may_do_in, OtherIs, MayFollow}
 use Rattle.path_walk.specs.Paths.{Walk, Paths, ArePaths, paths_of}
 use Rattle.path_laws.specs.Setting.{Setting}
 use Rattle.path_laws.specs.Deeds.{kind_of}
-use Rattle.path_laws.specs.history.Along.{IsThread}
+use Rattle.path_laws.specs.history.Along.{IsThread, PathThread}
 use Rattle.path_laws.specs.history.Next.{failing_next, IsNextOnPath}
 use Rattle.path_laws.proofs.of_history.Next.{next_on_path}
 use Rattle.path_laws.proofs.of_history.Stays.{step_stays}
-use Rattle.path_laws.proofs.of_history.Told.{run_of}
 use Rattle.path_laws.proofs.of_history.Walks.{thread_path_at}
 use Rattle.sym_terms.specs.declared.node.Node.{Node}
 use Rattle.sym_exec.specs.Executed.{Course, Executed}
@@ -34,6 +33,7 @@ use Rattle.world_plan.specs.Plan.{other_of, does_next}
 use Rattle.world_plan.proofs.Threads.{one_thread}
 use Rattle.plan_runs.proofs.Given.{Gone, Along}
 use Rattle.plan_runs.proofs.Deeds.{failed_after}
+use Rattle.plan_runs.proofs.Histories.{history_of, valued_of}
 
 pub is_other : (paths : Paths) (w : World) (h : List Deed) (t : ℕ) (n : Name) (r : Request) → OtherIs h n r (other_of paths w h t n r)
 is_other paths w h t n (Start f) = refl
@@ -42,7 +42,7 @@ is_other paths w h t n Silent = refl
 is_other paths w h t n r = refl
 
 module _ {B : Type 0} (setting : Setting B) (nodes : List Node) (w : World) (l : IsLawfulWorld setting nodes w) where
-  open setting use {machine, ops, bound, code, log}
+  open setting use {ops, bound, code, log}
 
   abbrev paths : Paths
   paths = paths_of code log
@@ -59,7 +59,7 @@ module _ {B : Type 0} (setting : Setting B) (nodes : List Node) (w : World) (l :
   pub paths_executed : IsExecutedBy paths all.symbolic
   paths_executed = is_executed code paths nodes are
 
-  -- what the execution finds of a thread
+  -- the execution of a thread
   pub course_of : (t : ℕ) (q : Walk) → IsThread code log t q → (c : Course) × (slice_get all.symbolic.threads t ≡ Some c) × (c.name ≡ q.name)
   course_of t q there =
       let p = thread_path_at code log t q there in
@@ -75,25 +75,26 @@ module _ {B : Type 0} (setting : Setting B) (nodes : List Node) (w : World) (l :
       one_thread code log setting.log_is j t v q other there (sym found.2 ∙ ap (λ (x : Course). x.name) one ∙ name)
 
   -- The next step of a thread.
-  pub record NextIs (h : List Deed) (t : ℕ) (q : Walk) : Type 0 where
+  pub record NextIs (h : List Deed) (thread : PathThread code log) : Type 0 where
     pub course : Course
-    pub there : slice_get all.symbolic.threads t ≡ Some course
-    pub name : course.name ≡ q.name
-    pub next : IsNextOnPath code h q
+    pub there : slice_get all.symbolic.threads thread.index ≡ Some course
+    pub name : course.name ≡ thread.name
+    pub next : IsNextOnPath code h thread.walk
     pub request : Request
-    pub told : IsToldNext code log all.nodes w.loads h q course next request
+    pub told : IsToldNext w.loads h (record { thread = thread; course = course; executed = there }) next request
 
-  module _ (p : ℕ) (h : List Deed) (gone : Gone setting nodes w p h) (t : ℕ) (q : Walk) (there : IsThread code log t q) where
-    pub next_is : is_thread_in h q.name ≡ true → steps_in h q.name < length q.places → NextIs h t q
+  module _ (p : ℕ) (h : List Deed) (gone : Gone setting nodes w p h) (thread : PathThread code log) where
+    open thread use {index as t, walk as q}
+
+    pub next_is : is_thread_in h q.name ≡ true → steps_in h q.name < length q.places → NextIs h thread
     next_is is_there left =
-        let c = course_of t q there in
-        let r = run_of machine log h gone.along in
-        let x = next_on_path setting l.fits h t q there gone.going r is_there left in
-        let told = next_told setting l.fits nodes w.loads l.terms h gone.along gone.agrees t q c.0 x there c.1
-        gone.going l.lives (λ y i step. (l.lawful.meets (Test t y.line)).tests c.0 y c.1 i refl) in
+        let c = course_of t q thread.there in
+        let x = next_on_path setting (history_of l gone) thread gone.going is_there left in
+        let told = next_told setting nodes w.loads (valued_of l gone) (record { thread = thread; course = c.0; executed = c.1 }) x gone.going l.lives
+        (λ y i step. (l.lawful.meets (Test t y.line)).tests c.0 y c.1 i refl) in
         record { course = c.0; there = c.1; name = c.2; next = x; request = told.0; told = told.1 }
 
-    module _ (n : NextIs h t q) where
+    module _ (n : NextIs h thread) where
       abbrev k : ℕ
       k = steps_in h q.name
 
@@ -103,7 +104,7 @@ module _ {B : Type 0} (setting : Setting B) (nodes : List Node) (w : World) (l :
       abbrev pub deed : Deed
       deed = Did q.name k n.request (taken_in ops.buffered code h q.name n.request) other
 
-      -- it is the path's event, or none
+      -- the step's event is that of the path
       pub kind_is : kind_of n.request other ≡ kind_at q k
       kind_is = n.told.event other (is_other paths w h t q.name n.request)
 
@@ -117,7 +118,7 @@ module _ {B : Type 0} (setting : Setting B) (nodes : List Node) (w : World) (l :
 
         pub along : Along setting nodes w (h ++ deed ∷ [])
         along =
-            step_stays setting l.fits h gone.along t q there gone.going n.next k n.request
+            step_stays setting (history_of l gone) thread gone.going n.next k n.request
             (taken_in ops.buffered code h q.name n.request) other follows n.told.branches
             (n.told.fails_so k (taken_in ops.buffered code h q.name n.request) other)
 

@@ -1,4 +1,4 @@
--- What is left to the threads at the end of a lawful world.
+-- The rest of the threads' paths at the end of a lawful world.
 use Rattle.std.proofs.Common.{◌≡◌, ◌∙◌, ◌⊎◌, inl, inr, ℕ, zero, suc, ◌+◌, ◌-◌, ◌≤◌, ◌==◌, ◌&&◌, Bool, true, false, not, cond, List}
 use Rattle.std.proofs.Common.{[], ◌∷◌, ◌++◌, length, fold, Option, Some, None, refl, sym, ap, subst, arith}
 use Rattle.std.specs.Prelude.{slice_get}
@@ -20,7 +20,7 @@ use Rattle.path_walk.specs.Paths.{Walk, Paths, paths_of}
 use Rattle.path_walk.specs.declared.event.Event.{Event}
 use Rattle.path_walk.specs.declared.event.EventKind.TheVariants as kind
 use Rattle.path_laws.specs.Setting.{Setting}
-use Rattle.path_laws.specs.history.Along.{IsThread, HasDoneAll, AllHaveDone, AllAreThere}
+use Rattle.path_laws.specs.history.Along.{IsThread, HasDoneAll, AllHaveDone, AllAreThere, PathThread, path_thread}
 use Rattle.path_laws.proofs.of_history.Walks.{few_steps}
 use Rattle.sym_exec.specs.Executed.{has_failed}
 use Rattle.sym_terms.specs.declared.node.Node.{Node}
@@ -34,7 +34,7 @@ use Rattle.world_plan.proofs.Numbers.{of_find, in_find, one_event}
 use Rattle.world_plan.proofs.Threads.{fails_by_place, fail_is_last}
 use Rattle.plan_runs.proofs.Deeds.{GoesOn, goes_nowhere, goes_further}
 use Rattle.plan_runs.proofs.End.{end, others_before, fail_ends, none_before, failure_is}
-use Rattle.plan_runs.proofs.Given.{Gone, At, Along, Given}
+use Rattle.plan_runs.proofs.Given.{Gone, Along, Given}
 use Rattle.plan_runs.proofs.Goes.{Reached, quiet_on, gone_up_to}
 use Rattle.plan_runs.proofs.Next as next
 use Rattle.plan_runs.proofs.Next.{NextIs, next_is, paths_whole}
@@ -83,14 +83,14 @@ module _ {B : Type 0} (setting : Setting B) (nodes : List Node) (w : World) (l :
   abbrev rest : List Deed → ℕ → List Deed
   rest h t = with_rest ops.buffered code paths w h t
 
-  pub few : (h : List Deed) → Along setting nodes w h → (t : ℕ) (q : Walk) → IsThread code log t q → steps_in h q.name ≤ length q.places
-  few h along t q there = few_steps setting l.fits h t q along there
+  pub few : (h : List Deed) → Along setting nodes w h → (t : PathThread code log) → steps_in h t.name ≤ length t.places
+  few h along = few_steps setting (record { deeds = h; fits = l.fits; along = along })
 
-  -- what a thread has done it has done later
+  -- a thread that has done all of its path has still done it later
   still_done : (h k : List Deed) → Along setting nodes w k → GoesOn h k → (t : ℕ) (q : Walk) → IsThread code log t q
       → HasDoneAll h q → HasDoneAll k q
   still_done h k along on t q there done =
-      let most = few k along t q there in
+      let most = few k along (path_thread t q there) in
       omega (arith, most, on.grows q.name, done)
 
   -- A step at the end is quiet, or it fails.
@@ -106,12 +106,12 @@ module _ {B : Type 0} (setting : Setting B) (nodes : List Node) (w : World) (l :
           let done = gone.did t q x there i before in
           absurd (omega (arith, done, left))
 
-  -- A thread that doesn't fail goes on to the end of its path, and nobody sees anything.
+  -- A thread that doesn't fail goes on to the end of its path, and no other thread sees anything.
   quiet_rest : (h : List Deed) → at_end h → (t : ℕ) (q : Walk) → IsThread code log t q → is_thread_in h q.name ≡ true → fails_in log q.name ≡ false
       → Reached setting nodes w l g last h q (length q.places) (goes_to ops.buffered code paths w h t q.name (length q.places))
   quiet_rest h gone t q there is_there passes =
-      let most = few h gone.along t q there in
-      let r = quiet_on setting nodes w l g (length q.places - steps_in h q.name) last h gone t q there is_there (omega (arith, most))
+      let most = few h gone.along (path_thread t q there) in
+      let r = quiet_on setting nodes w l g (length q.places - steps_in h q.name) last h gone (path_thread t q there) is_there (omega (arith, most))
       (λ k low high x i step.
       elim (quiet_unless h gone t q there x i (omega (arith, low, step))) [
         | inl waits ↦ waits
@@ -119,7 +119,7 @@ module _ {B : Type 0} (setting : Setting B) (nodes : List Node) (w : World) (l :
       ]) in
       record { gone = r.gone; steps = omega (arith, r.steps, most); on = r.on }
 
-  -- So do all of some threads.
+  -- Each of some threads goes on to the end of its path.
   pub record AllRest (h : List Deed) (ts : List ℕ) (k : List Deed) : Type 0 where
     pub gone : at_end k
     pub on : GoesOn h k
@@ -130,7 +130,7 @@ module _ {B : Type 0} (setting : Setting B) (nodes : List Node) (w : World) (l :
   all_rest [] h gone are_there passing = record { gone = gone; on = goes_nowhere h; done = λ t q there i. absurd (of_nil t i) }
   all_rest (t ∷ ts) h gone are_there passing =
       by (slice_get paths.threads t) refl
-      (λ k there on. all_rest ts k there (λ u q at. on.there q.name (are_there u q at)) (λ u i. passing u (in_back u t ts i)))
+      (λ k there on. all_rest ts k there (λ u. on.there u.name (are_there u)) (λ u i. passing u (in_back u t ts i)))
     where
       Later : Type 0
       Later = (k : List Deed) → at_end k → GoesOn h k → AllRest k ts (fold rest k ts)
@@ -159,14 +159,14 @@ module _ {B : Type 0} (setting : Setting B) (nodes : List Node) (w : World) (l :
       by (Some q) there more =
           let passes : fails_in log q.name ≡ false =
           fails_by_place code log setting.log_is t q there ∙ place_passes log.failing t (passing t (in_front t ts)) in
-          let r = quiet_rest h gone t q there (are_there t q there) passes in
+          let r = quiet_rest h gone t q there (are_there (path_thread t q there)) passes in
           subst (λ o. AllRest h (t ∷ ts) (fold rest (one o) ts)) (sym there)
           (later more (goes_to ops.buffered code paths w h t q.name (length q.places)) r.gone r.on
           (λ v at.
           let same : q ≡ v = same_Some q v (sym there ∙ at) in
           subst (HasDoneAll (goes_to ops.buffered code paths w h t q.name (length q.places))) same r.steps))
 
-  -- a step is quiet, or it fails, where its events are stores that wait or fail
+  -- a step is quiet or fails if its events are stores that wait or failures
   quiet_or_fails : (t : ℕ) (q : Walk) → IsThread code log t q → (k : ℕ)
       → ((x : Event) → Contains q.events x → x.step ≡ k → (is_pending ops.buffered x ≡ true) ⊎ (x.kind ≡ kind.Fail))
       → QuietAt setting nodes w l g q k ⊎ ((x : Event) × Contains q.events x × (x.step ≡ k) × (x.kind ≡ kind.Fail))
@@ -190,7 +190,7 @@ module _ {B : Type 0} (setting : Setting B) (nodes : List Node) (w : World) (l :
             | inr fails ↦ inr (e, f.0, step, fails)
           ]
 
-  -- The thread that fails goes on to its end.
+  -- The thread that fails goes on to its failure.
   pub record Ended (h : List Deed) (k : List Deed) : Type 0 where
     pub along : Along setting nodes w k
     pub on : GoesOn h k
@@ -206,27 +206,27 @@ module _ {B : Type 0} (setting : Setting B) (nodes : List Node) (w : World) (l :
   fail_on zero h gone t q there is_there all =
       record { ended = record { along = gone.along; on = goes_nowhere h; order = gone.order; drained = gone.drained }; done = omega (arith, all) }
   fail_on (suc m) h gone t q there is_there all =
-      subst (λ ds. FailsLast h q (goes m (h ++ ds) t q.name)) (sym (next.does_it setting nodes w l last h gone t q there n))
+      subst (λ ds. FailsLast h q (goes m (h ++ ds) t q.name)) (sym (next.does_it setting nodes w l last h gone (path_thread t q there) n))
       (elim (quiet_or_fails t q there (steps_in h q.name) (λ x i step. quiet_unless h gone t q there x i (omega (arith, step)))) [
-        | inl quiet ↦ after_quiet (fail_on m k (quiet_goes setting nodes w l g last h gone t q there n quiet) t q there
+        | inl quiet ↦ after_quiet (fail_on m k (quiet_goes setting nodes w l g last h gone (path_thread t q there) n quiet) t q there
             (grown.there q.name is_there) (omega (arith, all, one_step)))
         | inr f ↦ after_failure f.0 f.1 f.2 f.3
       ])
     where
-      n : NextIs setting nodes w l h t q
-      n = next_is setting nodes w l last h gone t q there is_there (omega (arith, all))
+      n : NextIs setting nodes w l h (path_thread t q there)
+      n = next_is setting nodes w l last h gone (path_thread t q there) is_there (omega (arith, all))
 
       d : Deed
-      d = next.deed setting nodes w l last h gone t q there n
+      d = next.deed setting nodes w l last h gone (path_thread t q there) n
 
       k : List Deed
       k = h ++ d ∷ []
 
       grown : GoesOn h k
-      grown = (one_more setting nodes w l g last h gone t q there n).goes
+      grown = (one_more setting nodes w l g last h gone (path_thread t q there) n).goes
 
       one_step : steps_in k q.name ≡ steps_in h q.name + 1
-      one_step = (one_more setting nodes w l g last h gone t q there n).steps
+      one_step = (one_more setting nodes w l g last h gone (path_thread t q there) n).steps
 
       after_quiet : FailsLast k q (goes m k t q.name) → FailsLast h q (goes m k t q.name)
       after_quiet r = record {
@@ -238,14 +238,13 @@ module _ {B : Type 0} (setting : Setting B) (nodes : List Node) (w : World) (l :
       after_failure x i step fails =
           let f = fail_is_last code log setting.log_is l.fits t q x there i fails in
           let none : m ≡ 0 = omega (arith, f.1, step, all) in
-          let at : At setting nodes w last h t q x =
-          record { gone = gone; thread = there; event = i; at = fail_ends setting nodes w l t q x there i fails; steps = sym step } in
+          let at = fail_ends setting nodes w l t q x there i fails in
           subst (λ a. FailsLast h q (goes a k t q.name)) (sym none)
           (record {
             ended = record {
-              along = event_along setting nodes w l g last h gone t q there n x at;
+              along = event_along setting nodes w l g last h gone (path_thread t q there) n x i at (sym step);
               on = grown;
-              order = event_order setting nodes w l g last h gone t q there n x at
+              order = event_order setting nodes w l g last h gone (path_thread t q there) n x i at (sym step)
                   (ap (λ a. ops.buffered && is_store a) fails ∙ and_false ops.buffered);
               drained = g.steps_drain last h q.name (steps_in h q.name) n.request (taken_in ops.buffered code h q.name n.request)
                   (other_of paths w h t q.name n.request) gone;
@@ -253,7 +252,7 @@ module _ {B : Type 0} (setting : Setting B) (nodes : List Node) (w : World) (l :
             done = omega (arith, one_step, f.1, step);
           })
 
-  -- where its thread has done all, the rest adds nothing
+  -- the rest adds nothing for a thread that has done its whole path
   stays : (t : ℕ) (q : Walk) → IsThread code log t q → (ts : List ℕ) (k : List Deed) → HasDoneAll k q → ((u : ℕ) → Contains ts u → u ≡ t)
       → fold rest k ts ≡ k
   stays t q there [] k done only = refl
@@ -291,8 +290,8 @@ module _ {B : Type 0} (setting : Setting B) (nodes : List Node) (w : World) (l :
             done = λ u q at i. absurd (none-some q (sym none ∙ ap (slice_get paths.threads) (sym (only u i)) ∙ at));
           })
       by (Some q) there r =
-          let most = few h gone.along t q there in
-          let f = fail_on (length q.places - steps_in h q.name) h gone t q there (are_there t q there) (omega (arith, most)) in
+          let most = few h gone.along (path_thread t q there) in
+          let f = fail_on (length q.places - steps_in h q.name) h gone t q there (are_there (path_thread t q there)) (omega (arith, most)) in
           let k = goes (length q.places - steps_in h q.name) h t q.name in
           subst (λ o. LastRest h (t ∷ ts) (fold rest (one o) ts)) (sym there)
           (subst (LastRest h (t ∷ ts)) (sym (stays t q there ts k f.done (λ u i. only u (in_back u t ts i))))
@@ -303,7 +302,7 @@ module _ {B : Type 0} (setting : Setting B) (nodes : List Node) (w : World) (l :
                 subst (HasDoneAll k) same f.done;
           }))
 
-  -- All of the plan.
+  -- The whole plan.
   abbrev pub whole_plan : List Deed
   whole_plan = plan ops.buffered code paths w
 
@@ -344,13 +343,13 @@ module _ {B : Type 0} (setting : Setting B) (nodes : List Node) (w : World) (l :
   plan_is = sym (fold-append rest (up_to ops.buffered code paths w last) passing failing_ones)
 
   all_done : AllHaveDone code log (fold rest nearly failing_ones)
-  all_done t q there = by (is_failing paths t) refl
+  all_done thread = by (is_failing paths thread.index) refl
     where
-      by : (b : Bool) → is_failing paths t ≡ b → HasDoneAll (fold rest nearly failing_ones) q
+      by : (b : Bool) → is_failing paths thread.index ≡ b → HasDoneAll (fold rest nearly failing_ones) thread.walk
       by false e =
-          still_done nearly (fold rest nearly failing_ones) second_rest.ended.along second_rest.ended.on t q there
-          (first_rest.done t q there (in_filter (λ u. not (is_failing paths u)) t range (in_range t q there) (not_false (is_failing paths t) e)))
-      by true e = second_rest.done t q there (in_filter (is_failing paths) t range (in_range t q there) e)
+          still_done nearly (fold rest nearly failing_ones) second_rest.ended.along second_rest.ended.on thread.index thread.walk thread.there
+          (first_rest.done thread.index thread.walk thread.there (in_filter (λ u. not (is_failing paths u)) thread.index range (in_range thread.index thread.walk thread.there) (not_false (is_failing paths thread.index) e)))
+      by true e = second_rest.done thread.index thread.walk thread.there (in_filter (is_failing paths) thread.index range (in_range thread.index thread.walk thread.there) e)
 
   pub plan_along : Along setting nodes w whole_plan
   plan_along = subst (Along setting nodes w) plan_is second_rest.ended.along
@@ -364,7 +363,7 @@ module _ {B : Type 0} (setting : Setting B) (nodes : List Node) (w : World) (l :
   pub plan_done : AllHaveDone code log whole_plan
   plan_done = subst (AllHaveDone code log) plan_is all_done
 
-  -- where no thread fails, it has gone up to the end
+  -- if no thread fails, the history has gone up to the end
   none_failing : (ts : List ℕ) → log.failing ≡ failing.Deadlock → filter (is_failing paths) ts ≡ []
   none_failing [] dead = refl
   none_failing (t ∷ ts) dead =

@@ -24,9 +24,9 @@ use Rattle.path_walk.specs.Paths.{Walk, Paths, paths_of, have_exited}
 use Rattle.path_walk.specs.declared.event.Blocked.{Blocked}
 use Rattle.path_laws.specs.Setting.{Setting}
 use Rattle.path_laws.specs.Prefixes.{fails_by}
-use Rattle.path_laws.specs.history.Along.{IsThread, AllAreThere}
+use Rattle.path_laws.specs.history.Along.{IsThread, AllAreThere, HistoryAlong, PathThread, path_thread}
 use Rattle.path_laws.proofs.of_history.Logged.{all_there, goes_as_logged}
-use Rattle.path_laws.proofs.of_history.Told.{RunOf, run_of, along_is_run, thread_of, steps_of, local_is}
+use Rattle.path_laws.proofs.of_history.Told.{RunOf, along_is_run, thread_of, steps_of, local_is, its_run}
 use Rattle.path_laws.proofs.of_history.Walks.{walk_is}
 use Rattle.path_laws.proofs.of_stuck.Rests.{left_blocked}
 use Rattle.sym_exec.specs.Executed.{has_failed}
@@ -40,7 +40,7 @@ use Rattle.plan_runs.proofs.End.{end, all_before}
 use Rattle.plan_runs.proofs.Given.{Gone, Given}
 use Rattle.plan_runs.proofs.Rest.{plan_along, plan_done, plan_gone}
 
--- some thread is blocked where not all have exited
+-- if not all threads have exited, some thread is blocked
 some_blocked : (ws : List Walk) → list_all (λ (v : Walk). is_none v.blocked) ws ≡ false → (t : ℕ) × (q : Walk) × (slice_get ws t ≡ Some q) × IsSome q.blocked
 some_blocked [] e = absurd cc
 some_blocked (v ∷ ws) e = by v.blocked refl e (some_blocked ws)
@@ -53,7 +53,7 @@ some_blocked (v ∷ ws) e = by v.blocked refl e (some_blocked ws)
         let r = rest (ap (λ o. is_none o && list_all (λ (v : Walk). is_none v.blocked) ws) (sym is) ∙ e) in
         (suc r.0, r.1, r.2, r.3)
 
--- who has failed, by name
+-- the thread that has failed has this name
 failed_name : (o : Option Name) (n : Name) → fails_by o n ≡ true → o ≡ Some n
 failed_name None n e = absurd (false≢true e)
 failed_name (Some m) n e = ap (λ a. Some a) (sym (same_true n m e))
@@ -67,24 +67,24 @@ module _ {B : Type 0} (setting : Setting B) (nodes : List Node) (w : World) (l :
   abbrev h : List Deed
   h = plan ops.buffered code paths w
 
+  abbrev along : HistoryAlong setting
+  along = record { deeds = h; fits = l.fits; along = plan_along setting nodes w l g }
+
   r : RunOf machine log h
-  r = run_of machine log h (plan_along setting nodes w l g)
+  r = its_run setting along
 
   are_there : AllAreThere code log h
-  are_there =
-      all_there setting l.fits h (plan_along setting nodes w l g)
-      (plan_done setting nodes w l g)
+  are_there = all_there setting along (plan_done setting nodes w l g)
 
-  -- A thread that is to fail has failed.
+  -- A thread that fails in the log has failed.
   fails_so : (t : ℕ) (q : Walk) → IsThread code log t q → fails_in log q.name ≡ true → failed_in h ≡ Some q.name
   fails_so t q there fails =
-      let along = plan_along setting nodes w l g in
-      let own = thread_of machine log h r q.name (are_there t q there) in
-      let on = along.on q.name own.0.local (local_is machine log h r q.name own.0 own.1) in
-      let k = walk_is code log setting.log_is l.fits t q there in
+      let own = thread_of machine log h r q.name (are_there (path_thread t q there)) in
+      let on = along.along.on q.name own.0.local (local_is machine log h r q.name own.0 own.1) in
+      let k = walk_is code log setting.log_is l.fits (path_thread t q there) in
       let path : on.path ≡ k.path = same_Some on.path k.path (sym on.there ∙ k.under) in
       let steps : own.0.local.steps ≡ on.path.steps =
-      steps_of machine log h r q.name own.0 own.1 ∙ plan_done setting nodes w l g t q there
+      steps_of machine log h r q.name own.0 own.1 ∙ plan_done setting nodes w l g (path_thread t q there)
       ∙ k.long ∙ ap (λ (p : Path). p.steps) (sym path) in
       failed_name (failed_in h) q.name (on.fails ∙ ap₂ (λ a b. a && b) fails (eq-eqb own.0.local.steps on.path.steps steps))
 
@@ -127,13 +127,12 @@ module _ {B : Type 0} (setting : Setting B) (nodes : List Node) (w : World) (l :
     some_left =
         let exited = (or_parts _ (have_exited log.failing paths.threads) l.lives).1 in
         let some = some_blocked paths.threads (ap (λ f. have_exited f paths.threads) (sym dead) ∙ exited) in
-        let there = are_there some.0 some.1 some.2 in
-        let t = thread_of machine log h r some.1.name there in (
+        let thread : PathThread code log = path_thread some.0 some.1 some.2 in
+        let there = are_there thread in (
           some.1.name,
           record {
             there = there;
-            going = (left_blocked setting l.fits h r some.0 some.1 some.2
-                (plan_done setting nodes w l g some.0 some.1 some.2) dead t.0 t.1).1 some.3;
+            going = (left_blocked setting along thread there (plan_done setting nodes w l g thread) dead).1 some.3;
           },
         )
 
@@ -147,8 +146,7 @@ module _ {B : Type 0} (setting : Setting B) (nodes : List Node) (w : World) (l :
   pub plan_reproduces : Reproduces ops code log (moves_for bound h)
   plan_reproduces =
       deeds_reproduce machine log h (plan_along setting nodes w l g).follow
-      (goes_as_logged setting l.fits h (plan_along setting nodes w l g)
-      (plan_done setting nodes w l g) (ends log.failing refl))
+      (goes_as_logged setting along (plan_done setting nodes w l g) (ends log.failing refl))
 
   pub plan_is_history : history ops code (moves_for bound h) ≡ h
   plan_is_history = (along_is_run machine log h (plan_along setting nodes w l g)).2

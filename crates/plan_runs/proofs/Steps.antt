@@ -1,4 +1,4 @@
--- A history goes on in the order of a lawful world by a step more, or by a drain.
+-- A history in the order of a lawful world goes on with one more step, or with a drain.
 use Rattle.std.proofs.Common.{◌≡◌, ◌∙◌, ◌≢◌, ◌⊎◌, inl, inr, ℕ, suc, ◌+◌, ◌<◌, ◌==◌, ℤ, pos, true, false, List}
 use Rattle.std.proofs.Common.{[], ◌∷◌, ◌++◌, Option, Some, None, refl, sym, ap, subst, arith, slice_index_or}
 use Rattle.std.specs.Prelude.{slice_get, option_map}
@@ -16,7 +16,7 @@ use Rattle.path_walk.specs.declared.event.EventKind.{EventKind}
 use Rattle.path_walk.specs.declared.event.EventKind.TheVariants as kind
 use Rattle.path_laws.specs.Setting.{Setting}
 use Rattle.path_laws.specs.Deeds.{kind_of}
-use Rattle.path_laws.specs.history.Along.{IsThread}
+use Rattle.path_laws.specs.history.Along.{IsThread, PathThread}
 use Rattle.path_laws.proofs.of_history.Stays.{drain_stays}
 use Rattle.sym_terms.specs.declared.node.Node.{Node}
 use Rattle.sym_exec.specs.Executed.{Course}
@@ -34,12 +34,12 @@ use Rattle.world_plan.proofs.Numbers.{of_find, in_find, one_event}
 use Rattle.world_plan.proofs.Places.{same_event}
 use Rattle.world_plan.proofs.Threads.{one_thread}
 use Rattle.plan_runs.proofs.Deeds.{GoesOn, goes_push, steps_own, steps_other, steps_drained, failed_after, fails_not}
-use Rattle.plan_runs.proofs.Given.{IsQuiet, Gone, At, Along, Given}
+use Rattle.plan_runs.proofs.Given.{IsQuiet, Gone, Along, Given, Here, Next}
 use Rattle.plan_runs.proofs.May.{quiet_may, event_may}
 use Rattle.plan_runs.proofs.Next as next
 use Rattle.plan_runs.proofs.Next.{NextIs, paths_whole, paths_executed, of_thread, is_other}
 
--- a place below the next is below, or the same
+-- a position below the next is below this one, or is this one
 pub below_next : (a p : ℕ) → a < suc p → (a < p) ⊎ (a ≡ p)
 below_next a p lt = by (cases_order a p)
   where
@@ -53,7 +53,7 @@ store_only kind.Store e = refl
 store_only kind.Load e = absurd cc
 store_only k e = absurd cc
 
--- what a load isn't
+-- an access that takes a value isn't a store
 no_load : (a b : Option ℕ) (m : ℕ) → a ≡ Some m → order.kind_of a b ≢ kind.Store
 no_load None b m is e = none-some m is
 no_load (Some j) None m is e = cc
@@ -74,7 +74,7 @@ module _ {B : Type 0} (setting : Setting B) (nodes : List Node) (w : World) (l :
   abbrev is_gone : ℕ → List Deed → Type 0
   is_gone p h = Gone setting nodes w p h
 
-  -- two events at one place are one
+  -- two events at one place are the same
   pub one_at : (t u : ℕ) (p q : Walk) (x y : Event) → IsThread code log t p → IsThread code log u q → Contains p.events x → Contains q.events y
       → place code log w t x ≡ place code log w u y → (t ≡ u) × (x ≡ y)
   one_at t u p q x y at bt i j same =
@@ -83,7 +83,7 @@ module _ {B : Type 0} (setting : Setting B) (nodes : List Node) (w : World) (l :
   one_step : (t : ℕ) (q : Walk) (x y : Event) → IsThread code log t q → Contains q.events x → Contains q.events y → x.step ≡ y.step → x ≡ y
   one_step t q x y there i j same = one_event paths (paths_whole setting nodes w l) t q x y there i j same
 
-  -- the walks at one place are one
+  -- two walks of one thread are the same
   one_walk : (t u : ℕ) (p q : Walk) → IsThread code log t p → IsThread code log u q → t ≡ u → p ≡ q
   one_walk t u p q at bt same = same_Some p q (sym at ∙ ap (slice_get paths.threads) same ∙ bt)
 
@@ -104,7 +104,7 @@ module _ {B : Type 0} (setting : Setting B) (nodes : List Node) (w : World) (l :
       ap (option_map (λ (e : Event). e.kind)) f.1
       ∙ ap (λ (e : Event). Some e.kind) (one_step t q f.0 x there o.0 i (eqb-true f.0.step x.step o.1))
 
-  -- a step is quiet where all its events are stores that wait
+  -- a step is quiet if its only events are stores that wait
   abbrev pub QuietAt : Walk → ℕ → Type 0
   QuietAt q k = (x : Event) → Contains q.events x → x.step ≡ k → is_pending ops.buffered x ≡ true
 
@@ -119,13 +119,14 @@ module _ {B : Type 0} (setting : Setting B) (nodes : List Node) (w : World) (l :
           inr (waits.0, ap (λ a. Some a) (sym e.3 ∙ store_only e.0.kind waits.1))
 
   -- One step more.
-  module _ (p : ℕ) (h : List Deed) (gone : is_gone p h) (t : ℕ) (q : Walk) (there : IsThread code log t q)
-      (n : NextIs setting nodes w l h t q) where
+  module _ (p : ℕ) (h : List Deed) (gone : is_gone p h) (thread : PathThread code log) (n : NextIs setting nodes w l h thread) where
+    open thread use {index as t, walk as q, there}
+
     abbrev deed : Deed
-    deed = next.deed setting nodes w l p h gone t q there n
+    deed = next.deed setting nodes w l p h gone thread n
 
     abbrev other : Option Name
-    other = next.other setting nodes w l p h gone t q there n
+    other = next.other setting nodes w l p h gone thread n
 
     abbrev took : ℤ
     took = taken_in ops.buffered code h q.name n.request
@@ -161,9 +162,9 @@ module _ {B : Type 0} (setting : Setting B) (nodes : List Node) (w : World) (l :
     going_on not = failed_after h deed gone.going ∙ fails_not q.name (steps_in h q.name) n.request took other not
 
     kind_told : kind_of n.request other ≡ kind_at q (steps_in h q.name)
-    kind_told = next.kind_is setting nodes w l p h gone t q there n
+    kind_told = next.kind_is setting nodes w l p h gone thread n
 
-    -- the loads of a step take what the world says, if it does
+    -- the history with this step agrees with the world's loads, if the loads of the step do
     agree_on : ((c : Course) (a : Access) (m : ℕ) → slice_get (found code log nodes).symbolic.threads t ≡ Some c → Contains c.accesses a
         → a.step ≡ steps_in h q.name → a.takes ≡ Some m → slice_index_or w.loads m (pos 0) ≡ took)
         → AgreesWith (found code log nodes).symbolic w.loads longer
@@ -173,7 +174,7 @@ module _ {B : Type 0} (setting : Setting B) (nodes : List Node) (w : World) (l :
         let same = of_thread setting nodes w l t ic.0 q c there ic.1 name in
         takes c a m (ap (slice_get (found code log nodes).symbolic.threads) (sym same) ∙ ic.1) (at_in c.accesses ia.0 a ia.1) step is)
 
-    -- A step of which nobody sees anything.
+    -- A step that no other thread sees.
     module _ (quiet : QuietAt q (steps_in h q.name)) where
       quiet_so : IsQuiet ops.buffered (kind_of n.request other)
       quiet_so = subst (IsQuiet ops.buffered) (sym kind_told) (quiet_kind q (steps_in h q.name) quiet)
@@ -184,7 +185,7 @@ module _ {B : Type 0} (setting : Setting B) (nodes : List Node) (w : World) (l :
 
       along_on : Along setting nodes w longer
       along_on =
-          next.along setting nodes w l p h gone t q there n
+          next.along setting nodes w l p h gone thread n
           (quiet_may ops.buffered h q.name n.request other (is_other paths w h t q.name n.request) quiet_so)
 
       no_takes : (c : Course) (a : Access) (m : ℕ) → slice_get (found code log nodes).symbolic.threads t ≡ Some c → Contains c.accesses a
@@ -197,7 +198,7 @@ module _ {B : Type 0} (setting : Setting B) (nodes : List Node) (w : World) (l :
 
       pub quiet_goes : is_gone p longer
       quiet_goes =
-          let seen = g.quiet_seen p h t q (steps_in h q.name) n.request took other gone there quiet_so in
+          let seen = g.quiet_seen p h thread (steps_in h q.name) n.request took other gone quiet_so in
           record {
             along = along_on;
             agrees = agree_on no_takes;
@@ -209,36 +210,42 @@ module _ {B : Type 0} (setting : Setting B) (nodes : List Node) (w : World) (l :
                   | inr now ↦ inr (quiet x (subst (λ (y : Walk). Contains y.events x) (one_walk u t v q at there now.0) i) now.1)
                 ];
             drained = seen.0;
-            sleeps = g.quiet_sleeps p h t q n.request took other gone there quiet along_on;
+            sleeps = g.quiet_sleeps p h thread n.request took other gone quiet along_on;
             order = seen.1;
           }
 
     -- The event at the position, which takes place by the step.
-    module _ (x : Event) (at : At setting nodes w p h t q x) where
+    module _ (x : Event) (x_among : Contains q.events x) (here : place code log w t x ≡ p) (now_steps : steps_in h q.name ≡ x.step) where
+      abbrev at : Next setting nodes w
+      at = record {
+        here = record { position = p; deeds = h; gone = gone; thread = thread; event = x; among = x_among; at = here };
+        steps = now_steps;
+      }
+
       kind_here : kind_of n.request other ≡ Some x.kind
-      kind_here = kind_told ∙ ap (kind_at q) at.steps ∙ kind_of_event t q x there at.event
+      kind_here = kind_told ∙ ap (kind_at q) at.steps ∙ kind_of_event t q x there x_among
 
       pub event_along : Along setting nodes w longer
       event_along =
-          next.along setting nodes w l p h gone t q there n
-          (event_may setting nodes w g p h t q x at n.request kind_here)
+          next.along setting nodes w l p h gone thread n
+          (event_may setting nodes w g at n.request kind_here)
 
       pub event_order : is_pending ops.buffered x ≡ false
           → AreInOrder ops.buffered paths w longer
       event_order seen =
           subst (λ k. AreInOrder ops.buffered paths w (h ++ Did q.name k n.request took other ∷ [])) (sym at.steps)
-          (g.event_seen p h t q x n.request took other at seen kind_here).1
+          (g.event_seen at n.request took other seen kind_here).1
 
       pub event_goes : is_pending ops.buffered x ≡ false → x.kind ≢ kind.Fail → is_gone (suc p) longer
       event_goes now not = record {
         along = event_along;
-        agrees = agree_on (λ c a m there i step is. g.loads p h t q x at n.request n.told.asks c a m there i (step ∙ at.steps) is);
+        agrees = agree_on (λ c a m there i step is. g.loads at n.request n.told.asks c a m there i (step ∙ at.steps) is);
         going = going_on (λ e. not (same_Some x.kind kind.Fail (sym kind_here ∙ e)));
         did = λ u v y there_too i before.
             elim (below_next (place code log w u y) p before) [
               | inl less ↦ let done = gone.did u v y there_too i less in omega (arith, done, one_more.goes.grows v.name)
               | inr here ↦
-                  let one = one_at u t v q y x there_too there i at.event (here ∙ sym at.at) in
+                  let one = one_at u t v q y x there_too there i x_among (here ∙ sym at.at) in
                   let same = one_walk u t v q there_too there one.0 in
                   let steps : steps_in longer v.name ≡ steps_in h q.name + 1 = ap (λ (z : Walk). steps_in longer z.name) same ∙ one_more.steps in
                   omega (arith, steps, at.steps, ap (λ (z : Event). z.step) one.1)
@@ -252,20 +259,22 @@ module _ {B : Type 0} (setting : Setting B) (nodes : List Node) (w : World) (l :
                   ]
               | inr own ↦
                   let among = subst (λ (z : Walk). Contains z.events y) (one_walk u t v q there_too there own.0) i in
-                  let one = one_step t q y x there among at.event (own.1 ∙ at.steps) in
+                  let one = one_step t q y x there among x_among (own.1 ∙ at.steps) in
                   let here : place code log w u y ≡ p = ap (λ a. place code log w a y) own.0 ∙ ap (place code log w t) one ∙ at.at in
                   inl (omega (arith, here))
             ];
         drained = subst (λ k. HaveDrained code log w ops.buffered (suc p) (h ++ Did q.name k n.request took other ∷ [])) (sym at.steps)
-            (g.event_seen p h t q x n.request took other at now kind_here).0;
-        sleeps = g.event_sleeps p h t q x n.request took at now event_along;
+            (g.event_seen at n.request took other now kind_here).0;
+        sleeps = g.event_sleeps at n.request took now event_along;
         order = event_order now;
       }
 
   -- The drain of the store at the position.
-  module _ (p : ℕ) (h : List Deed) (gone : is_gone p h) (t : ℕ) (q : Walk) (there : IsThread code log t q) (x : Event) (i : Contains q.events x)
-      (here : place code log w t x ≡ p) (waits : is_pending ops.buffered x ≡ true) (issued : x.step < steps_in h q.name) (c : ℕ) (v : ℤ)
-      (follows : IsNextDrain ops.buffered bound h q.name x.step c v) where
+  module _ (e : Here setting nodes w) (waits : is_pending ops.buffered e.event ≡ true) (issued : e.event.step < steps_in e.deeds e.thread.name)
+      (c : ℕ) (v : ℤ) (follows : IsNextDrain ops.buffered bound e.deeds e.thread.name e.event.step c v) where
+    open e use {position as p, deeds as h, gone, thread, event as x, among as i, at as here}
+    open thread use {index as t, walk as q, there}
+
     abbrev drained : List Deed
     drained = h ++ Drained q.name x.step c v ∷ []
 
@@ -274,7 +283,7 @@ module _ {B : Type 0} (setting : Setting B) (nodes : List Node) (w : World) (l :
 
     pub drain_goes : is_gone (suc p) drained
     drain_goes =
-        let seen = g.drain_seen p h t q x c v gone there i waits here issued in
+        let seen = g.drain_seen e c v waits issued in
         let steps = steps_drained h q.name in
         record {
           along = drain_along;
@@ -294,6 +303,6 @@ module _ {B : Type 0} (setting : Setting B) (nodes : List Node) (w : World) (l :
                 | inr more ↦ inr more
               ];
           drained = seen.0;
-          sleeps = g.drain_sleeps p h t q x c v gone there i waits here drain_along;
+          sleeps = g.drain_sleeps e c v waits drain_along;
           order = seen.1;
         }

@@ -19,50 +19,46 @@ ghost use Rattle.sym_exec.specs.declared.symbolic.Access.{Access};
 ghost use Rattle.sym_laws.specs.Valued.{found};
 ghost use Rattle.order_formula.specs.Worlds.{World};
 ghost use Rattle.lawful_order.specs.Memory.{may_overtake};
-ghost use Rattle.world_plan.specs.Going.{IsLawfulWorld, HasGone, IsAtEvent, HaveDrained, is_pending, place};
+ghost use Rattle.world_plan.specs.Going.{IsLawfulWorld, HasGone, EventAt, NextEvent, HaveDrained, is_pending, place};
 ghost use Rattle.world_plan.specs.Plan.{drains_next};
 ghost use Rattle.world_plan.specs.Sights.{AreInOrder, sight_of};
 
 /// If a thread's next event may not overtake its stores, all of its stores are in memory.
 pub fn buffers_are_empty<B>()
-    ensures { (s : Setting B) (nodes : List Node) (w : World) (p : ℕ) (h : List Deed) (t : ℕ) (q : Walk) (x : Event)
-        → IsLawfulWorld s nodes w → IsAtEvent s nodes w p h t q x → may_overtake x.kind ≡ false → HasDrained s.ops.buffered h q.name }
+    ensures { (s : Setting B) (nodes : List Node) (w : World) (e : NextEvent s nodes w)
+        → IsLawfulWorld s nodes w → may_overtake e.event.kind ≡ false → HasDrained s.ops.buffered e.deeds e.thread.name }
 {}
 
 /// If a thread's next event is a load, it takes the value that the world gives it.
 pub fn loads_take_theirs<B>()
-    ensures { (s : Setting B) (nodes : List Node) (w : World)
-        (p : ℕ) (h : List Deed) (t : ℕ) (q : Walk) (x : Event) (r : Request) (c : Course) (a : Access) (m : ℕ)
-        → IsLawfulWorld s nodes w → IsAtEvent s nodes w p h t q x → asks_next s.code h q.name ≡ Some r
-        → slice_get (found s.code s.log nodes).symbolic.threads t ≡ Some c → Contains c.accesses a → a.step ≡ x.step → a.takes ≡ Some m
-        → slice_index_or w.loads m (pos 0) ≡ taken_in s.ops.buffered s.code h q.name r }
+    ensures { (s : Setting B) (nodes : List Node) (w : World) (e : NextEvent s nodes w) (r : Request) (c : Course) (a : Access) (m : ℕ)
+        → IsLawfulWorld s nodes w → asks_next s.code e.deeds e.thread.name ≡ Some r
+        → slice_get (found s.code s.log nodes).symbolic.threads e.thread.index ≡ Some c
+        → Contains c.accesses a → a.step ≡ e.event.step → a.takes ≡ Some m
+        → slice_index_or w.loads m (pos 0) ≡ taken_in s.ops.buffered s.code e.deeds e.thread.name r }
 {}
 
 /// If a store is in its thread's buffer when the history reaches its position, it is the next to
 /// drain.
 pub fn drains_have_their_turn<B>()
-    ensures { (s : Setting B) (nodes : List Node) (w : World) (p : ℕ) (h : List Deed) (t : ℕ) (q : Walk) (x : Event)
-        → IsLawfulWorld s nodes w → HasGone s nodes w p h
-        → IsThread s.code s.log t q → Contains q.events x → is_pending s.ops.buffered x ≡ true → place s.code s.log w t x ≡ p → x.step < steps_in h q.name
-        → (c : ℕ) × (v : ℤ) × IsNextDrain s.ops.buffered s.bound h q.name x.step c v
-        × (drains_next s.ops.buffered h q.name x.step ≡ Drained q.name x.step c v ∷ []) }
+    ensures { (s : Setting B) (nodes : List Node) (w : World) (e : EventAt s nodes w)
+        → IsLawfulWorld s nodes w → is_pending s.ops.buffered e.event ≡ true → e.event.step < steps_in e.deeds e.thread.name
+        → (c : ℕ) × (v : ℤ) × IsNextDrain s.ops.buffered s.bound e.deeds e.thread.name e.event.step c v
+        × (drains_next s.ops.buffered e.deeds e.thread.name e.event.step ≡ Drained e.thread.name e.event.step c v ∷ []) }
 {}
 
-/// A step doesn't change which stores have drained. After the event at the position, if it isn't a
-/// store in a buffer, or after the drain of the store at the position, they are those before the
-/// next position.
+/// A step doesn't change which stores have drained. They are those before the next position after
+/// the drain of the store at this one, or after its event if that isn't a store in a buffer.
 pub fn drains_go_on<B>()
     ensures step { (s : Setting B) (nodes : List Node) (w : World)
         (p : ℕ) (h : List Deed) (n : Name) (k : ℕ) (r : Request) (took : ℤ) (other : Option Name) → IsLawfulWorld s nodes w → HasGone s nodes w p h
         → HaveDrained s.code s.log w s.ops.buffered p (h ++ Did n k r took other ∷ []) }
-    ensures event { (s : Setting B) (nodes : List Node) (w : World)
-        (p : ℕ) (h : List Deed) (t : ℕ) (q : Walk) (x : Event) (r : Request) (took : ℤ) (other : Option Name)
-        → IsLawfulWorld s nodes w → IsAtEvent s nodes w p h t q x → is_pending s.ops.buffered x ≡ false
-        → HaveDrained s.code s.log w s.ops.buffered (suc p) (h ++ Did q.name x.step r took other ∷ []) }
-    ensures drain { (s : Setting B) (nodes : List Node) (w : World) (p : ℕ) (h : List Deed) (t : ℕ) (q : Walk) (x : Event) (c : ℕ) (v : ℤ)
-        → IsLawfulWorld s nodes w → HasGone s nodes w p h
-        → IsThread s.code s.log t q → Contains q.events x → is_pending s.ops.buffered x ≡ true → place s.code s.log w t x ≡ p
-        → HaveDrained s.code s.log w s.ops.buffered (suc p) (h ++ Drained q.name x.step c v ∷ []) }
+    ensures event { (s : Setting B) (nodes : List Node) (w : World) (e : NextEvent s nodes w) (r : Request) (took : ℤ) (other : Option Name)
+        → IsLawfulWorld s nodes w → is_pending s.ops.buffered e.event ≡ false
+        → HaveDrained s.code s.log w s.ops.buffered (suc e.position) (e.deeds ++ Did e.thread.name e.event.step r took other ∷ []) }
+    ensures drain { (s : Setting B) (nodes : List Node) (w : World) (e : EventAt s nodes w) (c : ℕ) (v : ℤ)
+        → IsLawfulWorld s nodes w → is_pending s.ops.buffered e.event ≡ true
+        → HaveDrained s.code s.log w s.ops.buffered (suc e.position) (e.deeds ++ Drained e.thread.name e.event.step c v ∷ []) }
 {}
 
 /// Events stay in the world's order after a deed that shows nothing, after the event at the
@@ -71,13 +67,12 @@ pub fn orders_go_on<B>()
     ensures quiet { (s : Setting B) (nodes : List Node) (w : World) (p : ℕ) (h : List Deed) (d : Deed)
         → IsLawfulWorld s nodes w → HasGone s nodes w p h
         → sight_of s.ops.buffered d ≡ None → AreInOrder s.ops.buffered (paths_of s.code s.log) w (h ++ d ∷ []) }
-    ensures event { (s : Setting B) (nodes : List Node) (w : World)
-        (p : ℕ) (h : List Deed) (t : ℕ) (q : Walk) (x : Event) (r : Request) (took : ℤ) (other : Option Name)
-        → IsLawfulWorld s nodes w → IsAtEvent s nodes w p h t q x
-        → AreInOrder s.ops.buffered (paths_of s.code s.log) w (h ++ Did q.name x.step r took other ∷ []) }
-    ensures drain { (s : Setting B) (nodes : List Node) (w : World) (p : ℕ) (h : List Deed) (t : ℕ) (q : Walk) (x : Event) (c : ℕ) (v : ℤ)
-        → IsLawfulWorld s nodes w → HasGone s nodes w p h → IsThread s.code s.log t q → Contains q.events x → place s.code s.log w t x ≡ p
-        → AreInOrder s.ops.buffered (paths_of s.code s.log) w (h ++ Drained q.name x.step c v ∷ []) }
+    ensures event { (s : Setting B) (nodes : List Node) (w : World) (e : NextEvent s nodes w) (r : Request) (took : ℤ) (other : Option Name)
+        → IsLawfulWorld s nodes w
+        → AreInOrder s.ops.buffered (paths_of s.code s.log) w (e.deeds ++ Did e.thread.name e.event.step r took other ∷ []) }
+    ensures drain { (s : Setting B) (nodes : List Node) (w : World) (e : EventAt s nodes w) (c : ℕ) (v : ℤ)
+        → IsLawfulWorld s nodes w
+        → AreInOrder s.ops.buffered (paths_of s.code s.log) w (e.deeds ++ Drained e.thread.name e.event.step c v ∷ []) }
 {}
 
 /// If a history has passed the positions of all events, no store is pending.

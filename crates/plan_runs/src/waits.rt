@@ -11,52 +11,53 @@ ghost use Rattle.tc_base.specs.declared.request.Request.{Request};
 ghost use Rattle.run_history.specs.History.{Deed, Did, Drained};
 ghost use Rattle.run_history.specs.Told.{owner_in, waiting_in, is_thread_in, steps_in, has_exited_in};
 ghost use Rattle.run_follows.specs.blocked.Stuck.{AllAreBlocked};
-ghost use Rattle.path_walk.specs.Events.{takes};
+ghost use Rattle.path_walk.specs.Events.{acquired_mutex};
 ghost use Rattle.path_walk.specs.Paths.{Walk, paths_of};
 ghost use Rattle.path_walk.specs.declared.event.Event.{Event};
 ghost use Rattle.path_walk.specs.declared.event.EventKind.TheVariants as kind;
 ghost use Rattle.path_laws.specs.Setting.{Setting};
-ghost use Rattle.path_laws.specs.history.Along.{IsAlongPaths, IsThread, AllHaveDone, AllAreThere};
+ghost use Rattle.path_laws.specs.history.Along.{IsAlongPaths, IsThread, PathThread, AllHaveDone, AllAreThere};
 ghost use Rattle.sym_terms.specs.declared.node.Node.{Node};
 ghost use Rattle.order_formula.specs.Worlds.{World};
 ghost use Rattle.lawful_order.specs.Events.{number_of};
-ghost use Rattle.world_plan.specs.Going.{IsLawfulWorld, HasGone, IsAtEvent, SleepUntilEnded, is_pending, place};
+ghost use Rattle.world_plan.specs.Going.{IsLawfulWorld, HasGone, EventAt, NextEvent, SleepUntilEnded, is_pending, place};
 ghost use Rattle.world_plan.specs.Plan.{is_failure, woken_by, other_of};
 
 /// The mutex that a thread's next event takes is free: every region of it that began has ended.
 pub fn mutexes_are_free<B>()
-    ensures { (s : Setting B) (nodes : List Node) (w : World) (p : ℕ) (h : List Deed) (t : ℕ) (q : Walk) (x : Event) (m : ℕ)
-        → IsLawfulWorld s nodes w → IsAtEvent s nodes w p h t q x → takes x.kind ≡ Some m → owner_in h m ≡ None }
+    ensures { (s : Setting B) (nodes : List Node) (w : World) (e : NextEvent s nodes w) (m : ℕ)
+        → IsLawfulWorld s nodes w → acquired_mutex e.event.kind ≡ Some m → owner_in e.deeds m ≡ None }
 {}
 
 /// A thread whose event is next waits on no condition: its sleep has ended.
 pub fn sleepers_were_woken<B>()
-    ensures { (s : Setting B) (nodes : List Node) (w : World) (p : ℕ) (h : List Deed) (t : ℕ) (q : Walk) (x : Event) (c : ℕ)
-        → IsLawfulWorld s nodes w → IsAtEvent s nodes w p h t q x → set.contains (waiting_in h c) q.name ≡ false }
+    ensures { (s : Setting B) (nodes : List Node) (w : World) (e : NextEvent s nodes w) (c : ℕ)
+        → IsLawfulWorld s nodes w → set.contains (waiting_in e.deeds c) e.thread.name ≡ false }
 {}
 
 /// The thread that a signal wakes waits on its condition; if it wakes none, no thread waits.
 pub fn signals_find_theirs<B>()
-    ensures some { (s : Setting B) (nodes : List Node) (w : World) (p : ℕ) (h : List Deed) (t : ℕ) (q : Walk) (x : Event) (c : ℕ) (n : Name)
-        → IsLawfulWorld s nodes w → IsAtEvent s nodes w p h t q x → x.kind ≡ kind.Signal c
-        → woken_by (paths_of s.code s.log) w (number_of (paths_of s.code s.log) t x.step) ≡ Some n → set.contains (waiting_in h c) n ≡ true }
-    ensures none { (s : Setting B) (nodes : List Node) (w : World) (p : ℕ) (h : List Deed) (t : ℕ) (q : Walk) (x : Event) (c : ℕ)
-        → IsLawfulWorld s nodes w → IsAtEvent s nodes w p h t q x → x.kind ≡ kind.Signal c
-        → woken_by (paths_of s.code s.log) w (number_of (paths_of s.code s.log) t x.step) ≡ None → (set.len (waiting_in h c) == 0) ≡ true }
+    ensures some { (s : Setting B) (nodes : List Node) (w : World) (e : NextEvent s nodes w) (c : ℕ) (n : Name)
+        → IsLawfulWorld s nodes w → e.event.kind ≡ kind.Signal c
+        → woken_by (paths_of s.code s.log) w (number_of (paths_of s.code s.log) e.thread.index e.event.step) ≡ Some n
+        → set.contains (waiting_in e.deeds c) n ≡ true }
+    ensures none { (s : Setting B) (nodes : List Node) (w : World) (e : NextEvent s nodes w) (c : ℕ)
+        → IsLawfulWorld s nodes w → e.event.kind ≡ kind.Signal c
+        → woken_by (paths_of s.code s.log) w (number_of (paths_of s.code s.log) e.thread.index e.event.step) ≡ None
+        → (set.len (waiting_in e.deeds c) == 0) ≡ true }
 {}
 
 /// The child that a thread's next event joins has exited.
 pub fn joins_find_exits<B>()
-    ensures { (s : Setting B) (nodes : List Node) (w : World) (p : ℕ) (h : List Deed) (t : ℕ) (q : Walk) (x : Event) (k : ℕ)
-        → IsLawfulWorld s nodes w → IsAtEvent s nodes w p h t q x → x.kind ≡ kind.Join k → has_exited_in h (child q.name k) ≡ true }
+    ensures { (s : Setting B) (nodes : List Node) (w : World) (e : NextEvent s nodes w) (k : ℕ)
+        → IsLawfulWorld s nodes w → e.event.kind ≡ kind.Join k → has_exited_in e.deeds (child e.thread.name k) ≡ true }
 {}
 
 /// A thread whose event is next exists. Once all events except the failing one and stores in
 /// buffers took place, every thread exists.
 pub fn threads_are_there<B>()
-    ensures next { (s : Setting B) (nodes : List Node) (w : World) (p : ℕ) (h : List Deed) (t : ℕ) (q : Walk) (x : Event)
-        → IsLawfulWorld s nodes w → HasGone s nodes w p h
-        → IsThread s.code s.log t q → Contains q.events x → place s.code s.log w t x ≡ p → is_thread_in h q.name ≡ true }
+    ensures next { (s : Setting B) (nodes : List Node) (w : World) (e : EventAt s nodes w)
+        → IsLawfulWorld s nodes w → is_thread_in e.deeds e.thread.name ≡ true }
     ensures all { (s : Setting B) (nodes : List Node) (w : World) (p : ℕ) (h : List Deed) → IsLawfulWorld s nodes w → HasGone s nodes w p h
         → ((t : ℕ) (q : Walk) (x : Event) → IsThread s.code s.log t q → Contains q.events x → is_failure x.kind ≡ false
         → is_pending s.ops.buffered x ≡ false → place s.code s.log w t x < p) → AllAreThere s.code s.log h }
@@ -66,24 +67,25 @@ pub fn threads_are_there<B>()
 /// event or a store in a buffer; the event at the position; a drain; the drain of the store at the
 /// position.
 pub fn sleeps_go_on<B>()
-    ensures quiet { (s : Setting B) (nodes : List Node) (w : World) (p : ℕ)
-        (h : List Deed) (t : ℕ) (q : Walk) (k : ℕ) (r : Request) (took : ℤ) (other : Option Name)
-        → IsLawfulWorld s nodes w → HasGone s nodes w p h → IsThread s.code s.log t q
-        → ((x : Event) → Contains q.events x → x.step ≡ steps_in h q.name → is_pending s.ops.buffered x ≡ true)
-        → IsAlongPaths s.ops.buffered s.bound s.code s.log (h ++ Did q.name k r took other ∷ [])
-        → SleepUntilEnded s.code s.log w p (h ++ Did q.name k r took other ∷ []) }
-    ensures event { (s : Setting B) (nodes : List Node) (w : World) (p : ℕ)
-        (h : List Deed) (t : ℕ) (q : Walk) (x : Event) (k : ℕ) (r : Request) (took : ℤ) → IsLawfulWorld s nodes w → IsAtEvent s nodes w p h t q x
-        → IsAlongPaths s.ops.buffered s.bound s.code s.log (h ++ Did q.name k r took (other_of (paths_of s.code s.log) w h t q.name r) ∷ [])
-        → SleepUntilEnded s.code s.log w (p + 1) (h ++ Did q.name k r took (other_of (paths_of s.code s.log) w h t q.name r) ∷ []) }
+    ensures quiet { (s : Setting B) (nodes : List Node) (w : World)
+        (p : ℕ) (h : List Deed) (t : PathThread s.code s.log) (k : ℕ) (r : Request) (took : ℤ) (other : Option Name)
+        → IsLawfulWorld s nodes w → HasGone s nodes w p h
+        → ((x : Event) → Contains t.events x → x.step ≡ steps_in h t.name → is_pending s.ops.buffered x ≡ true)
+        → IsAlongPaths s.machine s.log (h ++ Did t.name k r took other ∷ [])
+        → SleepUntilEnded s.code s.log w p (h ++ Did t.name k r took other ∷ []) }
+    ensures event { (s : Setting B) (nodes : List Node) (w : World) (e : NextEvent s nodes w) (k : ℕ) (r : Request) (took : ℤ)
+        → IsLawfulWorld s nodes w
+        → IsAlongPaths s.machine s.log
+        (e.deeds ++ Did e.thread.name k r took (other_of (paths_of s.code s.log) w e.deeds e.thread.index e.thread.name r) ∷ [])
+        → SleepUntilEnded s.code s.log w (e.position + 1)
+        (e.deeds ++ Did e.thread.name k r took (other_of (paths_of s.code s.log) w e.deeds e.thread.index e.thread.name r) ∷ []) }
     ensures drain { (s : Setting B) (nodes : List Node) (w : World) (p : ℕ) (h : List Deed) (n : Name) (k c : ℕ) (v : ℤ)
-        → IsLawfulWorld s nodes w → HasGone s nodes w p h → IsAlongPaths s.ops.buffered s.bound s.code s.log (h ++ Drained n k c v ∷ [])
+        → IsLawfulWorld s nodes w → HasGone s nodes w p h → IsAlongPaths s.machine s.log (h ++ Drained n k c v ∷ [])
         → SleepUntilEnded s.code s.log w p (h ++ Drained n k c v ∷ []) }
-    ensures drained { (s : Setting B) (nodes : List Node) (w : World) (p : ℕ)
-        (h : List Deed) (t : ℕ) (q : Walk) (x : Event) (n : Name) (k c : ℕ) (v : ℤ) → IsLawfulWorld s nodes w → HasGone s nodes w p h
-        → IsThread s.code s.log t q → Contains q.events x → is_pending s.ops.buffered x ≡ true → place s.code s.log w t x ≡ p
-        → IsAlongPaths s.ops.buffered s.bound s.code s.log (h ++ Drained n k c v ∷ [])
-        → SleepUntilEnded s.code s.log w (p + 1) (h ++ Drained n k c v ∷ []) }
+    ensures drained { (s : Setting B) (nodes : List Node) (w : World) (e : EventAt s nodes w) (n : Name) (k c : ℕ) (v : ℤ)
+        → IsLawfulWorld s nodes w → is_pending s.ops.buffered e.event ≡ true
+        → IsAlongPaths s.machine s.log (e.deeds ++ Drained n k c v ∷ [])
+        → SleepUntilEnded s.code s.log w (e.position + 1) (e.deeds ++ Drained n k c v ∷ []) }
 {}
 
 /// At the end of a deadlock each thread that hasn't exited is blocked.

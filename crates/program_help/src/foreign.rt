@@ -18,7 +18,7 @@ const NO_TRUTH: &str = "there is no such name: write 1 for true, and 0 for false
 const ATOMIC: &str =
     "each load and each store of an `int` is atomic; `swap`, `cas`, `fence()` and `stbar()` do the rest";
 
-/// Words that people write from habit, or the beginnings of some with a `*` behind, and what to
+/// Words that people write from habit, or the beginnings of some with a `*` after them, and what to
 /// write instead.
 static WORDS: [(&str, &str); 56] = [
     (

@@ -1,4 +1,4 @@
-//! Explains why a text is no program, and describes a program. No clause gives the words.
+//! Explains why a text isn't a program, and describes a program. No clause gives the words.
 #![tactic(auto)]
 
 mod bytes;

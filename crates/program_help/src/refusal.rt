@@ -1,4 +1,4 @@
-//! Explains why a text is no program.
+//! Explains why a text isn't a program.
 ghost use Rattle.std.specs.Prelude.{◌≤◌, length};
 ghost use Rattle.tc_limits.specs.declared.limits.TheConstants.{PROGRAM_BYTES};
 
@@ -88,7 +88,7 @@ fn word_length(rest: &[u8]) -> usize {
         .count()
 }
 
-/// Explains a text whose tokens are no program.
+/// Explains a text whose tokens aren't a program.
 fn parse_lines(
     alloc: Global,
     source: Source,
@@ -186,7 +186,7 @@ fn push_name(
     out.push_str(lines.as_str())
 }
 
-/// The program of these tokens, whatever its names mean; `None` if they are no program.
+/// The program of these tokens, whatever its names mean; `None` if they aren't a program.
 fn program_of(alloc: Global, tokens: &[Token]) -> Result<Option<Program>, AllocError> {
     let words: Vec<Word> = tokens.iter().map(Word::new).collect(alloc)?;
     match read_program(alloc, words.as_slice()) {

@@ -1,4 +1,5 @@
--- States that differ in the local state of one thread alone: the others' moves, and drains, keep that.
+-- States that differ only in the local state of one thread: moves of other threads, and drains,
+-- keep that.
 use Rattle.std.proofs.Common.{◌≡◌, ◌≢◌, ◌∙◌, inl, inr, ℕ, ◌+◌, Bool, true, false, not, ◌||◌, cond, Option, Some, None, refl, sym, ap, subst}
 use Rattle.std.proofs.Common.{true≢false}
 use Rattle.std.specs.Prelude.{is_none}
@@ -16,7 +17,7 @@ use Rattle.tc_base.specs.declared.request.Request.{Request}
 use Rattle.tc_base.specs.declared.request.Request.TheVariants.{Write, Acquire, Release, BeginWait, EndWait, Start, Await}
 use Rattle.tc_code.specs.declared.instr.Instr.{Instr}
 use Rattle.tc_code.specs.Code.{Code}
-use Rattle.tc_code.specs.Step.{request, drains_first, is_free, is_let, allows, perform, waiting_on, woken, drained, step}
+use Rattle.tc_code.specs.Step.{request, drains_first, is_free, is_let, allows, perform, waiting_on, state_after_wake, state_after_drain, step}
 use Rattle.tc_code.specs.Run.{IsReached}
 use Rattle.run_laws.specs.Alone.{same}
 use Rattle.run_laws.proofs.Names.{same_or_apart, same_self, get_put, get_put_apart}
@@ -26,12 +27,12 @@ use Rattle.run_laws.proofs.Makes.{makes_run, makes_wake, makes_drain}
 use Rattle.pure_turns.specs.Turn.{is_step_of}
 use Rattle.pure_turns.proofs.Owners.{Owners, owner, Keeping}
 
--- of two pairs one stands, whichever it is
+-- a relation that holds for both pairs holds for the pair that a bool selects
 pub either_way : {A : Type 0} (P : A → A → Type 0) (b : Bool) (x y v w : A) → P x v → P y w → P (cond b x y) (cond b v w)
 either_way P true x y v w p q = p
 either_way P false x y v w p q = q
 
--- what is put into both is in both
+-- a value that is put into both maps is in both
 put_both : {X : Type 0} (ms ns : ByName X) (k : Name) (x : X) (q : Name) → fin.get ms q ≡ fin.get ns q
     → fin.get (fin.insert ms k x) q ≡ fin.get (fin.insert ns k x) q
 put_both ms ns k x q agree =
@@ -41,7 +42,8 @@ put_both ms ns k x q agree =
       | inr apart ↦ get_put_apart ms k x q apart ∙ agree ∙ sym (get_put_apart ns k x q apart)
     ]
 
--- the threads are the same but for one, which has local state t in the first and u in the second
+-- the threads are the same except one, which has local state `t` in the first state and `u` in the
+-- second
 pub record ThreadsDiffer {B : Type 0} (n : Name) (t u : Local) (b : B) (ss vs : ByName (Thread B)) : Type 0 where
   pub others : (q : Name) → q ≢ n → fin.get vs q ≡ fin.get ss q
   pub there : fin.get ss n ≡ Some (record { local = t; buffer = b })
@@ -52,7 +54,7 @@ pub record Differ {B : Type 0} (Related : Owners → Owners → Type 0) (n : Nam
   pub owners : Related s.owners v.owners
   pub threads : ThreadsDiffer n t u b s.threads v.threads
 
--- another thread is put into both
+-- another thread is replaced in both
 pub put_other : {B : Type 0} (n : Name) (t u : Local) (b : B) (ss vs : ByName (Thread B)) (q : Name) (x : Thread B) → n ≢ q
     → ThreadsDiffer n t u b ss vs → ThreadsDiffer n t u b (fin.insert ss q x) (fin.insert vs q x)
 put_other n t u b ss vs q x apart d = record {
@@ -61,7 +63,7 @@ put_other n t u b ss vs q x apart d = record {
   here = get_put_apart vs q x n apart ∙ d.here;
 }
 
--- the thread itself is put into both
+-- the thread itself is replaced in both
 pub put_own : {B : Type 0} (n : Name) (t u t₁ u₁ : Local) (b b₁ : B) (ss vs : ByName (Thread B)) → ThreadsDiffer n t u b ss vs
     → ThreadsDiffer n t₁ u₁ b₁ (fin.insert ss n (record { local = t₁; buffer = b₁ })) (fin.insert vs n (record { local = u₁; buffer = b₁ }))
 put_own n t u t₁ u₁ b b₁ ss vs d = record {
@@ -70,7 +72,7 @@ put_own n t u t₁ u₁ b b₁ ss vs d = record {
   here = get_put vs n _;
 }
 
--- it is put into the first alone
+-- the thread is replaced only in the first
 pub put_first : {B : Type 0} (n : Name) (t u t₁ : Local) (b : B) (ss vs : ByName (Thread B)) → ThreadsDiffer n t u b ss vs
     → ThreadsDiffer n t₁ u b (fin.insert ss n (record { local = t₁; buffer = b })) vs
 put_first n t u t₁ b ss vs d = record {
@@ -79,7 +81,7 @@ put_first n t u t₁ b ss vs d = record {
   here = d.here;
 }
 
--- whether the thread that may be there has exited
+-- whether a thread exists and has exited
 abbrev exits : {B : Type 0} → Option (Thread B) → Bool
 exits {B} o = option_map_or (λ (x : Thread B). x.local.has_exited) o false
 
@@ -104,7 +106,7 @@ module _ {B : Type 0} (Related : Owners → Owners → Type 0) (keeping : Keepin
     free_too : (m : ℕ) → is_free s m ≡ true → is_none (owner ps m) ≡ true
     free_too m free = ap is_none (keeping.frees s.owners ps m o (is_none_none (owner s.owners m) free))
 
-    -- what mutexes, waiters and children let in the first they let in the second
+    -- mutexes, waiters and children allow in the second state what they allow in the first
     lets_too : (q : Name) (r : Request) → t.has_exited ≡ u.has_exited → is_let s q r ≡ true → is_let second q r ≡ true
     lets_too q (Await k) exited lets = exits_same (child q k) exited ∙ lets
     lets_too q (Acquire m) exited lets = free_too m lets
@@ -116,7 +118,7 @@ module _ {B : Type 0} (Related : Owners → Owners → Type 0) (keeping : Keepin
     allows_too q x r exited may =
         let both = and_parts (not (drains_first r) || ops.is_empty x.buffer) (is_let s q r) may in and_from _ _ both.0 (lets_too q r exited both.1)
 
-    -- another thread carries out the same request in both
+    -- another thread does the same request in both
     performs_other : (q : Name) (x : Thread B) (i : Instr) (r : Request) → n ≢ q → n ≢ child q (x.local.children + 1)
         → Differ Related n t u b (perform ops code s q x i r) (perform ops code second q x i r)
     performs_other q x i (Write c w) apart new =
@@ -135,7 +137,7 @@ module _ {B : Type 0} (Related : Owners → Owners → Type 0) (keeping : Keepin
         record { shared = refl; owners = keeping.sets s.owners ps m (Some q) o; threads = put_other n t u b s.threads vs q _ apart d }
     performs_other q x i _ apart new = record { shared = refl; owners = o; threads = put_other n t u b s.threads vs q _ apart d }
 
-  -- a move of the second state that keeps the difference
+  -- a move of the second state keeps the difference
   pub record Keeps (b : B) (s₁ v : State B) (m : Move) : Type 0 where
     pub buffer : B
     pub state : State B
@@ -146,7 +148,7 @@ module _ {B : Type 0} (Related : Owners → Owners → Type 0) (keeping : Keepin
   not_by q e one = true≢false (sym (same_self n q one) ∙ e)
 
   module _ (b : B) (s v : State B) (d : Differ Related n t u b s v) (exited : t.has_exited ≡ u.has_exited) where
-    -- where no thread has failed in one, none has in the other
+    -- if no thread has failed in the first state, none has in the second
     pub going_same : s.failed ≡ None → v.failed ≡ None
     going_same none = ap (λ (x : State B). x.failed) d.shared ∙ none
 
@@ -171,11 +173,11 @@ module _ {B : Type 0} (Related : Owners → Owners → Type 0) (keeping : Keepin
         let waits = ap (λ (x : State B). set.contains (waiting_on x g.condition) w) d.shared ∙ g.waits in
         record {
           buffer = b;
-          state = woken ops v q w g.thread g.condition;
+          state = state_after_wake ops v q w g.thread g.condition;
           one = makes_wake ops code v q g.thread (going_same none) here w g.condition g.at g.empty waits;
           differ =
-              subst (λ x. Differ Related n t u b x (woken ops v q w g.thread g.condition)) (sym g.after)
-              (subst (λ y. Differ Related n t u b (woken ops s q w g.thread g.condition) (woken ops y q w g.thread g.condition)) (sym d.shared)
+              subst (λ x. Differ Related n t u b x (state_after_wake ops v q w g.thread g.condition)) (sym g.after)
+              (subst (λ y. Differ Related n t u b (state_after_wake ops s q w g.thread g.condition) (state_after_wake ops y q w g.thread g.condition)) (sym d.shared)
               (record { shared = refl; owners = d.owners; threads = put_other n t u b s.threads v.threads q _ apart d.threads }));
         }
 
@@ -185,15 +187,15 @@ module _ {B : Type 0} (Related : Owners → Owners → Type 0) (keeping : Keepin
         let here = d.threads.others q (λ e. apart (sym e)) ∙ g.there in
         record {
           buffer = b;
-          state = drained ops v q g.thread form;
+          state = state_after_drain ops v q g.thread form;
           one = makes_drain ops code v q g.thread (going_same none) here form g.may;
           differ =
-              subst (λ x. Differ Related n t u b x (drained ops v q g.thread form)) (sym g.after)
-              (subst (λ y. Differ Related n t u b (drained ops s q g.thread form) (drained ops y q g.thread form)) (sym d.shared)
+              subst (λ x. Differ Related n t u b x (state_after_drain ops v q g.thread form)) (sym g.after)
+              (subst (λ y. Differ Related n t u b (state_after_drain ops s q g.thread form) (state_after_drain ops y q g.thread form)) (sym d.shared)
               (record { shared = refl; owners = d.owners; threads = put_other n t u b s.threads v.threads q _ apart d.threads }));
         }
 
-    -- a store of the thread itself reaches memory in both
+    -- a store of the thread itself drains in both
     drained_own : (s₁ : State B) (form : Option ℕ) → s.failed ≡ None → Drained ops code s s₁ n form → Keeps b s₁ v (move.Drain n form)
     drained_own s₁ form none g =
         let one : g.thread ≡ record { local = t; buffer = b } = same_Some _ _ (sym g.there ∙ d.threads.there) in
@@ -202,16 +204,16 @@ module _ {B : Type 0} (Related : Owners → Owners → Type 0) (keeping : Keepin
         let own : Thread B = record { local = u; buffer = b } in
         record {
           buffer = rest;
-          state = drained ops v n own form;
+          state = state_after_drain ops v n own form;
           one = makes_drain ops code v n own (going_same none) d.threads.here form may;
           differ =
-              subst (λ x. Differ Related n t u rest x (drained ops v n own form))
-              (ap (λ x. drained ops s n x form) (sym one) ∙ sym g.after)
-              (subst (λ y. Differ Related n t u rest (drained ops s n (record { local = t; buffer = b }) form) (drained ops y n own form)) (sym d.shared)
+              subst (λ x. Differ Related n t u rest x (state_after_drain ops v n own form))
+              (ap (λ x. state_after_drain ops s n x form) (sym one) ∙ sym g.after)
+              (subst (λ y. Differ Related n t u rest (state_after_drain ops s n (record { local = t; buffer = b }) form) (state_after_drain ops y n own form)) (sym d.shared)
               (record { shared = refl; owners = d.owners; threads = put_own n t u t u b rest s.threads v.threads d.threads }));
         }
 
-    -- each move but a step of the thread keeps the difference
+    -- each move except a step of the thread keeps the difference
     pub moved_other : (s₁ : State B) (m : Move) → IsReached ops code s → step ops code s m ≡ Some s₁ → is_step_of n m ≡ false → Keeps b s₁ v m
     moved_other s₁ (move.Run q) reached one other =
         ran_other s₁ q reached (none_failed ops code s s₁ (move.Run q) one) (not_by q other) (step_went ops code s s₁ (move.Run q) one)

@@ -1,4 +1,4 @@
--- Two threads at one place that agree on its live slots ask the same, and agree after it.
+-- Two threads at one place that agree on its live slots have the same request, and agree after it.
 use Rattle.std.proofs.Common.{◌≡◌, ◌≢◌, ◌∙◌, inl, inr, ℕ, ◌+◌, ℤ, [], ◌∷◌, length, Bool, true, false, cond, IsTrue}
 use Rattle.std.proofs.Common.{Option, Some, None, refl, sym, ap, ap₂, subst, slice_set, slice_index_or, arith}
 use Rattle.std.specs.Option.{option_map_or}
@@ -14,7 +14,7 @@ use Rattle.tc_code.specs.declared.instr.Instr.TheVariants.{Set, LoadAt, Store, S
 use Rattle.tc_code.specs.declared.instr.Instr.TheVariants.{Create, Ready, Join, Assert, Nonzero, InRange, Swap, Cas, Exit}
 use Rattle.tc_code.specs.Code.{Code, instr_at}
 use Rattle.tc_code.specs.Lawful.{exprs_of, written}
-use Rattle.tc_code.specs.Step.{request, site, is_within, is_nonzero, cell_at, value_in, can_be_joined, child_number, stepped, branched, local_after, arguments_of, instr_of}
+use Rattle.tc_code.specs.Step.{request, site, is_within, is_nonzero, cell_at, value_in, can_be_joined, child_number, step_in_place, step_by_branch, local_after, arguments_of, instr_of}
 use Rattle.int_ops.specs.Arith.{is_distance}
 use Rattle.tc_code.proofs.Facts.{at_its_place}
 use Rattle.run_laws.proofs.After.{branch_is, after_has}
@@ -23,7 +23,7 @@ use Rattle.run_laws.proofs.Counts.{after_counts}
 use Rattle.pure_turns.specs.Turn.{IsBehind}
 use Rattle.pure_turns.proofs.Values.{Agree, SameValues, values_agree, map_agrees, set_agrees}
 
--- the value that an instruction brings to the slot that it writes
+-- the value that an instruction writes to its slot
 abbrev brought : Local → Instr → ℤ → ℤ
 brought t (Set k e) v = value_in t e
 brought t _ v = v
@@ -33,8 +33,8 @@ slots_after : (t : Local) (i : Instr) (v : ℤ) → (local_after t i v).slots �
 slots_after t (Branch e to) v = ap (λ (x : Local). x.slots) (branch_is t _ to)
 slots_after t _ v = refl
 
--- an instruction leads from the place where it is
-branch_leads : (t : Local) (e : Expr) (b : Bool) (to : ℕ) → MayLead (Branch e to) t.instruction (branched t b to).instruction
+-- an instruction leads on from its place
+branch_leads : (t : Local) (e : Expr) (b : Bool) (to : ℕ) → MayLead (Branch e to) t.instruction (step_by_branch t b to).instruction
 branch_leads t e true to = inl refl
 branch_leads t e false to = inr refl
 
@@ -83,7 +83,7 @@ module _ (t u : Local) where
       ap (λ (x : Local). x.has_exited) (branch_is t _ to) ∙ exited ∙ sym (ap (λ (x : Local). x.has_exited) (branch_is u _ to))
   exited_same _ v exited = exited
 
-  -- they ask the same
+  -- the two threads have the same request
   asks_same : (i : Instr) → SameValues t.slots u.slots (exprs_of i) → t.held ≡ u.held → t.handles ≡ u.handles → request u i ≡ request t i
   asks_same (LoadAt k first len e) same held handles = ap (λ v. Read (cell_at first v)) (sym same.0)
   asks_same (Store c e) same held handles = ap (Write c) (sym same.0)
@@ -104,7 +104,7 @@ module _ (t u : Local) where
   arguments_same (Create h f es) same = sym (map_agrees t.slots u.slots es same)
   arguments_same _ same = refl
 
-  -- slots that agree before an instruction agree after it, and so does the one that it writes
+  -- slots that agree before an instruction agree after it, including the one that it writes
   written_same : (o : Option ℕ) (v w : ℤ) (k : ℕ) → v ≡ w → length t.slots ≡ length u.slots → (o ≢ Some k → Agree t.slots u.slots k)
       → Agree (option_map_or (λ j. slice_set t.slots j v) o t.slots) (option_map_or (λ j. slice_set u.slots j w) o u.slots) k
   written_same None v w k same count agree = agree (λ e. none-some k e)
@@ -120,14 +120,14 @@ module _ (code : Code) (live : Liveness) (closed : IsClosed code live) (t u : Lo
   same_values : SameValues t.slots u.slots (exprs_of i)
   same_values = values_agree t.slots u.slots (exprs_of i) (λ k named. alike.slots k (closed.reads t.function t.instruction k i there named))
 
-  -- they are at one instruction
+  -- the two threads are at the same instruction
   pub at_same : instr_of code u ≡ Some i
   at_same =
       ap₂ (λ f p. cond u.has_exited None (instr_at code f p)) (sym alike.rest.function) (sym alike.place)
       ∙ ap (λ b. cond b None (instr_at code t.function t.instruction)) (sym alike.rest.has_exited)
       ∙ at
 
-  -- they ask the same
+  -- the two threads have the same request
   pub asks_alike : request u i ≡ request t i
   asks_alike = asks_same t u i same_values alike.rest.held alike.rest.handles
 
@@ -143,7 +143,7 @@ module _ (code : Code) (live : Liveness) (closed : IsClosed code live) (t u : Lo
         subst (λ xs. Agree xs (local_after u i v).slots k) (sym (slots_after t i v))
         (subst (λ ys. Agree (option_map_or (λ j. slice_set t.slots j (brought t i v)) (written i) t.slots) ys k) (sym (slots_after u i v)) same)
 
-    -- and they are alike after it
+    -- the two threads are alike after it
     pub after_alike : AreAlike live (local_after t i v) (local_after u i v)
     after_alike =
         let first = after_has t i v in
@@ -161,7 +161,7 @@ module _ (code : Code) (live : Liveness) (closed : IsClosed code live) (t u : Lo
           };
         }
 
--- what holds of two threads holds the other way round
+-- being alike is symmetric
 pub alike_back : (live : Liveness) (t u : Local) → AreAlike live t u → AreAlike live u t
 alike_back live t u alike = record {
   place = sym alike.place;
@@ -179,10 +179,10 @@ alike_back live t u alike = record {
 
 -- the thread after a request that read a value
 abbrev pub after_request : Local → Instr → Request → ℤ → Local
-after_request t i Fail v = stepped t
+after_request t i Fail v = step_in_place t
 after_request t i r v = local_after t i v
 
-stepped_alike : (live : Liveness) (t u : Local) → AreAlike live t u → AreAlike live (stepped t) (stepped u)
+stepped_alike : (live : Liveness) (t u : Local) → AreAlike live t u → AreAlike live (step_in_place t) (step_in_place u)
 stepped_alike live t u alike = record {
   place = alike.place;
   slots = alike.slots;
@@ -201,7 +201,7 @@ pub request_alike : (code : Code) (live : Liveness) → IsClosed code live → (
 request_alike code live closed t u i Fail v alike at = stepped_alike live t u alike
 request_alike code live closed t u i r v alike at = after_alike code live closed t u i alike at v
 
--- how many outcomes an instruction adds
+-- the number of outcomes that an instruction adds
 abbrev pub adds : Instr → ℕ
 adds (Branch e to) = 1
 adds _ = 0
@@ -211,7 +211,7 @@ outcomes_after t (Branch e to) v =
     ap (λ (x : Local). length x.outcomes) (branch_is t _ to) ∙ length-append t.outcomes (is_nonzero (value_in t e) ∷ [])
 outcomes_after t _ v = omega arith
 
--- a thread that is behind another stays behind
+-- a thread that is behind another stays behind it
 pub request_behind : (t u : Local) (i : Instr) (r : Request) (v : ℤ) → IsBehind t u → IsBehind (after_request t i r v) (after_request u i r v)
 request_behind t u i Fail v behind = record { steps = omega (arith, behind.steps); outcomes = behind.outcomes }
 request_behind t u i r v behind = record {

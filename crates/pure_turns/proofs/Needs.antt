@@ -1,4 +1,4 @@
--- Where no run without pure turns fails, no run fails.
+-- If no run without pure turns fails, no run fails.
 use Rattle.std.proofs.Common.{◌≡◌, ◌∙◌, inl, inr, ℕ, List, length, Option, Some, None, IsSome, sym, ap, subst, arith}
 use Rattle.std.specs.FinMap as fin
 use Rattle.std.proofs.lemmas.Option.{none-some, same_Some}
@@ -16,7 +16,7 @@ use Rattle.pure_turns.specs.Turn.{HasOutcomesUpTo, IsSameBut, HasNoPureTurn}
 use Rattle.pure_turns.proofs.Out.{stays_stuck, none_at_all}
 
 module _ {B : Type 0} (ops : BufferOps B) (code : Code) (lawful : IsLawful code) (live : Liveness) (closed : IsClosed code live) where
-  -- a thread without the turn's steps has no more outcomes
+  -- without the turn's steps a thread has no more outcomes than with them
   pub up_to_same : (k : ℕ) (n : Name) (v w : State B) → IsSameBut live n v w → HasOutcomesUpTo k w → HasOutcomesUpTo k v
   up_to_same k n v w same few q t there =
       elim (same_or_apart q n) [

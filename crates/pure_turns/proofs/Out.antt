@@ -1,4 +1,4 @@
--- Pure turns come out of runs.
+-- Pure turns can be removed from runs.
 use Rattle.std.proofs.Common.{◌≡◌, ◌∙◌, ◌⊎◌, inl, inr, ℕ, zero, suc, ◌+◌, ◌<◌, List, [], ◌∷◌, ◌++◌, length}
 use Rattle.std.proofs.Common.{true, false, Some, None, refl, sym, ap, subst, arith, slice_index_or}
 use Rattle.std.specs.Prelude.{option_and_then}
@@ -26,7 +26,7 @@ use Rattle.run_laws.proofs.Owners.{owners_hold}
 use Rattle.tc_code.specs.Lawful.{IsLawful}
 
 module _ {B : Type 0} (ops : BufferOps B) (code : Code) (live : Liveness) (closed : IsClosed code live) where
-  -- the end of a run from the second of two states that are the same but for one thread
+  -- the end of a run from the second of two states that differ in one thread
   record EndsSame (n : Name) (v w : State B) (moves : List Move) : Type 0 where
     state : State B
     leads : run_from ops code v moves ≡ Some state
@@ -61,11 +61,11 @@ module _ {B : Type 0} (ops : BufferOps B) (code : Code) (live : Liveness) (close
         same = r.same;
       })
 
-  -- moves after others, and those before them
+  -- a run of some moves after others
   runs_on : (s u : State B) (xs ys : List Move) → run_from ops code s xs ≡ Some u → run_from ops code s (xs ++ ys) ≡ run_from ops code u ys
   runs_on s u xs ys leads = run_from-append ops code s xs ys ∙ ap (option_and_then (λ z. run_from ops code z ys)) leads
 
-  -- a deadlock stays one
+  -- a deadlock stays a deadlock
   module _ (n : Name) (v w : State B) (reached : IsReached ops code v) (same : IsSameBut live n v w) where
     back : Differ Equal n same.less same.more same.buffer v w
     back = record {
@@ -98,7 +98,7 @@ module _ {B : Type 0} (ops : BufferOps B) (code : Code) (live : Liveness) (close
     }
 
 module _ {B : Type 0} (ops : BufferOps B) (code : Code) (lawful : IsLawful code) (live : Liveness) (closed : IsClosed code live) where
-  -- who holds the same in both states owns no more in the first
+  -- a thread that holds the same in both states owns no more in the first
   owns_same : (n : Name) (t u : Local) (b : B) (s v : State B) → IsReached ops code s → IsReached ops code v → Lags ops code lawful n t u b s v
       → u.held ≡ t.held → (m : ℕ) → (owner s.owners m ≡ owner v.owners m) ⊎ ((owner s.owners m ≡ Some n) × (owner v.owners m ≡ None))
       → owner s.owners m ≡ owner v.owners m
@@ -155,7 +155,8 @@ module _ {B : Type 0} (ops : BufferOps B) (code : Code) (lawful : IsLawful code)
         same = r.same;
       }
 
-  -- what a state has without a turn's steps if it has it with them, and no run without pure turns reaches, no run reaches
+  -- if removing turns keeps a property of states, and no run without pure turns reaches it, no run
+  -- does
   module _ (P : State B → Type 0) (keeps : (n : Name) (v w : State B) → IsReached ops code v → IsSameBut live n v w → P w → P v)
       (none : (moves : List Move) (s : State B) → run ops code moves ≡ Some s → HasNoPureTurn ops code live moves → P s → ⊥) where
     none_within : (k : ℕ) (moves : List Move) (s : State B) → length moves < k → run ops code moves ≡ Some s → P s → ⊥

@@ -1,4 +1,5 @@
--- States that differ in one thread, which is alike in both: each move from one is a move from the other.
+-- Two states that differ in one thread, which is alike in both: each move of the first is a move of
+-- the second.
 use Rattle.std.proofs.Common.{◌≡◌, ◌∙◌, inl, inr, ℕ, ◌+◌, ℤ, pos, true, List, Some, None, refl, sym, ap, subst, IsTrue}
 use Rattle.std.specs.FinMap as fin
 use Rattle.std.specs.FinSet as set
@@ -14,7 +15,7 @@ use Rattle.tc_base.specs.declared.request.Request.TheVariants.{Read, Write, Exch
 use Rattle.tc_code.specs.declared.instr.Instr.{Instr}
 use Rattle.tc_code.specs.declared.instr.Instr.TheVariants.{Signal}
 use Rattle.tc_code.specs.Code.{Code}
-use Rattle.tc_code.specs.Step.{request, arguments_of, instr_of, with_thread, waiting_on, in_memory, loaded, allows, did, born, perform, woken, step}
+use Rattle.tc_code.specs.Step.{request, arguments_of, instr_of, with_thread, waiting_on, in_memory, loaded, allows, state_after_step, born, perform, state_after_wake, step}
 use Rattle.tc_code.specs.Run.{IsReached}
 use Rattle.run_laws.proofs.Names.{is_same, child_apart}
 use Rattle.run_laws.proofs.Steps.{Ran, Woke, none_failed, step_went}
@@ -26,7 +27,7 @@ use Rattle.pure_turns.proofs.Owners.{Equal, equal_keeps}
 use Rattle.pure_turns.proofs.Differ.{ThreadsDiffer, Differ, either_way, put_other, put_own, allows_too, going_same, moved_other}
 
 module _ {B : Type 0} (ops : BufferOps B) (code : Code) (n : Name) where
-  -- a thread does the instruction that is next, and a signal that wakes a thread
+  -- a thread does its next instruction, maybe a signal that wakes a thread
   pub record RanOf (s s₁ : State B) (x : Thread B) : Type 0 where
     pub instr : Instr
     pub at : instr_of code x.local ≡ Some instr
@@ -38,7 +39,7 @@ module _ {B : Type 0} (ops : BufferOps B) (code : Code) (n : Name) where
     at : instr_of code x.local ≡ Some (Signal condition)
     empty : IsTrue (ops.is_empty x.buffer)
     waits : IsTrue (set.contains (waiting_on s condition) w)
-    after : s₁ ≡ woken ops s n w x condition
+    after : s₁ ≡ state_after_wake ops s n w x condition
 
   pub ran_of : (s s₁ : State B) (x : Thread B) → fin.get s.threads n ≡ Some x → Ran ops code s s₁ n → RanOf s s₁ x
   ran_of s s₁ x there w =
@@ -89,11 +90,11 @@ module _ {B : Type 0} (ops : BufferOps B) (code : Code) (n : Name) where
       whole = perform ops code s n (record { local = t; buffer = b }) i (Start f)
 
       grown : ℕ → List ℤ → State B
-      grown k xs = with_thread (did ops (record s { threads = vs }) n (record { local = u; buffer = b }) i) (child n (k + 1)) (born ops code f xs)
+      grown k xs = with_thread (state_after_step ops (record s { threads = vs }) n (record { local = u; buffer = b }) i) (child n (k + 1)) (born ops code f xs)
   performs t u b s vs i _ d children arguments =
       record { value = pos 0; buffer = b; differ = record { shared = refl; owners = refl; threads = put_own n t u _ _ b b s.threads vs d } }
 
-  -- a move from the second state, after which the thread is alike in both
+  -- a move of the second state after which the thread is alike in both
   pub record Twin (live : Liveness) (t u : Local) (s₁ v : State B) (m : Move) : Type 0 where
     pub first : Local
     pub second : Local
@@ -105,7 +106,7 @@ module _ {B : Type 0} (ops : BufferOps B) (code : Code) (n : Name) where
     pub behind : IsBehind u t → IsBehind second first
 
   module _ (live : Liveness) (closed : IsClosed code live) (t u : Local) (b : B) (s v : State B) (d : Differ Equal n t u b s v) (alike : AreAlike live t u) where
-    -- the states share all but the threads
+    -- the states share everything except the threads
     shares : v ≡ record s { threads = v.threads }
     shares = d.shared ∙ ap (λ os. record s { threads = v.threads; owners = os }) (sym d.owners)
 
@@ -145,12 +146,12 @@ module _ {B : Type 0} (ops : BufferOps B) (code : Code) (n : Name) where
           first = first;
           second = second;
           buffer = b;
-          state = woken ops v n q other w.condition;
+          state = state_after_wake ops v n q other w.condition;
           one = makes_wake ops code v n other (going_same Equal equal_keeps ops code n t u b s v d alike.rest.has_exited none) d.threads.here q w.condition
               (at_same code live closed t u i alike w.at) w.empty (ap (λ (x : State B). set.contains (waiting_on x w.condition) q) shares ∙ w.waits);
           differ =
-              subst (λ x. Differ Equal n first second b x (woken ops v n q other w.condition)) (sym w.after)
-              (subst (λ y. Differ Equal n first second b (woken ops s n q own w.condition) (woken ops y n q other w.condition)) (sym shares)
+              subst (λ x. Differ Equal n first second b x (state_after_wake ops v n q other w.condition)) (sym w.after)
+              (subst (λ y. Differ Equal n first second b (state_after_wake ops s n q own w.condition) (state_after_wake ops y n q other w.condition)) (sym shares)
               (record { shared = refl; owners = refl; threads = put_own n t u first second b b s.threads v.threads d.threads }));
           alike = request_alike code live closed t u i Silent (pos 0) alike w.at;
           behind = request_behind u t i Silent (pos 0);
@@ -170,7 +171,7 @@ module _ {B : Type 0} (ops : BufferOps B) (code : Code) (n : Name) where
         (woke_of s s₁ own w d.threads.there (subst (λ p. Woke ops code s s₁ p w) (sym same) went)))
     own_goes s₁ (move.Drain q form) one own_step = absurd (true≢false (sym own_step))
 
-    -- each move from the first state is one from the second
+    -- each move of the first state is a move of the second
     pub twin_goes : (s₁ : State B) (m : Move) → IsReached ops code s → step ops code s m ≡ Some s₁ → Twin live t u s₁ v m
     twin_goes s₁ m reached one =
         elim (cases_Bool (is_step_of n m)) [

@@ -1,4 +1,4 @@
--- Owners of mutexes that differ only in what one thread has locked.
+-- Owners of mutexes that differ only in what one thread has acquired.
 use Rattle.std.proofs.Common.{◌≡◌, ◌∙◌, ◌⊎◌, inl, inr, ℕ, zero, suc, List, [], ◌∷◌, length, Option, Some, None, refl, sym, ap, ap₂, subst, arith}
 use Rattle.std.proofs.Common.{slice_set, slice_index_or}
 use Rattle.std.proofs.lemmas.List.{length-set}
@@ -13,7 +13,7 @@ Owners = List (Option Name)
 abbrev pub owner : Owners → ℕ → Option Name
 owner os m = slice_index_or os m None
 
--- what a relation of owners has to keep so that the threads may do the same
+-- what a relation of owners has to keep so that other threads can do the same
 pub record Keeping (Related : Owners → Owners → Type 0) : Type 0 where
   pub sets : (os ps : Owners) (m : ℕ) (x : Option Name) → Related os ps → Related (slice_set os m x) (slice_set ps m x)
   pub frees : (os ps : Owners) (m : ℕ) → Related os ps → owner os m ≡ None → owner ps m ≡ None
@@ -26,11 +26,11 @@ pub equal_keeps : Keeping Equal
 equal_keeps = record { sets = λ os ps m x same. ap (λ ns. slice_set ns m x) same; frees = λ os ps m same free. ap (λ ns. owner ns m) (sym same) ∙ free }
 
 module _ (n : Name) where
-  -- the owners are one, or the first is the thread and the second none
+  -- the owners are the same, or the first is the thread and the second is none
   abbrev Taken : Option Name → Option Name → Type 0
   Taken o p = (o ≡ p) ⊎ ((o ≡ Some n) × (p ≡ None))
 
-  -- a thread owns more in the first
+  -- the thread may own more in the first
   pub record OwnsMore (os ps : Owners) : Type 0 where
     pub count : length os ≡ length ps
     pub each : (m : ℕ) → Taken (owner os m) (owner ps m)
@@ -61,7 +61,7 @@ module _ (n : Name) where
   pub equal_is_more : (os : Owners) → OwnsMore os os
   equal_is_more os = record { count = refl; each = λ m. inl refl }
 
-  -- the thread takes a mutex that has no owner in the second, or leaves it
+  -- the thread acquires or releases a mutex that has no owner in the second
   sets_first : (os ps : Owners) (m : ℕ) (x : Option Name) → owner ps m ≡ None → (x ≡ Some n) ⊎ (x ≡ None) → OwnsMore os ps → OwnsMore (slice_set os m x) ps
   sets_first os ps m x free own more = record {
     count = length-set os m x ∙ more.count;
@@ -81,7 +81,7 @@ module _ (n : Name) where
   pub leaves_first : (os ps : Owners) (m : ℕ) → owner ps m ≡ None → OwnsMore os ps → OwnsMore (slice_set os m None) ps
   leaves_first os ps m free more = sets_first os ps m None free (inr refl) more
 
--- owners that are the same of each mutex are the same
+-- lists with the same owner of each mutex are the same
 pub same_owners : (os ps : Owners) → length os ≡ length ps → ((m : ℕ) → owner os m ≡ owner ps m) → os ≡ ps
 same_owners [] [] same each = refl
 same_owners [] (p ∷ ps) same each = absurd (omega (arith, same))

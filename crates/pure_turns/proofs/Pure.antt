@@ -1,4 +1,4 @@
--- A thread's pure steps change nothing but its own place, slots, outcomes and steps.
+-- A thread's pure steps change only its own place, slots, outcomes and number of steps.
 use Rattle.std.proofs.Common.{◌≡◌, ◌∙◌, ◌⊎◌, inl, inr, ℕ, ◌+◌, ◌<◌, ◌≤◌, ℤ, pos, Bool, true, false, not, ◌||◌, cond, List, [], ◌∷◌, length}
 use Rattle.std.proofs.Common.{Option, Some, None, refl, sym, ap, subst, arith, slice_set, slice_index_or}
 use Rattle.std.specs.Prelude.{option_and_then, option_map}
@@ -40,7 +40,8 @@ use Rattle.pure_turns.proofs.Own.{RanOf, ran_of}
 never : {A : Type 0} → false ≡ true → A
 never e = absurd (true≢false (sym e))
 
--- a thread has what it had, but for place, values of slots, mutexes, outcomes and steps
+-- a thread may have another place, other slots, mutexes, outcomes and steps, but nothing else is
+-- changed
 pub record HasKept (t u : Local) : Type 0 where
   pub function : t.function ≡ u.function
   pub slots : length t.slots ≡ length u.slots
@@ -51,7 +52,7 @@ pub record HasKept (t u : Local) : Type 0 where
 kept_all : (t : Local) → HasKept t t
 kept_all t = record { function = refl; slots = refl; handles = refl; children = refl; has_exited = refl }
 
--- an instruction with a pure request leaves the thread that
+-- an instruction with a pure request changes nothing else of the thread
 pure_keeps : {B : Type 0} (s : State B) (held : List Bool) (t : Local) (i : Instr) (v : ℤ) → is_pure s held (request t i) ≡ true
     → HasKept t (local_after t i v)
 pure_keeps s held t (Set k e) v pure =
@@ -84,7 +85,7 @@ site_leaves_none : (b : Bool) (m : ℕ) → site b ≡ Release m → ⊥
 site_leaves_none true m e = cc
 site_leaves_none false m e = cc
 
--- only an unlock asks to release a mutex
+-- only an unlock requests to release a mutex
 releases : (t : Local) (i : Instr) (m : ℕ) → request t i ≡ Release m → i ≡ Unlock m
 releases t (Unlock l) m e = cc
 releases t (Inside len x) m e = absurd (site_leaves_none _ m e)
@@ -95,7 +96,7 @@ releases t (Nonzero x) m e = absurd (site_leaves_none _ m e)
 releases t (InRange x) m e = absurd (site_leaves_none _ m e)
 releases t i m e = absurd cc
 
--- a value that is stored where it is changes nothing
+-- storing the value that is there changes nothing
 writes_back : (memory : List ℤ) (c : ℕ) (x : ℤ) → int_eq x (slice_index_or memory c (pos 0)) ≡ true → memory ≡ slice_set memory c x
 writes_back memory c x same = sym (set_same memory c) ∙ ap (slice_set memory c) (sym ((Decides-int_eq x _).0 same))
 
@@ -104,11 +105,11 @@ abbrev Touches : Request → ℕ → Type 0
 Touches r m = (r ≡ Acquire m) ⊎ (r ≡ Release m)
 
 module _ {B : Type 0} (ops : BufferOps B) (code : Code) (lawful : IsLawful code) (n : Name) where
-  -- the first state may have more mutexes that the thread owns
+  -- the first state may have more mutexes owned by the thread
   abbrev pub Lags : (t u : Local) → B → State B → State B → Type 0
   Lags t u b s v = Differ (OwnsMore n) n t u b s v
 
-  -- after a pure step in the first state alone
+  -- the states after a pure step in the first only
   record Skips (t u : Local) (b : B) (i : Instr) (s₁ v : State B) : Type 0 where
     value : ℤ
     differ : Lags (local_after t i value) u b s₁ v
@@ -154,19 +155,20 @@ module _ {B : Type 0} (ops : BufferOps B) (code : Code) (lawful : IsLawful code)
     }
     performs_pure _ pure free = never pure
 
-  -- what a thread asks that is there
+  -- the request of the thread's next instruction names only what exists
   asks_there : (s : State B) (held : List Bool) (x : Thread B) (i : Instr) → fin.get s.threads n ≡ Some x → instr_of code x.local ≡ Some i
       → option_map_or (is_pure s held) (asks ops code s n) false ≡ is_pure s held (request x.local i)
   asks_there s held x i there at =
       ap (λ o. option_map_or (is_pure s held) (option_and_then (λ (t : Thread B). option_map (request t.local) (instr_of code t.local)) o) false) there
       ∙ ap (λ o. option_map_or (is_pure s held) (option_map (request x.local) o) false) at
 
-  -- a mutex that the thread owns in the first state, and not in the second, has no owner in the second
+  -- a mutex that the thread owns only in the first state has no owner in the second
   free_there : (o p : Option Name) → (o ≡ p) ⊎ ((o ≡ Some n) × (p ≡ None)) → o ≡ Some n → (p ≡ Some n → ⊥) → p ≡ None
   free_there o p (inl same) own not = absurd (not (sym same ∙ own))
   free_there o p (inr taken) own not = taken.1
 
-  -- the first state after some moves, in which the thread's steps are pure, and the second after the others alone
+  -- the first state after moves with pure steps of the thread, and the second after the other moves
+  -- only
   pub record Skipped (t u : Local) (s₂ v : State B) (moves : List Move) : Type 0 where
     pub local : Local
     pub buffer : B
@@ -239,12 +241,12 @@ module _ {B : Type 0} (ops : BufferOps B) (code : Code) (lawful : IsLawful code)
   steps_later held s w m ms one pure older newer x y is leads by =
       pure (m ∷ older) newer x y (ap (λ zs. m ∷ zs) is) (ap (option_and_then (λ z. run_from ops code z older)) one ∙ leads) by
 
-  -- so it is from a state, whatever local state the thread has there
+  -- the same from a state with any local state of the thread
   abbrev SkipsFrom : Local → State B → List Move → State B → Type 0
   SkipsFrom u s₂ ms w =
       (t : Local) (b : B) (v : State B) → IsReached ops code v → Lags t u b w v → t.has_exited ≡ u.has_exited → Skipped t u s₂ v ms
 
-  -- the others' moves, and drains, lead on without the thread's pure steps
+  -- the other threads' moves and the drains are still a run without the thread's pure steps
   pub skips : (moves : List Move) (t u : Local) (b : B) (s s₂ v : State B) → IsReached ops code s → IsReached ops code v → Lags t u b s v → t.has_exited ≡ u.has_exited
       → StepsArePure ops code n u.held s moves → run_from ops code s moves ≡ Some s₂ → Skipped t u s₂ v moves
   skips [] t u b s s₂ v reached lagging d exited pure leads = record {

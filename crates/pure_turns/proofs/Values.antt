@@ -1,4 +1,4 @@
--- Expressions and lists at which two threads agree.
+-- Expressions and lists on which two threads agree.
 use Rattle.std.proofs.Common.{◌≡◌, ◌≢◌, ℕ, zero, suc, ℤ, pos, List, [], ◌∷◌, map, length, Bool, true, false, ◌||◌, IsTrue, refl, ap, ap₂}
 use Rattle.std.proofs.Common.{slice_set, slice_index_or, arith}
 use Rattle.std.specs.List.{list_any}
@@ -14,12 +14,12 @@ or_right : (a b : Bool) → b ≡ true → (a || b) ≡ true
 or_right true b e = refl
 or_right false b e = e
 
--- one value in two lists
+-- two lists have the same value at a place
 abbrev pub Agree : List ℤ → List ℤ → ℕ → Type 0
 Agree xs ys k = slice_index_or xs k (pos 0) ≡ slice_index_or ys k (pos 0)
 
 module _ (xs ys : List ℤ) where
-  -- an expression has the same value where its slots have
+  -- an expression has the same value if its slots have
   value_agrees : (e : Expr) → ((k : ℕ) → IsTrue (names_slot k e) → Agree xs ys k) → value_of e xs ≡ value_of e ys
   value_agrees (Number n) agree = refl
   value_agrees (Slot k) agree = agree k ((Decides-eqb k k).1 refl)
@@ -32,7 +32,7 @@ module _ (xs ys : List ℤ) where
   SameValues [] = Unit {0}
   SameValues (e ∷ es) = (value_of e xs ≡ value_of e ys) × SameValues es
 
-  -- and so do expressions
+  -- expressions have the same values if their slots have
   pub values_agree : (es : List Expr) → ((k : ℕ) → IsTrue (list_any (names_slot k) es) → Agree xs ys k)
       → SameValues es
   values_agree [] agree = tt
@@ -45,7 +45,7 @@ module _ (xs ys : List ℤ) where
   map_agrees [] all = refl
   map_agrees (e ∷ es) all = ap₂ (λ v vs. v ∷ vs) all.0 (map_agrees es all.1)
 
--- where one value is set in both, they agree wherever they did, and there
+-- setting the same value in both keeps agreement, and adds this place
 pub set_agrees : (xs ys : List ℤ) (j k : ℕ) (x : ℤ) → length xs ≡ length ys → (j ≢ k → Agree xs ys k) → Agree (slice_set xs j x) (slice_set ys j x) k
 set_agrees [] [] j k x same agree = refl
 set_agrees [] (y ∷ ys) j k x same agree = absurd (omega (arith, same))
@@ -56,7 +56,7 @@ set_agrees (y ∷ ys) (z ∷ zs) (suc j) zero x same agree = agree (λ e. omega 
 set_agrees (y ∷ ys) (z ∷ zs) (suc j) (suc k) x same agree =
     set_agrees ys zs j k x (omega (arith, same)) (λ other. agree (λ e. other (omega (arith, e))))
 
--- what is set to what it is stays
+-- setting an element to its own value changes nothing
 pub set_same : (xs : List ℤ) (k : ℕ) → slice_set xs k (slice_index_or xs k (pos 0)) ≡ xs
 set_same [] k = refl
 set_same (x ∷ xs) zero = refl

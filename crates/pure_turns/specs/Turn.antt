@@ -35,7 +35,7 @@ is_step_of n (move.Run q) = same n q
 is_step_of n (move.Wake q u) = same n q
 is_step_of n (move.Drain q form) = false
 
--- the moves but for the steps of a thread
+-- the moves except the steps of a thread
 abbrev pub without_steps_of : Name → List Move → List Move
 without_steps_of n moves = filter (λ m. not (is_step_of n m)) moves
 

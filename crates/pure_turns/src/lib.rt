@@ -28,10 +28,10 @@ pub fn alike_threads_go_alike()
         → IsClosed code live → AreAlike live t u → instr_of code t ≡ Some i → AreAlike live (local_after t i v) (local_after u i v) }
 {}
 
-/// A pure turn of a thread can be left out of a run: without the thread's steps in it there are fewer
-/// moves, and they lead to the same state, except that the thread has taken fewer steps, has at most
-/// as many outcomes, and may have other values in slots that aren't live. So the same thread has
-/// failed at the same place, or none has, and a deadlock stays one.
+/// A pure turn of a thread can be left out of a run. Without the thread's steps in it, there are
+/// fewer moves, and they lead to the same state except for this thread: it has taken fewer steps,
+/// has at most as many outcomes, and may have other values in slots that aren't live. So the same
+/// thread has failed at the same place, or none has, and a deadlock stays one.
 pub fn pure_turns_come_out<B>()
     ensures run { (ops : BufferOps B) (code : Code) (live : Liveness) (n : Name) (older turn newer : List Move) (s w : State B)
         → IsLawful code → IsClosed code live → run ops code older ≡ Some s → IsPureTurn ops code live n s turn

@@ -1,5 +1,5 @@
--- In no world are the conjuncts of all groups true that a closed derivation reaches: the values that say the world would satisfy each
--- clause that is reached.
+-- No world satisfies the conjuncts of all groups that a closed derivation reaches: its values would
+-- satisfy each clause that is reached.
 use Rattle.std.proofs.Common.{◌≡◌, ◌∙◌, ℕ, ◌+◌, ◌-◌, ◌<◌, ◌≤◌, ℤ, true, List, [], length, map, take, get_or, inl, inr, refl, sym, subst, arith}
 use Rattle.std.specs.Prelude.{IsTrue, Some, slice_get}
 use Rattle.std.specs.List.{All, Contains, filter, range_with_len}
@@ -32,7 +32,7 @@ use Rattle.refute_core.proofs.Rests.{reached_are_unsatisfiable}
 use Rattle.reached_groups.specs.Groups.{AreReachedGroups}
 use Rattle.reached_groups.specs.Laws.{GroupsBind, IsWorldIn}
 
--- the same world, with the ranks of its events in place of their positions
+-- the same world, with ranks in place of positions
 abbrev ranked : World → World
 ranked w = record w { positions = ranks_of w.positions }
 
@@ -55,7 +55,7 @@ module _ (o : Order) (loads : ℕ) (w : World) (is : IsWorldIn o loads w) where
     chosen = is.chosen;
   }
 
--- the clauses of a list that values make true, by number
+-- the numbers of the clauses that values make true
 abbrev true_places : Valuation → List (List ℤ) → List ℕ
 true_places v cs = filter (λ n. clause_true v (get_or cs n [])) (range_with_len 0 (length cs))
 
@@ -70,7 +70,7 @@ is_among v cs n below holds =
     in_filter (λ n. clause_true v (get_or cs n [])) n (range_with_len 0 (length cs))
     (n, omega (arith, below, length-range_with_len 0 (length cs)), omega (arith, get_or-range_with_len 0 (length cs) n n below)) holds
 
--- the clauses before a place, where all of them are true
+-- if the clauses before a place are all true, each of them is
 first_true : (v : Valuation) (cs : List (List ℤ)) (m n : ℕ) → IsTrue (satisfies v (take m cs)) → n < m → n < length cs → clause_true v (get_or cs n []) ≡ true
 first_true v cs m n all less below =
     subst (λ c. clause_true v c ≡ true) (get_or-take m cs n [] less)

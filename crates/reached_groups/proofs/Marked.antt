@@ -1,4 +1,4 @@
--- The groups of marked conjuncts are those that are reached.
+-- The groups of marked conjuncts are those that the derivation reaches.
 use Rattle.std.proofs.Common.{◌≡◌, ◌∙◌, ℕ, zero, suc, ◌+◌, ◌<◌, ◌≤◌, Bool, true, false, cond, List, [], ◌∷◌, ◌++◌, length, drop, get_or, append_assoc, Some, inl, inr, refl, sym, ap, subst, arith}
 use Rattle.std.specs.Prelude.{◌↔◌, slice_get}
 use Rattle.std.specs.List.{Contains}
@@ -19,7 +19,7 @@ module _ (b : Blasted) (marks : List Bool) where
   abbrev mark_of : ℕ → Bool
   mark_of k = get_or marks (root_of b k) false
 
-  -- a marked conjunct of some from a number on
+  -- a marked conjunct of this group among those from a number on
   record IsMarked (from : ℕ) (cs : List Conjunct) (g : Group) : Type 0 where
     k : ℕ
     c : Conjunct
@@ -59,7 +59,7 @@ module _ (b : Blasted) (marks : List Bool) where
       by true i = in_back c.group d.group (marked_from b marks (from + 1) cs) i
       by false i = i
 
--- with the next conjunct, which is marked or isn't
+-- the next conjunct, which is marked or not
 module _ (b : Blasted) (marks : List Bool) (formula : List Conjunct) (n : ℕ) (all groups : List Group)
     (sofar : groups ++ marked_from b marks n (drop n formula) ≡ all) where
   abbrev rest : List Group
@@ -81,7 +81,7 @@ module _ (b : Blasted) (marks : List Bool) (formula : List Conjunct) (n : ℕ) (
     | inr past ↦ absurd (omega (arith, below, past.0))
   ]
 
--- those of marks that tell what a derivation reaches, put in order
+-- the groups of the marks of a derivation, in order, are those that it reaches
 pub are_reached : (formula : List Conjunct) (b : Blasted) (lines : List Line) (marks : List Bool) (groups : List Group)
     → AreReached b.clauses lines marks → b.conjuncts ≡ length formula → length formula ≤ length b.clauses.clauses
     → IsStrictlySortedBy group_cmp groups → ((g : Group) → Contains (marked_from b marks 0 formula) g ↔ Contains groups g)

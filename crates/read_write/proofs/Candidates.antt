@@ -1,4 +1,4 @@
--- One access as a write that a load may take its value from: what the formula and the rule say of it.
+-- One access as a write whose value a load may take: in the formula and in the rule.
 use Rattle.std.proofs.Common.{◌≡◌, ◌⊎◌, ℕ, ◌<◌, ◌&&◌, ◌||◌, ◌==◌, not, Bool, true, false, List, get_or, Option, Some, None, inl, inr}
 use Rattle.std.proofs.Common.{refl, ap, sym, subst, ◌∙◌, arith}
 use Rattle.std.specs.Prelude.{nat_lt, is_some, is_none, unwrap_or, option_map, option_and_then, if◌then◌else◌}
@@ -23,7 +23,7 @@ use Rattle.read_write.specs.Accesses.{is_one, is_earlier}
 use Rattle.read_write.specs.Reading.{may_be_seen, test_of, candidate_of, candidate_with}
 
 module _ (nodes : List Node) (load : Of Access) where
-  -- the test of a write that may be seen is that of the two cells
+  -- the test of a write that may be seen is that of their two cells
   pub tests_of : (b : Of Access) (v : ℕ) → may_be_seen nodes load b ≡ true → b.it.writes ≡ Some v
       → test_of nodes load b ≡ same_test nodes b.it.cell load.it.cell
   tests_of b v may writes =
@@ -53,7 +53,7 @@ module _ (events : List (Of Event)) (nodes : List Node) (load : Of Access) where
       ap (λ m. if m then option_map (candidate_with events nodes load b) b.it.writes else None) may ∙ ap (option_map (candidate_with events nodes load b)) is
 
 module _ (paths : Paths) (nodes : List Node) (w : World) (are : AreTerms nodes) (load : Of Access) where
-  -- where the test of indexes is there, the formula tells whether a write is to the load's cell
+  -- if the test of indexes exists, the formula knows whether a write is to the load's cell
   abbrev is_told : Of Access → Bool
   is_told b = option_map_or (passes_at nodes w) (option_map (id_of nodes) (same_test nodes b.it.cell load.it.cell)) true
 
@@ -71,7 +71,7 @@ module _ (paths : Paths) (nodes : List Node) (w : World) (are : AreTerms nodes) 
       by None is None at = absurd (false≢true (sym (ap is_some at) ∙ either nodes b.it.cell load.it.cell ∙ ap is_none is))
       by None is (Some n) at = sym (tested nodes w b.it.cell load.it.cell n are at (there n at))
 
-  -- what is to the load's cell isn't known to be to another
+  -- a write to the load's cell isn't known to be to another
   may_be : (b : Of Access) → is_same_cell nodes w b.it.cell load.it.cell ≡ true → unwrap_or (known_same nodes b.it.cell load.it.cell) true ≡ true
   may_be b same = by (known_same nodes b.it.cell load.it.cell) refl
     where
@@ -80,11 +80,11 @@ module _ (paths : Paths) (nodes : List Node) (w : World) (are : AreTerms nodes) 
       by (Some true) is = refl
       by (Some false) is = absurd (false≢true (sym (told nodes w b.it.cell load.it.cell false is) ∙ same))
 
-  -- the load comes after it, in the order or on its path
+  -- the load comes after the access, in the order or on its path
   abbrev pub IsAfter : Of Access → Type 0
   IsAfter b = IsBefore paths w b.thread b.it.step load.thread load.it.step ⊎ ((b.thread ≡ load.thread) × (b.it.step < load.it.step))
 
-  -- so it isn't the load itself
+  -- the access isn't the load itself
   not_itself : (b : Of Access) → IsAfter b → is_one b load ≡ false
   not_itself b after = by (is_one b load) refl
     where
@@ -107,7 +107,7 @@ module _ (paths : Paths) (nodes : List Node) (w : World) (are : AreTerms nodes) 
       and_from (not (is_one b load)) (unwrap_or (known_same nodes b.it.cell load.it.cell) true)
       (not_from_false (is_one b load) (not_itself b after)) (may_be b same)
 
-  -- the formula's word for it
+  -- the formula's test whether the load sees it
   abbrev is_seen : Of Access → ℕ → Bool
   is_seen b event = is_earlier b load || is_before w (number_of paths b.thread b.it.step) event
 
@@ -132,7 +132,7 @@ module _ (paths : Paths) (nodes : List Node) (w : World) (are : AreTerms nodes) 
             (and_from (b.thread == load.thread) (nat_lt b.it.step load.it.step) (eq-eqb b.thread load.thread path.0) (lt-ltb b.it.step load.it.step path.1))
       ]
 
-  -- the formula reads a candidate where the rule sees the access
+  -- the formula reads a candidate exactly if the load sees the access by the rule
   module _ (r : plain.Read) (at : r.event ≡ number_of paths load.thread load.it.step) (b : Of Access) (c : Candidate)
       (of : IsCandidate (all_events paths) nodes load b c) (there : (n : Node) → test_of nodes load b ≡ Some n → Contains nodes n) where
     told_here : is_told b ≡ is_same_cell nodes w b.it.cell load.it.cell

@@ -1,4 +1,4 @@
--- The events that a conjunct names are all different: so are the accesses of the threads, by thread and step.
+-- The events of a conjunct are all different, since accesses differ in thread or step.
 use Rattle.std.proofs.Common.{◌≡◌, ◌∙◌, ℕ, ◌+◌, ◌<◌, ◌==◌, Bool, true, false, List, [], ◌∷◌, ◌++◌, map, Option, Some, None, refl, sym, ap, subst, arith}
 use Rattle.std.specs.Prelude.{slice_get, suc, not, unwrap_or}
 use Rattle.std.specs.List.{Contains, IsDistinct, cons_option, filter_map}
@@ -26,12 +26,12 @@ use Rattle.read_write.proofs.Candidates.{candidate_parts}
 use Rattle.read_write.proofs.Formulas.{load_from}
 use Rattle.read_write.proofs.Numbers.{access_of}
 
--- ---- lists no two elements of which are equal by a test
+-- ---- lists without two equal elements
 
 distinct_none : {X : Type 0} (e : X → X → Bool) → IsDistinct e []
 distinct_none e = IsDistinct-from_apart e [] (λ i j d less within. absurd (omega (arith, within)))
 
--- one element more, which differs from each
+-- one more element, which differs from each
 distinct_more : {X : Type 0} (e : X → X → Bool) (x : X) (xs : List X) → ((y : X) → Contains xs y → e x y ≡ false) → IsDistinct e xs → IsDistinct e (x ∷ xs)
 distinct_more e x xs differs d =
     IsDistinct-cons e x xs (recursion_from_All (λ y. e x y ≡ false) xs (each_in (λ y. e x y ≡ false) xs differs)) d
@@ -46,7 +46,7 @@ distinct_both {X} e (x ∷ xs) ys one two differ =
     (All-append Differs xs ys (All-from_recursion Differs xs (IsDistinct-head e x xs one)) (each_in Differs ys (λ y i. differ x y (in_front x xs) i))))
     (distinct_both e xs ys (IsDistinct-tail e x xs one) two (λ z y i j. differ z y (in_back z x xs i) j))
 
--- what two elements that differ give has different keys
+-- the results of two different elements have different keys
 abbrev KeysDiffer : {X Y : Type 0} → (X → X → Bool) → (X → Option Y) → (Y → ℕ) → List X → Type 0
 KeysDiffer {X} {Y} e h key xs =
     (a b : X) (y z : Y) → Contains xs a → Contains xs b → e a b ≡ false → h a ≡ Some y → h b ≡ Some z → (key y == key z) ≡ false
@@ -91,7 +91,7 @@ other_step a b less = grind (arith, less)
 is_same : (a b : Of Access) → a.thread ≡ b.thread → a.it.step ≡ b.it.step → is_one a b ≡ true
 is_same a b thread step = grind (arith, thread, step)
 
--- they rise along each course
+-- the steps of accesses rise along each course
 abbrev Rise : List Course → Type 0
 Rise cs = (t j k : ℕ) (c : Course) (a b : Access) → slice_get cs t ≡ Some c → slice_get c.accesses j ≡ Some a → slice_get c.accesses k ≡ Some b → j < k
     → a.step < b.step
@@ -131,7 +131,7 @@ module _ (code : Code) (paths : Paths) (symbolic : Symbolic) (nodes : List Node)
     abbrev candidates : List Candidate
     candidates = filter_map (candidate_of (all_events paths) nodes load) (all_accesses symbolic)
 
-    -- a candidate is the event of an access, which isn't the load's own
+    -- a candidate is the event of an access other than the load's
     record IsOther (a : Of Access) (c : Candidate) : Type 0 where
       event : c.event ≡ number_of paths a.thread a.it.step
       other : is_one a load ≡ false

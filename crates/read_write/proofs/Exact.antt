@@ -1,4 +1,4 @@
--- A load's conjunct is true exactly where the load takes what the rule says.
+-- A load's conjunct is true exactly if the load takes the value of the rule.
 use Rattle.std.proofs.Common.{◌≡◌, ◌⊎◌, ℕ, ℤ, pos, ◌<◌, ◌≤◌, true, List, ◌∷◌, length, get_or, Option, Some, None, inl, inr, refl, ap, sym, subst, ◌∙◌, arith}
 use Rattle.std.specs.Prelude.{IsSome, is_some, option_map}
 use Rattle.std.specs.List.{Contains, filter_map}
@@ -36,7 +36,7 @@ use Rattle.order_events.proofs.Numbers.{has_number, one_step}
 use Rattle.read_write.proofs.Numbers.{access_in, access_of, one_access, one_position}
 use Rattle.read_write.proofs.Candidates.{IsCandidate, after_from_read, candidate_parts, candidate_there, may_from, read_from_after}
 
--- what it is about: a world of whole paths
+-- the setting: a world of whole paths
 pub record IsAbout (paths : Paths) (symbolic : Symbolic) (nodes : List Node) (w : World) : Type 0 where
   pub world : IsWorld w
   pub of : IsWorldOf paths symbolic w
@@ -69,7 +69,7 @@ module _ (code : Code) (paths : Paths) (symbolic : Symbolic) (nodes : List Node)
   abbrev tests : List Node
   tests = filter_map (test_of nodes load) (all_accesses symbolic)
 
-  -- tests of indexes are there
+  -- the tests of indexes exist
   tests_are : (b : Of Access) → Contains (all_accesses symbolic) b → (n : Node) → test_of nodes load b ≡ Some n → Contains nodes n
   tests_are b i n is =
       let among : Contains tests n = in_filter_map (test_of nodes load) b n (all_accesses symbolic) i is in
@@ -100,7 +100,7 @@ module _ (code : Code) (paths : Paths) (symbolic : Symbolic) (nodes : List Node)
         };
       }
 
-  -- and the other way round
+  -- an access that the load sees is a candidate that is read
   record IsRead (u : ℕ) (b : Access) : Type 0 where
     candidate : Candidate
     among : Contains read.candidates candidate
@@ -122,14 +122,14 @@ module _ (code : Code) (paths : Paths) (symbolic : Symbolic) (nodes : List Node)
         of = of;
       }
 
-  -- where candidates stand
+  -- the place of an access among the events
   abbrev place : ℕ → Access → ℕ
   place u b = position w (number_of paths u b.step)
 
   stands : (u : ℕ) (b : Access) (c : Candidate) → IsCandidate events nodes load (of_thread u b) c → position w c.event ≡ place u b
   stands u b c of = ap (λ (d : Candidate). position w d.event) of.is
 
-  -- two accesses of one place are one
+  -- two accesses at one place are the same
   step_of : (u : ℕ) (b : Access) → HasAccess symbolic u b → HasStep paths u b.step
   step_of u b there = let e = about.executed.accesses u b there in (e.0, e.1, e.2)
 
@@ -157,7 +157,7 @@ module _ (code : Code) (paths : Paths) (symbolic : Symbolic) (nodes : List Node)
   takes_value : (asks code paths symbolic nodes w a).takes ≡ Some (value_at nodes w read.takes)
   takes_value = ap (option_map (λ k. get_or w.loads k (pos 0))) takes ∙ ap Some (sym taken)
 
-  -- what the conjunct says, by the write that it takes the value of
+  -- the meaning of the conjunct, by the write whose value it takes
   abbrev value_from : Option Candidate → ℤ
   value_from o = option_map_or (λ c. value_at nodes w c.value) o (value_at nodes w read.start)
 

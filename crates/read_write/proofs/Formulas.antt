@@ -1,4 +1,4 @@
--- The conjuncts of a line's loads are true exactly where the rule holds.
+-- The conjuncts of a line's loads are true exactly if the rule holds.
 use Rattle.std.proofs.Common.{◌≡◌, ℕ, true, List, [], Option, Some, None, refl, ap, sym, subst, ◌∙◌}
 use Rattle.std.specs.Prelude.{IsSome, is_some, option_map}
 use Rattle.std.specs.List.{All, Contains}
@@ -32,7 +32,7 @@ pub mapped : {X Y : Type 0} (f : X → Y) (o : Option X) (y : Y) → option_map 
 mapped f None y is = absurd (none-some y is)
 mapped f (Some x) y is = (x, refl, same_Some (f x) y is)
 
--- what a load needs is there where all is that the loads need
+-- what one load needs exists if everything that the loads need does
 pub needed : (code : Code) (symbolic : Symbolic) (nodes : List Node) → All (Contains nodes) (read_needs code symbolic nodes)
     → (b : Of Access) (number : ℕ) → Contains (all_accesses symbolic) b → b.it.takes ≡ Some number
     → (n : Node) → Contains (needs_of code (all_accesses symbolic) nodes b number) n → Contains nodes n

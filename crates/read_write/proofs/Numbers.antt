@@ -19,7 +19,7 @@ use Rattle.order_events.proofs.Numbers.{has_number, in_all_from, is_step_at, of_
 use Rattle.read_write.specs.Accesses.{all_accesses}
 use Rattle.read_write.specs.Reading.{line_in}
 
--- of a list in which a key rises, two of one key are one
+-- in a list with a rising key, two elements with the same key are the same
 one_of_key : {X : Type 0} (key : X → ℕ) (xs : List X)
     → ((j k : ℕ) (x y : X) → slice_get xs j ≡ Some x → slice_get xs k ≡ Some y → j < k → key x < key y)
     → (x y : X) → Contains xs x → Contains xs y → key x ≡ key y → x ≡ y
@@ -32,7 +32,7 @@ one_of_key key xs rise x y i j same =
       | inr (inr more) ↦ absurd (omega (arith, rise b.0 a.0 y x b.1 a.1 more, same))
     ]
 
--- what two readings of one place find is one
+-- two reads of one place give the same
 one_at : {W : Type 0} (ws : List W) (t : ℕ) (v w : W) → slice_get ws t ≡ Some v → slice_get ws t ≡ Some w → v ≡ w
 one_at ws t v w a b = same_Some v w (sym a ∙ b)
 
@@ -51,7 +51,7 @@ one_access paths symbolic t a b executed has had same =
     let there : Contains has.0.accesses b = subst (λ c. Contains c.accesses b) (one_at symbolic.threads t had.0 has.0 had.1 has.1) had.2 in
     one_of_key (λ x. x.step) has.0.accesses (λ j k x y p q less. executed.rise t j k has.0 x y has.1 p q less) a b has.2 there same
 
--- what stands at the number of a thread's step is its event
+-- the event at the number of a thread's step is that step's event
 module _ (paths : Paths) (whole : AreWhole paths) where
   one_event : (t : ℕ) (x y : Event) → HasEvent paths t x → HasEvent paths t y → x.step ≡ y.step → x ≡ y
   one_event t x y has had same =

@@ -1,4 +1,4 @@
--- While there are more nodes, a load needs the same ones, and its conjunct is the same.
+-- With more nodes, a load needs the same ones, and its conjunct stays the same.
 use Rattle.std.proofs.Common.{◌≡◌, ℕ, Bool, true, false, not, ◌&&◌, List, [], ◌∷◌, ◌++◌, length, Option, Some, None, refl, ap, ap₂, ◌∙◌}
 use Rattle.std.specs.Prelude.{unwrap_or, option_map, option_and_then, if◌then◌else◌}
 use Rattle.std.specs.List.{All, Contains, cons_option, filter_map, flat_map}
@@ -57,7 +57,7 @@ module _ (nodes later : List Node) (g : Grows nodes later) (load : Of Access) (a
     pub test_of_stays : test_of later load b ≡ test_of nodes load b
     test_of_stays = ap₂ (λ m t. if m then option_and_then (λ _. t) b.it.writes else None) may_stays same_tested
 
-    -- once its test is there, a write is the same candidate
+    -- once its test exists, a write stays the same candidate
     pub candidate_stays : (events : List (Of Event)) → ((n : Node) → test_of nodes load b ≡ Some n → Contains nodes n)
         → candidate_of events later load b ≡ candidate_of events nodes load b
     candidate_stays events there =
@@ -85,7 +85,7 @@ module _ (code : Code) (accesses : List (Of Access)) (nodes later : List Node) (
       (filter_map_same (test_of later a) (test_of nodes a) accesses (λ b j. test_of_stays nodes later g a (have a i).cell b (have b j).cell))
 
   module _ (events : List (Of Event)) where
-    -- a conjunct by what depends on the nodes
+    -- a conjunct, by its parts that depend on the nodes
     abbrev with_parts : (takes start : ℕ) → List Candidate → Conjunct
     with_parts takes start candidates = record {
       group = group.Read a.thread (line_in events a.thread a.it.step);
@@ -115,7 +115,7 @@ module _ (code : Code) (symbolic : Symbolic) (nodes later : List Node) (g : Grow
   each_has : (a : Of Access) → Contains accesses a → AccessIsOf (length nodes) a.it
   each_has a i = have a.thread a.it (access_of symbolic a i)
 
-  -- the loads need the same nodes
+  -- the loads need the same nodes later
   pub needs_stay : read_needs code symbolic later ≡ read_needs code symbolic nodes
   needs_stay = flat_map_same (λ a. option_map_or (needs_of code accesses later a) a.it.takes [])
       (λ a. option_map_or (needs_of code accesses nodes a) a.it.takes []) accesses (λ a i. by a i a.it.takes)
@@ -125,7 +125,7 @@ module _ (code : Code) (symbolic : Symbolic) (nodes later : List Node) (g : Grow
       by a i None = refl
       by a i (Some number) = needs_of_stay code accesses nodes later g each_has a number i
 
-  -- and once these are there, the formula is the same
+  -- once the needed nodes exist, the formula stays the same
   pub formula_stays : (paths : Paths) → All (Contains nodes) (read_needs code symbolic nodes)
       → read_formula code paths symbolic later ≡ read_formula code paths symbolic nodes
   formula_stays paths needs =

@@ -1,4 +1,4 @@
--- What the code makes, piece by piece: the nodes, and what a piece is over all nodes that come after it.
+-- The nodes and the pieces that the code makes, each piece over all later nodes too.
 use Rattle.std.proofs.Common.{◌≡◌, ℕ, ◌+◌, ◌<◌, Bool, true, List, [], ◌∷◌, ◌++◌, length, get_or, take, Option, Some, None, refl, ap, ap₂, sym, subst, ◌∙◌}
 use Rattle.std.specs.Prelude.{fold, option_map}
 use Rattle.std.specs.List.{Contains, cons_option, filter_map, flat_map}
@@ -32,7 +32,7 @@ use Rattle.read_write.specs.Reading.{candidate_of, conjunct_of, line_in, may_be_
 use Rattle.read_write.proofs.Candidates.{candidate_there}
 use Rattle.read_write.proofs.Stays.{filter_map_same, may_stays, test_of_stays}
 
--- a node is given the name that it keeps
+-- a node gets the id that it keeps
 pub named : (nodes later : List Node) (node : Node) → Grows (with_node nodes node) later → id_of nodes node ≡ id_of later node
 named nodes later node g = sym (id_stays (with_node nodes node) later node g (made_there nodes node) ∙ id_made nodes node)
 
@@ -53,7 +53,7 @@ flat_map_next f xs k x within is =
     ap (flat_map f) (take_more xs k x within ∙ ap (λ y. take k xs ++ y ∷ []) is) ∙ flat_map-append f (take k xs) (x ∷ [])
     ∙ ap (λ ys. flat_map f (take k xs) ++ ys) (append-nil (f x))
 
--- what is made of elements goes on by one: over all nodes that come later, and the nodes themselves
+-- the results of elements, with one more element, over all later nodes
 pub block_on : {X Y : Type 0} (h : List Node → X → Option Y) (xs : List X) (k : ℕ) (x : X) (mid last : List Node) (before after : List Y) (o : Option Y)
     → k < length xs → get_or xs k x ≡ x → Grows mid last → after ≡ before ++ option_to_list o
     → ((later : List Node) → Grows mid later → before ≡ filter_map (h later) (take k xs)) → ((later : List Node) → Grows last later → o ≡ h later x)
@@ -78,7 +78,7 @@ tests_on h xs k x first mid last own within is sofar on same =
     ∙ ap (fold with_node first) (sym (filter_map_next h xs k x within is))
 
 module _ (events : List (Of Event)) (nodes later : List Node) (load b : Of Access) where
-  -- a write that may be seen is a candidate, by the name of the test that was made
+  -- a write that may be seen is a candidate, with the id of its test
   pub seen : (event : ℕ) (earlier : Bool) (test : Option ℕ) (v : ℕ) → CellIsOf (length nodes) load.it.cell → CellIsOf (length nodes) b.it.cell
       → may_be_seen nodes load b ≡ true → b.it.writes ≡ Some v → event ≡ number_in events b.thread b.it.step → earlier ≡ is_earlier b load
       → test ≡ option_map (id_of nodes) (same_test nodes b.it.cell load.it.cell)
@@ -115,7 +115,7 @@ conjunct_from code events accesses later load number thread line event takes sta
     with_parts : ℕ → ℕ → ℕ → ℕ → ℕ → List Candidate → Conjunct
     with_parts t l e v s cs = record { group = group.Read t l; body = body.Read (record { event = e; takes = v; start = s; candidates = cs }) }
 
--- the nodes that a load needs are made one after another
+-- the nodes that a load needs, made one after another
 pub needs_made : (code : Code) (accesses : List (Of Access)) (nodes two last : List Node) (load : Of Access) (number : ℕ)
     → ((a : Of Access) → Contains accesses a → AccessIsOf (length nodes) a.it) → CellIsOf (length nodes) load.it.cell
     → two ≡ with_node (with_node nodes (Symbol number)) (Constant (value_at_start code load.it.cell))

@@ -1,4 +1,4 @@
--- The terms and events that the formula names are there.
+-- The terms and events of the formula exist.
 use Rattle.std.proofs.Common.{◌≡◌, ℕ, ◌<◌, ◌∷◌, List, length, Option, Some, None, refl, ap, sym, subst, ◌∙◌, arith}
 use Rattle.std.specs.Prelude.{IfSome, option_map, fold}
 use Rattle.std.specs.List.{All, Contains, filter_map}
@@ -74,7 +74,7 @@ module _ (code : Code) (paths : Paths) (symbolic : Symbolic) (nodes : List Node)
       let l = load_from code paths symbolic nodes c j in
       subst (ConjunctIsOf (length nodes)) l.is (conjunct_is l.load l.number l.among l.takes))
 
--- the nodes that were made are there
+-- the made nodes exist
 pub needs_there : (code : Code) (symbolic : Symbolic) (nodes later : List Node) → HaveTerms nodes symbolic
     → Grows (fold with_node nodes (read_needs code symbolic nodes)) later → All (Contains later) (read_needs code symbolic later)
 needs_there code symbolic nodes later have g =

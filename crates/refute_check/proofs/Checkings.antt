@@ -1,4 +1,4 @@
--- What a checker's states keep.
+-- Invariants of a checker's states.
 use Rattle.std.proofs.Common.{◌≡◌, ◌≢◌, ℕ, suc, zero, ◌+◌, List, [], ◌∷◌, ◌++◌, ℤ, refl, ap, sym, ◌∙◌, subst, arith}
 use Rattle.std.proofs.Common.{Bool, true, false, cond, Option, Some, None, length, take, drop, add-one, Err}
 use Rattle.std.specs.Prelude.{is_some, IfSome, IsTrue, slice_get, if◌then◌else◌}
@@ -9,9 +9,9 @@ use Rattle.std.specs.Cmp.{nat_cmp_total}
 use Rattle.std.specs.FinMap.{get, insert, remove, empty, get-insert, get-remove, get-empty}
 use Rattle.cnf_core.specs.Clauses.{is_within}
 use Rattle.refute_check.specs.Kept.{KeptClauses}
-use Rattle.refute_check.specs.Left.{by_left, what_is_left}
+use Rattle.refute_check.specs.Left.{by_left, left_of_clause}
 use Rattle.refute_check.specs.helpers.Checkers.{AreWithin}
-use Rattle.refute_check.specs.Refutations.{Checking, keep, without, hints_fault, clause_fault, after, judged, refused, passed_clause}
+use Rattle.refute_check.specs.Refutations.{Checking, keep, without_clauses, hints_fault, clause_fault, state_after_line, state_after_verdict, state_after_fault, passed_clause}
 use Rattle.refute_check.specs.Refutations.{line_fault, verdict, verdict_of}
 use Rattle.list_laws.specs.Lists.{is_nil}
 use Rattle.refute_check.specs.declared.line.Line.TheVariants.{Add, Delete}
@@ -36,11 +36,11 @@ pub AreWithin-remove : (vars : ℕ) (kept : KeptClauses) (n : ℕ) → AreWithin
 AreWithin-remove vars kept n h q = subst (λ o. IfSome o (λ c. IsTrue (is_within vars c))) (sym (get-remove nat_cmp_total kept n q))
     (if_chosen (λ c. IsTrue (is_within vars c)) (eq_by_cmp nat_cmp q n) None (get kept q) tt (h q))
 
-pub AreWithin-without : (vars : ℕ) (kept : KeptClauses) (ns : List ℕ) → AreWithin vars kept → AreWithin vars (without kept ns)
+pub AreWithin-without : (vars : ℕ) (kept : KeptClauses) (ns : List ℕ) → AreWithin vars kept → AreWithin vars (without_clauses kept ns)
 AreWithin-without vars kept [] h = h
 AreWithin-without vars kept (n ∷ ns) h = AreWithin-without vars (remove kept n) ns (AreWithin-remove vars kept n h)
 
--- the opening keeps the variables, and counts the clauses
+-- opening keeps the variables and counts the clauses
 pub keep-vars : (s : Checking) (cs : List (List ℤ)) → (fold keep s cs).vars ≡ s.vars
 keep-vars s [] = refl
 keep-vars s (c ∷ cs) = keep-vars (keep s c) cs
@@ -58,7 +58,7 @@ pub fold-keep-more : (s : Checking) (cs : List (List ℤ)) (k : ℕ) (c : List �
     → fold keep s (take (k + 1) cs) ≡ keep (fold keep s (take k cs)) c
 fold-keep-more s cs k c h = ap (λ j. fold keep s (take j cs)) (add-one k) ∙ fold-suc s cs k c h
 
--- a fault of a line isn't want of memory
+-- a line's fault isn't lack of memory
 map-not-memory : (f : List ℤ → Option CheckFault) (o : Option (List ℤ)) (d : Option CheckFault) → ((c : List ℤ) → f c ≢ Some Memory) → d ≢ Some Memory
     → option_map_or f o d ≢ Some Memory
 map-not-memory f None d h k = k
@@ -78,10 +78,10 @@ pub hints-not-memory : (n : ℕ) (kept : KeptClauses) (given : List ℤ) (hs : L
 hints-not-memory n kept given [] = λ e. absurd (cc)
 hints-not-memory n kept given (h ∷ hs) =
     map-not-memory
-    (λ c. by_left (what_is_left given c) (if is_nil hs then None else Some (Hint n)) (λ l. hints_fault n kept (given ++ l ∷ []) hs) (Some (Hint n)))
+    (λ c. by_left (left_of_clause given c) (if is_nil hs then None else Some (Hint n)) (λ l. hints_fault n kept (given ++ l ∷ []) hs) (Some (Hint n)))
     (get kept h)
     (Some (NoClause n))
-    (λ c. left-not-memory (what_is_left given c) (if is_nil hs then None else Some (Hint n)) (λ l. hints_fault n kept (given ++ l ∷ []) hs)
+    (λ c. left-not-memory (left_of_clause given c) (if is_nil hs then None else Some (Hint n)) (λ l. hints_fault n kept (given ++ l ∷ []) hs)
     (Some (Hint n)) (choice-not-memory (is_nil hs) None (Some (Hint n)) (λ e. cc) (λ e. cc)) (λ l. hints-not-memory n kept (given ++ l ∷ []) hs) (λ e. cc))
     (λ e. cc)
 
@@ -92,46 +92,46 @@ clause-not-memory n vars kept lits hints f e m =
     (hints-not-memory n kept _ hints) (λ e. cc) in
     p (sym e ∙ ap (λ g. Some g) m)
 
--- after a line that adds a clause
+-- the state after a line that adds a clause
 pub after-fault : (s : Checking) (lits : List ℤ) (hints : List ℕ) (f : CheckFault) → s.fault ≡ None
-    → clause_fault (s.line + 1) s.vars s.kept lits hints ≡ Some f → after s (Add lits hints) ≡ refused f s
-after-fault s lits hints f n e = ap (λ o. if is_some o then s else judged (clause_fault (s.line + 1) s.vars s.kept lits hints) s (Add lits hints)) n
-    ∙ ap (λ o. judged o s (Add lits hints)) e
+    → clause_fault (s.line + 1) s.vars s.kept lits hints ≡ Some f → state_after_line s (Add lits hints) ≡ state_after_fault f s
+after-fault s lits hints f n e = ap (λ o. if is_some o then s else state_after_verdict (clause_fault (s.line + 1) s.vars s.kept lits hints) s (Add lits hints)) n
+    ∙ ap (λ o. state_after_verdict o s (Add lits hints)) e
 
 pub after-pass : (s : Checking) (lits : List ℤ) (hints : List ℕ) → s.fault ≡ None → clause_fault (s.line + 1) s.vars s.kept lits hints ≡ None
-    → after s (Add lits hints) ≡ passed_clause s lits
-after-pass s lits hints n e = ap (λ o. if is_some o then s else judged (clause_fault (s.line + 1) s.vars s.kept lits hints) s (Add lits hints)) n
-    ∙ ap (λ o. judged o s (Add lits hints)) e
+    → state_after_line s (Add lits hints) ≡ passed_clause s lits
+after-pass s lits hints n e = ap (λ o. if is_some o then s else state_after_verdict (clause_fault (s.line + 1) s.vars s.kept lits hints) s (Add lits hints)) n
+    ∙ ap (λ o. state_after_verdict o s (Add lits hints)) e
 
-judged-line : (o : Option CheckFault) (s : Checking) (l : Line) → (judged o s l).line ≡ s.line + 1
+judged-line : (o : Option CheckFault) (s : Checking) (l : Line) → (state_after_verdict o s l).line ≡ s.line + 1
 judged-line None s (Add lits hints) = refl
 judged-line None s (Delete ns) = refl
 judged-line (Some f) s l = refl
 
 -- a line without a fault before it is counted
-pub after-line : (s : Checking) (l : Line) → s.fault ≡ None → (after s l).line ≡ s.line + 1
-after-line s l e = ap (λ o. (if is_some o then s else judged (line_fault (s.line + 1) s.vars s.kept l) s l).line) e
+pub after-line : (s : Checking) (l : Line) → s.fault ≡ None → (state_after_line s l).line ≡ s.line + 1
+after-line s l e = ap (λ o. (if is_some o then s else state_after_verdict (line_fault (s.line + 1) s.vars s.kept l) s l).line) e
     ∙ judged-line (line_fault (s.line + 1) s.vars s.kept l) s l
 
-after-stays : (s : Checking) (l : Line) (f : CheckFault) → s.fault ≡ Some f → after s l ≡ s
-after-stays s l f e = ap (λ o. if is_some o then s else judged (line_fault (s.line + 1) s.vars s.kept l) s l) e
+after-stays : (s : Checking) (l : Line) (f : CheckFault) → s.fault ≡ Some f → state_after_line s l ≡ s
+after-stays s l f e = ap (λ o. if is_some o then s else state_after_verdict (line_fault (s.line + 1) s.vars s.kept l) s l) e
 
 -- after a fault nothing changes
-pub fold-stays : (s : Checking) (ls : List Line) (f : CheckFault) → s.fault ≡ Some f → fold after s ls ≡ s
+pub fold-stays : (s : Checking) (ls : List Line) (f : CheckFault) → s.fault ≡ Some f → fold state_after_line s ls ≡ s
 fold-stays s [] f e = refl
-fold-stays s (l ∷ ls) f e = ap (λ t. fold after t ls) (after-stays s l f e) ∙ fold-stays s ls f e
+fold-stays s (l ∷ ls) f e = ap (λ t. fold state_after_line t ls) (after-stays s l f e) ∙ fold-stays s ls f e
 
-fold-split : (s : Checking) (ls : List Line) (k : ℕ) → fold after s ls ≡ fold after (fold after s (take k ls)) (drop k ls)
+fold-split : (s : Checking) (ls : List Line) (k : ℕ) → fold state_after_line s ls ≡ fold state_after_line (fold state_after_line s (take k ls)) (drop k ls)
 fold-split s ls zero = refl
 fold-split s [] (suc k) = refl
-fold-split s (l ∷ ls) (suc k) = fold-split (after s l) ls k
+fold-split s (l ∷ ls) (suc k) = fold-split (state_after_line s l) ls k
 
 -- the verdict at a line's fault is that of the whole derivation
-pub check-at : (s t : Checking) (ls : List Line) (k : ℕ) (f : CheckFault) → t ≡ fold after s (take k ls) → t.fault ≡ Some f → Err f ≡ verdict (fold after s ls)
+pub check-at : (s t : Checking) (ls : List Line) (k : ℕ) (f : CheckFault) → t ≡ fold state_after_line s (take k ls) → t.fault ≡ Some f → Err f ≡ verdict (fold state_after_line s ls)
 check-at s t ls k f e g =
-    let h : (fold after s (take k ls)).fault ≡ Some f = ap (λ (u : Checking). u.fault) (sym e) ∙ g in
-    let stays : fold after s ls ≡ fold after s (take k ls) = fold-split s ls k ∙ fold-stays (fold after s (take k ls)) (drop k ls) f h in
-    sym (ap verdict stays ∙ ap (λ o. verdict_of o (fold after s (take k ls)).closed) h)
+    let h : (fold state_after_line s (take k ls)).fault ≡ Some f = ap (λ (u : Checking). u.fault) (sym e) ∙ g in
+    let stays : fold state_after_line s ls ≡ fold state_after_line s (take k ls) = fold-split s ls k ∙ fold-stays (fold state_after_line s (take k ls)) (drop k ls) f h in
+    sym (ap verdict stays ∙ ap (λ o. verdict_of o (fold state_after_line s (take k ls)).closed) h)
 
 pub start-line : (s : Checking) (cs : List (List ℤ)) → (fold keep s cs).line ≡ s.line
 start-line s [] = refl

@@ -41,7 +41,7 @@ use Rattle.refute_check.specs.declared.text.Taken.TheVariants.{More, Header, Lin
 abbrev pub Ends : Reading → List ℕ → List Taken → Reading → Type 0
 Ends s bs ts t = (x : Taken) × (xs : List Taken) × (ts ≡ x ∷ xs) × IsTakenAs s.line s.unfinished x × Reads (after_taken s x) bs xs t
 
--- a byte is read, by whether a fault was met before and whether it ends a line
+-- a byte is read, by whether there was a fault before and whether it ends a line
 abbrev pub Step : Bool → Bool → Reading → ℕ → List ℕ → List Taken → Reading → Type 0
 Step f d s b bs ts t = MatchBool f ((ts ≡ []) × (t ≡ s)) (MatchBool d (Ends s bs ts t) (Reads (pushed s (b ∷ [])) bs ts t))
 
@@ -85,7 +85,7 @@ pushed-nil s = ap (λ u. record s { unfinished = u }) (append-nil s.unfinished)
 pub pushed-cons : (s : Reading) (b : ℕ) (bs : List ℕ) → pushed (pushed s (b ∷ [])) bs ≡ pushed s (b ∷ bs)
 pushed-cons s b bs = ap (λ u. record s { unfinished = u }) (append_assoc s.unfinished (b ∷ []) bs)
 
--- bytes without a line's end
+-- bytes without a line end
 no-end : (bytes : List ℕ) (s : Reading) → s.fault ≡ None → position_or_len (λ b. nat_eq b 10) bytes ≡ length bytes → Reads s bytes [] (pushed s bytes)
 no-end [] s e p = (refl, pushed-nil s)
 no-end (b ∷ bytes) s e p =
@@ -94,7 +94,7 @@ no-end (b ∷ bytes) s e p =
     step-push s b bytes [] (pushed s (b ∷ bytes)) e n (subst (λ t. Reads (pushed s (b ∷ [])) bytes [] t) (pushed-cons s b bytes)
     (no-end bytes (pushed s (b ∷ [])) e q))
 
--- bytes up to a line's end
+-- bytes up to a line end
 one-line : (bytes : List ℕ) (s : Reading) (k : ℕ) (x : Taken) → s.fault ≡ None → k ≡ position_or_len (λ b. nat_eq b 10) bytes → k < length bytes
     → IsTakenAs s.line (s.unfinished ++ take k bytes) x → Reads s (take (suc k) bytes) (x ∷ []) (after_taken (pushed s (take k bytes)) x)
 one-line [] s k x e p l h = absurd (omega arith)
@@ -116,7 +116,7 @@ lines-one n bytes (Header y) h = refl
 lines-one n bytes (Body y) h = refl
 lines-one n bytes (Form y) h = refl
 
--- the bytes up to the first line's end, or all of them
+-- the bytes up to the first line end, or all of them
 pub through-all : (bytes : List ℕ) (e : ℕ) → e ≡ position_or_len (λ b. nat_eq b 10) bytes → e ≡ length bytes → e ≡ length (take_through 10 bytes)
 through-all [] e p l = l
 through-all (b ∷ bytes) e p l = grind (arith, through-all bytes (position_or_len (λ b. nat_eq b 10) bytes) refl)

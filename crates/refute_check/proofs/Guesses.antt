@@ -64,7 +64,7 @@ read-digit r d n h e b =
     let k : (r.size * 10 + (48 + d) % 16) % 4294967296 ≡ n = omega arith in
     rw (s, m, k) refl
 
--- after no digit, the digits of a number are read as the number
+-- after no digit, reading the digits of a number gives the number
 abbrev IsReadBack : ℕ → List ℕ → Type 0
 IsReadBack n ds = n < 4294967296 → (done : List ℤ) (sign : Bool)
     → fold read_byte (record { done = done; size = 0; negative = sign }) ds ≡ record { done = done; size = n; negative = sign }
@@ -98,11 +98,11 @@ read-numbers r (z ∷ zs) h =
     ∙ ap (λ ys. ys ++ zs) (read-signed z (numbers_of r) (and_parts (is_small z) _ h).0)
     ∙ append_assoc (numbers_of r) (z ∷ []) zs
 
--- the numbers of a text are those that were written, after the one that stands before any space
+-- the numbers of a text are those that were written, after a 0 for the text before the first space
 pub guessed-numbers_text : (zs : List ℤ) → list_all is_small zs ≡ true → guessed (numbers_text zs) ≡ pos 0 ∷ zs
 guessed-numbers_text zs h = read-numbers no_number zs h
 
--- a line's text is its letter and its numbers
+-- the numbers in a line's text
 abbrev pub numbers_after : Line → List ℤ
 numbers_after (Add lits hints) = lits ++ pos 0 ∷ (map pos hints ++ pos 0 ∷ [])
 numbers_after (Delete ns) = map pos ns ++ pos 0 ∷ []
@@ -196,7 +196,7 @@ small-of-line (Delete ns) h =
     let all : list_all is_numbered ns ≡ true = (and_parts (not (is_nil ns)) _ h).1 in
     list_all-append is_small (map pos ns) (pos 0 ∷ []) ∙ and_from _ true (small-numbers ns all) refl
 
--- the text of a line is taken for that line
+-- the guess for the text of a line is that line
 pub line_guess-line_text : (l : Line) → is_readable l ≡ true → line_guess (line_text l) ≡ Some l
 line_guess-line_text (Add lits hints) h =
     let front : (is_clause lits && list_all (λ l. nat_lt (var_of l) 2147483648) lits) ≡ true = (and_parts _ (list_all is_numbered hints) h).0 in
@@ -225,7 +225,7 @@ line_guess-line_text (Delete ns) h =
     ∙ ap (λ ms. if is_nil ms then None else Some (Delete ms)) (numbers-front ns [] all)
     ∙ ap (λ b. if b then None else Some (Delete ns)) some
 
--- what is taken for a line is one that the format allows
+-- each guessed line is one that the format allows
 literal-bound : (z : ℤ) (zs : List ℤ) (b : Bool) → is_literal z ≡ b → list_all (λ l. nat_lt (var_of l) 2147483648) (literals_in zs) ≡ true
     → list_all (λ l. nat_lt (var_of l) 2147483648) (option_map_or (λ x. x ∷ literals_in zs) (if b then Some z else None) []) ≡ true
 literal-bound z zs true e h = and_from _ _ (and_parts (nat_lt 0 (var_of z)) _ e).1 h
@@ -268,7 +268,7 @@ pub line_guess-readable : (bytes : List ℕ) (l : Line) → line_guess bytes ≡
 line_guess-readable [] l h = absurd (cc)
 line_guess-readable (b ∷ bs) l h = by-readable (drop 1 (guessed bs)) l (nat_eq b 97) (nat_eq b 100) h
 
--- bytes that aren't the text of what they are taken for are the text of no line
+-- bytes other than the text of their guess aren't the text of any line
 pub no-line : (bytes : List ℕ) (o : Option Line) → line_guess bytes ≡ o → MatchOption o ⊤ (λ l. line_text l ≡ bytes → ⊥) → IsNoLine bytes
 no-line bytes None e h l r t = absurd (let g : line_guess bytes ≡ Some l = ap line_guess (sym t) ∙ line_guess-line_text l r in cc)
 no-line bytes (Some k) e h l r t = let g : line_guess bytes ≡ Some l = ap line_guess (sym t) ∙ line_guess-line_text l r in let same : l ≡ k = cc

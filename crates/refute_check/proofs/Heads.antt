@@ -1,4 +1,4 @@
--- The first line is read back.
+-- The header is read back.
 use Rattle.std.proofs.Common.{◌≡◌, ◌<◌, ◌≤◌, ◌+◌, ◌*◌, ◌/◌, ◌%◌, ◌++◌, ◌∷◌, [], ℕ, List, Option, Some, None, true, refl, ap, sym, ◌∙◌, arith}
 use Rattle.std.specs.Prelude.{codes, MatchOption, ⊤}
 use Rattle.std.specs.List.{fold}
@@ -38,11 +38,11 @@ by-parts Sc (Some k) h = ap (λ n. Some (let h : Head = record { model = Sc; swi
 by-parts Tso (Some k) h = ap (λ n. Some (let h : Head = record { model = Tso; switches = Some n } in h)) (small-decimal k (ltb-true k 256 h))
 by-parts Pso (Some k) h = ap (λ n. Some (let h : Head = record { model = Pso; switches = Some n } in h)) (small-decimal k (ltb-true k 256 h))
 
--- the text of a first line is taken for that first line
+-- the guess for the text of a header is that header
 pub head_guess-head_text : (h : Head) → is_head h ≡ true → head_guess (head_text h) ≡ Some h
 head_guess-head_text h r = by-parts h.model h.switches r
 
--- bytes that aren't the text of what they are taken for are the text of no first line
+-- bytes other than the text of their guess aren't the text of any header
 pub no-head : (bytes : List ℕ) (o : Option Head) → head_guess bytes ≡ o → MatchOption o ⊤ (λ h. head_text h ≡ bytes → ⊥) → IsNoHead bytes
 no-head bytes None e n h r t = absurd (let g : head_guess bytes ≡ Some h = ap head_guess (sym t) ∙ head_guess-head_text h r in cc)
 no-head bytes (Some k) e n h r t =

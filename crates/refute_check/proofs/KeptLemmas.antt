@@ -1,4 +1,4 @@
--- A hash map read as a finite map.
+-- A hash map as a finite map.
 use Rattle.std.proofs.Common.{◌≡◌, ℕ, List, [], ◌∷◌, ℤ, refl, ap, sym, ◌∙◌, cond, Some, None}
 use Rattle.std.specs.Prelude.{nat_eq}
 use Rattle.std.specs.Map.{lookup}
@@ -19,7 +19,7 @@ get-lookup es q = get-from_entries nat_cmp_total es q ∙ find-lookup q es
 nat_eq-sym : (a b : ℕ) → nat_eq a b ≡ nat_eq b a
 nat_eq-sym a b = one_answer (nat_eq a b) (nat_eq b a) (eqb-true a b, eq-eqb a b) ((λ e. sym (eqb-true b a e)), (λ e. eq-eqb b a (sym e)))
 
--- entries that give the new value at one number, and the older ones elsewhere
+-- entries with the new value at one number, and the old ones elsewhere
 pub from_entries-insert : (es fs : List (ℕ × List ℤ)) (k : ℕ) (v : List ℤ)
     → ((q : ℕ) → lookup (nat_eq q) fs ≡ cond (nat_eq k q) (Some v) (lookup (nat_eq q) es)) → from_entries {R = nat_cmp} fs ≡ insert (from_entries es) k v
 from_entries-insert es fs k v h =

@@ -1,4 +1,4 @@
--- A refutation that is read piece by piece.
+-- A refutation read piece by piece.
 use Rattle.std.proofs.lemmas.List.{take_all}
 use Rattle.std.proofs.lemmas.Bool.{and_parts}
 use Rattle.std.proofs.Common.{
@@ -56,7 +56,7 @@ use Rattle.refute_check.specs.declared.text.Taken.TheVariants.{More, Header, Lin
 use Rattle.refute_check.specs.declared.fault.RefutationFault.{RefutationFault}
 use Rattle.refute_check.specs.declared.fault.RefutationFault.TheVariants.{Form as Broken, Memory}
 
--- the first line that ends in some bytes is taken as what it is, at the number of the line before which they come
+-- the first line that ends in some bytes is read as it is, by the number of lines before
 abbrev FirstIs : List ℕ → Type 0
 FirstIs bytes = (s t : Reading) (x : Taken) (xs : List Taken) → Reads s bytes (x ∷ xs) t → (u : List ℕ) × IsTakenAs s.line u x
 
@@ -94,7 +94,7 @@ pub read-count : (bytes : List ℕ) → AreCounted bytes
 read-count [] s ts t a e = omega (arith, ap (λ (r : Reading). r.line) a.1, ap length a.0)
 read-count (b ∷ bytes) s ts t a e = count-step _ (nat_eq b 10) b bytes s ts t refl (read-count bytes) a e
 
--- bytes that are read in two parts
+-- bytes read in two parts
 joined : (n : ℕ) (bytes : List ℕ) (s t u : Reading) (xs ys : List Taken) → Reads s (take n bytes) xs t → Reads t (drop n bytes) ys u
     → Reads s bytes (xs ++ ys) u
 joined n bytes s t u xs ys a b = subst (λ bs. Reads s bs (xs ++ ys) u) (take-append-drop n bytes) (cuts-agree (take n bytes) (drop n bytes) s t u xs ys a b)
@@ -111,7 +111,7 @@ breach-of t k e = ap (λ o. option_map_or (λ j. Some j) o (if nat_eq t.line 1 |
 broken-by : (n : ℕ) (bytes : List ℕ) (s t : Reading) (k : ℕ) → Reads s (take n bytes) (Form k ∷ []) t → t.fault ≡ Some k → BreaksFrom s bytes k
 broken-by n bytes s t k r e = (Form k ∷ [], (t, joined n bytes s t t (Form k ∷ []) [] r (stays (drop n bytes) t (ap is_some e)), breach-of t k e))
 
--- where bytes were taken, the lines that ended are those of the answer
+-- if bytes were taken, the ended lines are those of the answer
 pub reads-taken : (n : ℕ) (bytes : List ℕ) (s t : Reading) (x y : Taken) → x ≡ y → 0 < n
     → Reads s (take n bytes) (if nat_eq n 0 then [] else lines_of x) t → Reads s (take n bytes) (lines_of y) t
 reads-taken n bytes s t x y e h r =
@@ -131,7 +131,7 @@ moved (Header k) n bytes all m h = m (λ e. cc)
 moved (Body l) n bytes all m h = m (λ e. cc)
 moved (Form k) n bytes all m h = m (λ e. cc)
 
--- a line that was read may be added
+-- a line that was read is a line that may be added
 readable-line : (l : Line) → is_readable l ≡ true → is_line l ≡ true
 readable-line (Add lits hints) h = refl
 readable-line (Delete ns) h = (and_parts (not (is_nil ns)) _ h).0
@@ -147,7 +147,7 @@ pub more-line : (bytes : List ℕ) (s t : Reading) (l : Line) (ls ms : List Line
     → ReadsMore s bytes ls ms t
 more-line bytes s t l ls ms e f r = (Body l ∷ [], r, ap bodies e ∙ bodies-push ls l, f)
 
--- no line ended, since this isn't the first line
+-- no line has ended, and this isn't the first line
 pub more-bytes : (x : Taken) (bytes : List ℕ) (s t : Reading) (ls : List Line) → s.line ≡ length ls + 2
     → (x ≡ More) ⊎ ((h : Head) × (x ≡ Header h)) → t.fault ≡ fault_of x → Reads s bytes (lines_of x) t → ReadsMore s bytes ls ls t
 more-bytes x bytes s t ls p (inl i) e r =
@@ -155,7 +155,7 @@ more-bytes x bytes s t ls p (inl i) e r =
 more-bytes x bytes s t ls p (inr i) e r =
     absurd (let q = first-taken bytes s t (Header i.0) [] (subst (λ y. Reads s bytes (lines_of y) t) i.1 r) in omega (arith, p, q.1.0))
 
--- the lines so far
+-- the lines read so far
 pub record AreRead (s : Reading) (bytes : List ℕ) (n : ℕ) (ls : List Line) (t : Reading) : Type 0 where
   pub within : n ≤ length bytes
   pub reads : Reads s (take n bytes) (bodies ls) t
@@ -182,7 +182,7 @@ read-on s bytes n m ls ms t u a h r =
       free = r.3;
     }
 
--- what is read of the rest is read of all
+-- a reading of the first n bytes and one of the rest make up a reading of the whole
 joined-to : (n : ℕ) (bytes : List ℕ) (s t : Reading) (xs ys : List Taken) (o : Option ℕ) → Reads s (take n bytes) xs t → ReadsTo t (drop n bytes) ys o
     → ReadsTo s bytes (xs ++ ys) o
 joined-to n bytes s t xs ys o a r = (r.0, joined n bytes s t r.0 xs ys a r.1, r.2)
@@ -213,7 +213,7 @@ text-read n bytes t h ls a r =
 pub second-line : (t : Reading) (n : ℕ) (bytes : List ℕ) (h : Head) → Reads beginning (take n bytes) (Header h ∷ []) t → t.fault ≡ None → t.line ≡ 2
 second-line t n bytes h r e = read-count (take n bytes) beginning (Header h ∷ []) t r e
 
--- without a first line the first line breaks the form
+-- without a header the first line breaks the form
 unheaded : (x : Taken) (n : ℕ) (bytes : List ℕ) (t : Reading) → ((h : Head) → x ≢ Header h) → (x ≡ More → n ≡ length bytes) → t.fault ≡ fault_of x
     → Reads beginning (take n bytes) (lines_of x) t → BreaksAt bytes 1
 unheaded More n bytes t other all e r =
@@ -246,7 +246,7 @@ header-reads bytes x n t s h i e m r =
     reads-taken n bytes beginning t x (Header h) e (m (λ j. let k : Header h ≡ More = sym e ∙ j in absurd (cc)))
     (subst (λ z. Reads z (take n bytes) (if nat_eq n 0 then [] else lines_of x) t) i r)
 
--- bytes with a first breach are no text
+-- bytes with a breach aren't a text
 pub broken-is-no-text : BrokenIsNoText
 broken-is-no-text bytes n b h ls w e =
     let read : Reads beginning bytes (whole_lines h ls) (between (length ls + 2)) =

@@ -1,4 +1,4 @@
--- Bytes in which nothing breaks the form are a text.
+-- Bytes without a breach of the form are a text.
 use Rattle.std.proofs.lemmas.Bool.{and_from}
 use Rattle.std.proofs.Common.{
   ◌≡◌,
@@ -56,7 +56,7 @@ record AreBodies (s : Reading) (bytes : List ℕ) (ts : List Taken) (t : Reading
   few : s.line ≤ LINES + 2 → t.line ≤ LINES + 2
   text : s.unfinished ++ bytes ≡ lines_text lines ++ t.unfinished
 
--- what is said of some bytes, for all states before them
+-- a fact about some bytes after all states
 abbrev ForAll : List ℕ → Type 0
 ForAll bytes = (s : Reading) (ts : List Taken) (t : Reading) → 1 < s.line → Reads s bytes ts t → t.fault ≡ None → AreBodies s bytes ts t
 

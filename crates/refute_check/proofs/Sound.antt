@@ -1,4 +1,4 @@
--- A clause that a line adds is true wherever the kept clauses are.
+-- A clause that a line adds is true in each valuation that makes the kept clauses true.
 use Rattle.std.proofs.Common.{◌≡◌, ◌≢◌, ℕ, suc, zero, ◌+◌, List, [], ◌∷◌, ◌++◌, map, ℤ, pos, negsuc, neg_ℤ, refl, ap, sym, ◌∙◌, subst, arith}
 use Rattle.std.proofs.Common.{Bool, true, false, not, cond, Option, Some, None, Ok, inl, inr}
 use Rattle.std.proofs.Math.IntN.{neg_ℤ-neg_ℤ}
@@ -13,8 +13,8 @@ use Rattle.std.proofs.lemmas.List.Folds.{list_any-append}
 use Rattle.cnf_core.specs.Clauses.{Valuation, literal_true, clause_true, satisfies, is_within}
 use Rattle.refute_check.specs.Kept.{KeptClauses}
 use Rattle.refute_check.specs.Literals.{is_among, left}
-use Rattle.refute_check.specs.Left.{by_left, what_is_left, counted}
-use Rattle.refute_check.specs.Refutations.{Checking, keep, opening, start, without, hints_fault, clause_fault, line_fault, after, judged, verdict_of}
+use Rattle.refute_check.specs.Left.{by_left, left_of_clause, count_of_literals}
+use Rattle.refute_check.specs.Refutations.{Checking, keep, opening, start, without_clauses, hints_fault, clause_fault, line_fault, state_after_line, state_after_verdict, verdict_of}
 use Rattle.list_laws.specs.Lists.{is_nil}
 use Rattle.refute_check.specs.Laws.{ClosedMeansUnsatisfiable}
 use Rattle.refute_check.specs.declared.line.Line.{Line}
@@ -27,7 +27,7 @@ use Rattle.refute_check.specs.declared.verdict.Checked.TheVariants.{Closed}
 abbrev pub IsTrueAt : Valuation → KeptClauses → ℕ → Type 0
 IsTrueAt v kept n = IfSome (get kept n) (λ c. clause_true v c ≡ true)
 
--- each is
+-- all kept clauses are true
 abbrev AreTrue : Valuation → KeptClauses → Type 0
 AreTrue v kept = (n : ℕ) → IsTrueAt v kept n
 
@@ -43,13 +43,13 @@ AreTrue-insert : (v : Valuation) (kept : KeptClauses) (n : ℕ) (c : List ℤ) �
 AreTrue-insert v kept n c h t q = subst (λ o. IfSome o (λ c. clause_true v c ≡ true)) (sym (get-insert nat_cmp_total kept n c q))
     (chosen v (eq_by_cmp nat_cmp q n) (Some c) (get kept q) t (h q))
 
-AreTrue-without : (v : Valuation) (kept : KeptClauses) (ns : List ℕ) → AreTrue v kept → AreTrue v (without kept ns)
+AreTrue-without : (v : Valuation) (kept : KeptClauses) (ns : List ℕ) → AreTrue v kept → AreTrue v (without_clauses kept ns)
 AreTrue-without v kept [] h = h
 AreTrue-without v kept (n ∷ ns) h =
     AreTrue-without v (remove kept n) ns (λ q. subst (λ o. IfSome o (λ c. clause_true v c ≡ true)) (sym (get-remove nat_cmp_total kept n q))
     (chosen v (eq_by_cmp nat_cmp q n) None (get kept q) tt (h q)))
 
--- the literals that the given ones make false are false
+-- the literals that are false if the given ones are true
 abbrev AreFalse : Valuation → List ℤ → Type 0
 AreFalse v given = (l : ℤ) → is_among given (neg_ℤ l) ≡ true → literal_true v l ≡ false
 
@@ -92,9 +92,9 @@ left-true : (v : Valuation) (given c : List ℤ) → AreFalse v given → clause
 left-true v given [] h t = t
 left-true v given (l ∷ c) h t = left-step v given l c (is_among given (neg_ℤ l)) refl h (left-true v given c h) t
 
--- what is left of a true clause: a true literal, or more literals
+-- a true clause has a true literal left, or more than one literal
 by-counted : (v : Valuation) (ls : List ℤ) (nothing more : Option CheckFault) (one : ℤ → Option CheckFault) → clause_true v ls ≡ true → more ≢ None
-    → ((l : ℤ) → literal_true v l ≡ true → one l ≢ None) → by_left (counted ls) nothing one more ≢ None
+    → ((l : ℤ) → literal_true v l ≡ true → one l ≢ None) → by_left (count_of_literals ls) nothing one more ≢ None
 by-counted v [] nothing more one t h k = λ e. absurd (cc)
 by-counted v (l ∷ []) nothing more one t h k = k l (elim (or_cases (literal_true v l) false t) [ inl x ↦ x | inr x ↦ absurd (cc) ])
 by-counted v (l ∷ m ∷ ls) nothing more one t h k = h
@@ -104,13 +104,13 @@ by-kept : (v : Valuation) (o : Option (List ℤ)) (f : List ℤ → Option Check
 by-kept v None f d h k e = e
 by-kept v (Some c) f d h k e = k c h
 
--- hints from literals that are false show a conflict only where some clause that they name is false
+-- hints over false literals show a conflict only if some clause that they name is false
 hints-sound : (v : Valuation) (n : ℕ) (kept : KeptClauses) (given : List ℤ) (hs : List ℕ) → ((h : ℕ) → Contains hs h → IsTrueAt v kept h)
     → AreFalse v given → hints_fault n kept given hs ≢ None
 hints-sound v n kept given [] h f = λ e. cc
 hints-sound v n kept given (i ∷ hs) h f =
     by-kept v (get kept i)
-    (λ c. by_left (what_is_left given c) (if is_nil hs then None else Some (Hint n)) (λ l. hints_fault n kept (given ++ l ∷ []) hs) (Some (Hint n)))
+    (λ c. by_left (left_of_clause given c) (if is_nil hs then None else Some (Hint n)) (λ l. hints_fault n kept (given ++ l ∷ []) hs) (Some (Hint n)))
     (Some (NoClause n))
     (h i (0, omega arith, refl))
     (λ c t. by-counted v (left given c) (if is_nil hs then None else Some (Hint n)) (Some (Hint n)) (λ l. hints_fault n kept (given ++ l ∷ []) hs)
@@ -118,7 +118,7 @@ hints-sound v n kept given (i ∷ hs) h f =
     (λ l u. hints-sound v n kept (given ++ l ∷ []) hs (λ j a. h j (suc a.0, omega (arith, a.1), a.2)) (AreFalse-more v given l f u)))
     (λ e. cc)
 
--- a line that passes adds a clause that is true wherever those are that its hints name
+-- a line that passes adds a clause that is true if those that its hints name are
 clause-step : (v : Valuation) (n vars : ℕ) (kept : KeptClauses) (lits : List ℤ) (hints : List ℕ) (w b : Bool) → clause_true v lits ≡ b
     → ((h : ℕ) → Contains hints h → IsTrueAt v kept h) → (if w then hints_fault n kept (map neg_ℤ lits) hints else Some (NoVariable n)) ≡ None → clause_true v lits ≡ true
 clause-step v n vars kept lits hints w true e h p = e
@@ -139,7 +139,7 @@ not-nil v [] t = absurd (cc)
 not-nil v (l ∷ lits) t = refl
 
 judged-sound : (v : Valuation) (s : Checking) (l : Line) (o : Option CheckFault) → line_fault (s.line + 1) s.vars s.kept l ≡ o → StaysTrue v s
-    → StaysTrue v (judged o s l)
+    → StaysTrue v (state_after_verdict o s l)
 judged-sound v s (Add lits hints) None e h =
     let t : clause_true v lits ≡ true = clause-sound v (s.line + 1) s.vars s.kept lits hints (λ n i. h.kept n) e in
     let f : is_nil lits ≡ false = not-nil v lits t in
@@ -151,13 +151,13 @@ judged-sound v s (Delete ns) None e h = record { kept = AreTrue-without v s.kept
 judged-sound v s l (Some f) e h = record { kept = AreTrue-empty v; open' = h.open' }
 
 after-step : (v : Valuation) (s : Checking) (l : Line) (b : Bool) → StaysTrue v s
-    → StaysTrue v (if b then s else judged (line_fault (s.line + 1) s.vars s.kept l) s l)
+    → StaysTrue v (if b then s else state_after_verdict (line_fault (s.line + 1) s.vars s.kept l) s l)
 after-step v s l true h = h
 after-step v s l false h = judged-sound v s l (line_fault (s.line + 1) s.vars s.kept l) refl h
 
-lines-sound : (v : Valuation) (s : Checking) (lines : List Line) → StaysTrue v s → StaysTrue v (fold after s lines)
+lines-sound : (v : Valuation) (s : Checking) (lines : List Line) → StaysTrue v s → StaysTrue v (fold state_after_line s lines)
 lines-sound v s [] h = h
-lines-sound v s (l ∷ lines) h = lines-sound v (after s l) lines (after-step v s l (is_some s.fault) h)
+lines-sound v s (l ∷ lines) h = lines-sound v (state_after_line s l) lines (after-step v s l (is_some s.fault) h)
 
 start-sound : (v : Valuation) (s : Checking) (cs : List (List ℤ)) → satisfies v cs ≡ true → StaysTrue v s → StaysTrue v (fold keep s cs)
 start-sound v s [] t h = h
@@ -172,6 +172,6 @@ closed-true None false e = absurd (cc)
 
 pub closed-means-unsatisfiable : ClosedMeansUnsatisfiable
 closed-means-unsatisfiable f lines e v t =
-    let s : StaysTrue v (fold after (start f) lines) = lines-sound v (start f) lines
+    let s : StaysTrue v (fold state_after_line (start f) lines) = lines-sound v (start f) lines
     (start-sound v (opening f.vars) f.clauses t (record { kept = AreTrue-empty v; open' = λ e. cc })) in
-    s.open' (closed-true (fold after (start f) lines).fault (fold after (start f) lines).closed e)
+    s.open' (closed-true (fold state_after_line (start f) lines).fault (fold state_after_line (start f) lines).closed e)

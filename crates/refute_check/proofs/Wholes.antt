@@ -1,4 +1,4 @@
--- A whole text is read in one way, as what it is the text of.
+-- A whole text is read in only one way.
 use Rattle.std.proofs.lemmas.Bool.{and_parts, and_from, not-true}
 use Rattle.std.proofs.Common.{
   ◌≡◌,
@@ -71,7 +71,7 @@ head-one h k r q e = let g : ◌≡◌ {A = Option Head} (Some h) (Some k) = sym
 line-one : (l m : Line) → is_readable l ≡ true → is_readable m ≡ true → line_text l ≡ line_text m → l ≡ m
 line-one l m r q e = let g : ◌≡◌ {A = Option Line} (Some l) (Some m) = sym (line_guess-line_text l r) ∙ ap line_guess e ∙ line_guess-line_text m q in cc
 
--- a line is taken in one way
+-- a line is read in only one way
 taken-one : (n : ℕ) (bytes : List ℕ) (x y : Taken) → IsTakenAs n bytes x → IsTakenAs n bytes y → x ≡ y
 taken-one n bytes More y a b = absurd a
 taken-one n bytes (Header h) More a b = absurd b
@@ -158,7 +158,7 @@ reads-line (b ∷ bytes) s rest x xs t e p h r =
     (subst (λ z. IsTakenAs s.line z x) (sym (append_assoc s.unfinished (b ∷ []) bytes)) h)
     (subst (λ z. Reads (after_taken z x) rest xs t) (sym (pushed-cons s b bytes)) r))
 
--- between two lines, before the line of that number
+-- the state between two lines, before the line with this number
 abbrev pub between : ℕ → Reading
 between n = record { unfinished = []; line = n; fault = None }
 

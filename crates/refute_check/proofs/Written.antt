@@ -1,4 +1,4 @@
--- A line whose numbers are in their ranges is as the format allows it.
+-- A line with all numbers in range is one that the format allows.
 use Rattle.std.proofs.lemmas.Bool.{and_parts, and_from}
 use Rattle.std.proofs.Common.{◌≡◌, ℕ, ℤ, List, [], ◌∷◌, true, refl}
 use Rattle.std.specs.Prelude.{nat_lt, not, ◌&&◌}

@@ -5,14 +5,14 @@ use Rattle.refute_check.specs.declared.given.Left.{Left}
 use Rattle.refute_check.specs.declared.given.Left.TheVariants.{Nothing, One, More}
 
 -- whether a list has no literal, one, or more
-abbrev pub counted : List ℤ → Left
-counted [] = Nothing
-counted (l ∷ []) = One l
-counted (l ∷ m ∷ ls) = More
+abbrev pub count_of_literals : List ℤ → Left
+count_of_literals [] = Nothing
+count_of_literals (l ∷ []) = One l
+count_of_literals (l ∷ m ∷ ls) = More
 
 -- what is left of a clause if the given literals are true
-abbrev pub what_is_left : List ℤ → List ℤ → Left
-what_is_left given c = counted (left given c)
+abbrev pub left_of_clause : List ℤ → List ℤ → Left
+left_of_clause given c = count_of_literals (left given c)
 
 -- selects a value by what is left
 abbrev pub by_left : {A : Type 0} → Left → A → (ℤ → A) → A → A

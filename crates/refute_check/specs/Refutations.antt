@@ -4,7 +4,7 @@ use Rattle.std.specs.List.{list_all, fold}
 use Rattle.std.specs.Option.{option_map_or}
 use Rattle.std.specs.FinMap.{empty, get, insert, remove}
 use Rattle.cnf_core.specs.Clauses.{Formula, is_within}
-use Rattle.refute_check.specs.Left.{by_left, what_is_left}
+use Rattle.refute_check.specs.Left.{by_left, left_of_clause}
 use Rattle.list_laws.specs.Lists.{is_nil}
 use Rattle.refute_check.specs.Kept.{KeptClauses}
 use Rattle.refute_check.specs.declared.line.TheConstants.{LINES}
@@ -29,7 +29,7 @@ abbrev pub hints_fault : ℕ → KeptClauses → List ℤ → List ℕ → Optio
 hints_fault n kept given [] = Some (NoConflict n)
 hints_fault n kept given (h ∷ hs) =
     option_map_or
-    (λ c. by_left (what_is_left given c) (if is_nil hs then None else Some (Hint n)) (λ l. hints_fault n kept (given ++ l ∷ []) hs) (Some (Hint n)))
+    (λ c. by_left (left_of_clause given c) (if is_nil hs then None else Some (Hint n)) (λ l. hints_fault n kept (given ++ l ∷ []) hs) (Some (Hint n)))
     (get kept h)
     (Some (NoClause n))
 
@@ -39,8 +39,8 @@ can_delete kept [] = true
 can_delete kept (n ∷ ns) = is_some (get kept n) && can_delete (remove kept n) ns
 
 -- the kept clauses without those of these numbers
-abbrev pub without : KeptClauses → List ℕ → KeptClauses
-without kept ns = fold remove kept ns
+abbrev pub without_clauses : KeptClauses → List ℕ → KeptClauses
+without_clauses kept ns = fold remove kept ns
 
 -- the first fault of line `n` if it adds a clause, over `vars` variables and the kept clauses
 abbrev pub clause_fault : ℕ → ℕ → KeptClauses → List ℤ → List ℕ → Option CheckFault
@@ -81,22 +81,22 @@ abbrev pub passed_clause : Checking → List ℤ → Checking
 passed_clause s lits = record (keep s lits) { line = s.line + 1; closed = s.closed || is_nil lits }
 
 -- the state after a line that passes
-abbrev pub passed : Checking → Line → Checking
-passed s (Add lits hints) = passed_clause s lits
-passed s (Delete ns) = record s { line = s.line + 1; kept = without s.kept ns }
+abbrev pub state_after_pass : Checking → Line → Checking
+state_after_pass s (Add lits hints) = passed_clause s lits
+state_after_pass s (Delete ns) = record s { line = s.line + 1; kept = without_clauses s.kept ns }
 
 -- the state after a line with a fault
-abbrev pub refused : CheckFault → Checking → Checking
-refused f s = record s { line = s.line + 1; kept = empty; fault = Some f }
+abbrev pub state_after_fault : CheckFault → Checking → Checking
+state_after_fault f s = record s { line = s.line + 1; kept = empty; fault = Some f }
 
 -- the state after a line with this first fault, if any
-abbrev pub judged : Option CheckFault → Checking → Line → Checking
-judged None s l = passed s l
-judged (Some f) s l = refused f s
+abbrev pub state_after_verdict : Option CheckFault → Checking → Line → Checking
+state_after_verdict None s l = state_after_pass s l
+state_after_verdict (Some f) s l = state_after_fault f s
 
 -- the state after a line; after a fault, nothing changes any more
-abbrev pub after : Checking → Line → Checking
-after s l = if is_some s.fault then s else judged (line_fault (s.line + 1) s.vars s.kept l) s l
+abbrev pub state_after_line : Checking → Line → Checking
+state_after_line s l = if is_some s.fault then s else state_after_verdict (line_fault (s.line + 1) s.vars s.kept l) s l
 
 -- the first fault, or else whether an empty clause was added
 abbrev pub verdict_of : Option CheckFault → Bool → Result Checked CheckFault
@@ -108,7 +108,7 @@ verdict s = verdict_of s.fault s.closed
 
 -- the verdict on a derivation over a formula's clauses
 abbrev pub check : Formula → List Line → Result Checked CheckFault
-check f lines = verdict (fold after (start f) lines)
+check f lines = verdict (fold state_after_line (start f) lines)
 
 abbrev pub IsClosed : Formula → List Line → Type 0
 IsClosed f lines = check f lines ≡ Ok Closed

@@ -43,7 +43,7 @@ impl Model for Checker {
 }
 
 impl Checker {
-    ghost use Rattle.refute_check.specs.Refutations.{start, keep, after, verdict, clause_fault, passed_clause, refused};
+    ghost use Rattle.refute_check.specs.Refutations.{start, keep, state_after_line, verdict, clause_fault, passed_clause, state_after_fault};
     ghost use Rattle.refute_check.specs.helpers.Checkers.{AreWithin};
     ghost use Rattle.refute_check.specs.declared.line.TheConstants.{LINES};
 
@@ -83,8 +83,8 @@ impl Checker {
     /// Checks the next line. After a fault, each later call returns it, and nothing changes.
     pub fn add(&mut self, line: &Line) -> Result<(), CheckFault>
         requires { self.old.line ≤ LINES }
-        ensures ok { OnOk result ((self.new ≡ after self.old line.now) × (self.new.fault ≡ None)) }
-        ensures fault { IfErr result (λ fault. fault ≢ CheckFault.Memory → (self.new ≡ after self.old line.now) × (self.new.fault ≡ Some fault)) }
+        ensures ok { OnOk result ((self.new ≡ state_after_line self.old line.now) × (self.new.fault ≡ None)) }
+        ensures fault { IfErr result (λ fault. fault ≢ CheckFault.Memory → (self.new ≡ state_after_line self.old line.now) × (self.new.fault ≡ Some fault)) }
         ensures memory { IsErrOf result CheckFault.Memory → self.new ≡ self.old }
     {
         if let Some(fault) = self.fault {
@@ -118,8 +118,8 @@ impl Checker {
     fn add_clause(&mut self, clause: &Clause, hints: &Numbers) -> Result<(), CheckFault>
         requires none { self.old.fault ≡ None }
         requires lines { self.old.line ≤ LINES }
-        ensures ok { OnOk result ((self.new ≡ after self.old (Line.Add clause.now hints.now)) × (self.new.fault ≡ None)) }
-        ensures fault { IfErr result (λ fault. fault ≢ CheckFault.Memory → (self.new ≡ after self.old (Line.Add clause.now hints.now))
+        ensures ok { OnOk result ((self.new ≡ state_after_line self.old (Line.Add clause.now hints.now)) × (self.new.fault ≡ None)) }
+        ensures fault { IfErr result (λ fault. fault ≢ CheckFault.Memory → (self.new ≡ state_after_line self.old (Line.Add clause.now hints.now))
             × (self.new.fault ≡ Some fault)) }
         ensures memory { IsErrOf result CheckFault.Memory → self.new ≡ self.old }
     {
@@ -172,7 +172,7 @@ impl Checker {
     fn refuse(&mut self, fault: CheckFault)
         requires lines { self.old.line ≤ LINES }
         requires fault { fault ≢ CheckFault.Memory }
-        ensures { self.new ≡ refused fault self.old }
+        ensures { self.new ≡ state_after_fault fault self.old }
     {
         self.kept = Kept::new(self.alloc);
         self.line += 1;
@@ -183,8 +183,8 @@ impl Checker {
     fn delete(&mut self, numbers: &Numbers) -> Result<(), CheckFault>
         requires none { self.old.fault ≡ None }
         requires lines { self.old.line ≤ LINES }
-        ensures ok { OnOk result ((self.new ≡ after self.old (Line.Delete numbers.now)) × (self.new.fault ≡ None)) }
-        ensures fault { IfErr result (λ fault. fault ≢ CheckFault.Memory → (self.new ≡ after self.old (Line.Delete numbers.now))
+        ensures ok { OnOk result ((self.new ≡ state_after_line self.old (Line.Delete numbers.now)) × (self.new.fault ≡ None)) }
+        ensures fault { IfErr result (λ fault. fault ≢ CheckFault.Memory → (self.new ≡ state_after_line self.old (Line.Delete numbers.now))
             × (self.new.fault ≡ Some fault)) }
         ensures memory { IsErrOf result CheckFault.Memory → self.new ≡ self.old }
     {

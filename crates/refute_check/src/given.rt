@@ -50,7 +50,7 @@ pub enum Left {
 }
 
 impl Given {
-    ghost use Rattle.refute_check.specs.Left.{what_is_left};
+    ghost use Rattle.refute_check.specs.Left.{left_of_clause};
     ghost use Rattle.refute_check.specs.helpers.Given.{those};
 
     /// An empty set of literals.
@@ -99,7 +99,7 @@ impl Given {
     /// What is left of a clause if these are true.
     pub fn left(&self, clause: &[Lit]) -> Left
         requires { IsTrue (is_within self.now.vars clause.now) }
-        ensures left { result ≡ what_is_left self.now.literals clause.now }
+        ensures left { result ≡ left_of_clause self.now.literals clause.now }
         ensures within { IsTrue (is_within self.now.vars (those result)) }
     {
         let mut found = Left::Nothing;

@@ -1,6 +1,6 @@
 //! What the hints of a line prove, and which clauses a line deletes.
 ghost use Rattle.std.specs.Prelude.{◌≡◌, IfOk, IsTrue, if◌then◌else◌, map, neg_ℤ, [], None, Some};
-ghost use Rattle.refute_check.specs.Refutations.{hints_fault, can_delete, without};
+ghost use Rattle.refute_check.specs.Refutations.{hints_fault, can_delete, without_clauses};
 ghost use Rattle.refute_check.specs.helpers.Checkers.{AreWithin};
 ghost use Rattle.cnf_core.specs.Clauses.{is_within};
 
@@ -69,7 +69,7 @@ fn conflict(line: u32, is_last: bool) -> Option<CheckFault>
 /// Deletes clauses one after the other until one isn't kept, and tells whether all were.
 pub fn delete(kept: &mut Kept, numbers: &[u32]) -> bool
     ensures all { result ≡ can_delete kept.old numbers.now }
-    ensures gone { IsTrue result → kept.new ≡ without kept.old numbers.now }
+    ensures gone { IsTrue result → kept.new ≡ without_clauses kept.old numbers.now }
 {
     for number in numbers {
         if !kept.remove(*number) {

@@ -1,4 +1,4 @@
--- Marks that are set from the first empty clause backwards are those of the clauses that are reached.
+-- Marking backwards from the first empty clause marks exactly the reached clauses.
 use Rattle.std.proofs.Common.{◌≡◌, ◌∙◌, ℕ, ◌+◌, ◌-◌, ◌<◌, ◌≤◌, List, [], length, refl, ap, sym, subst, arith, get_or, map, set, take, replicate, Bor}
 use Rattle.std.proofs.Common.{Bool, true, false, inl, inr}
 use Rattle.std.specs.List.{Contains}
@@ -15,21 +15,21 @@ module _ (size : ℕ) (lines : List Line) where
   abbrev used : List (List ℕ)
   used = hints_used lines
 
-  -- the clauses from a place on have given their hints marks
+  -- the clauses from a place on have marked their hints
   pub record AreSwept (marks : List Bool) (place : ℕ) : Type 0 where
     pub all : length marks ≡ size + length used
     pub reached : (n : ℕ) → get_or marks n false ≡ true → IsReached size lines (n + 1)
     pub first : (n : ℕ) → n + 1 ≡ size + length used → get_or marks n false ≡ true
     pub every : (k h : ℕ) → place ≤ k → get_or marks (size + k) false ≡ true → Contains (get_or used k []) (h + 1) → get_or marks h false ≡ true
 
-  -- once all have, each clause that is reached has a mark
+  -- once all clauses have, each reached clause is marked
   pub all_swept : (marks : List Bool) → AreSwept marks 0 → (n : ℕ) → IsReached size lines n → (m : ℕ) → m + 1 ≡ n → get_or marks m false ≡ true
   all_swept marks are n (First k is) m at = are.first m (at ∙ is)
   all_swept marks are n (Hinted k j reached among) m at =
       are.every k m (omega arith) (all_swept marks are (size + k + 1) reached (size + k) refl)
       (subst (λ j. Contains (get_or used k []) j) (sym at) among)
 
-  -- the marks of a clause's hints are set
+  -- the hints of a clause are marked
   pub swept_more : (old new : List Bool) (place : ℕ) → ((k h : ℕ) → Contains (get_or used k []) h → (0 < h) × (h ≤ size + k)) → AreSwept old (place + 1)
       → get_or old (size + place) false ≡ true → AreMarked old (get_or used place []) new → AreSwept new place
   swept_more old new place earlier are marked more = record {
@@ -48,7 +48,7 @@ module _ (size : ℕ) (lines : List Line) where
     ];
   }
 
-  -- so with the hints of the clause before a place
+  -- the same for the hints of the clause before a place
   pub swept_step : (old new : List Bool) (place : ℕ) (numbers : List ℕ) → ((k h : ℕ) → Contains (get_or used k []) h → (0 < h) × (h ≤ size + k))
       → 0 < place → AreSwept old place → get_or used (place - 1) [] ≡ numbers → get_or old (size + (place - 1)) false ≡ true → AreMarked old numbers new
       → AreSwept new (place - 1)
@@ -56,7 +56,7 @@ module _ (size : ℕ) (lines : List Line) where
       swept_more old new (place - 1) earlier (subst (AreSwept old) (omega (arith, positive)) are) marked
       (subst (λ (ns : List ℕ). AreMarked old ns new) (sym of) more)
 
-  -- at first the first empty clause has a mark, the last
+  -- at first only the first empty clause is marked, which is the last
   abbrev pub one_mark : List Bool
   one_mark = set (replicate (size + length used) false) (size + length used - 1) true
 
@@ -111,7 +111,7 @@ module _ (size : ℕ) (lines : List Line) where
             (omega (arith, past, length-take-le size marks (omega (arith, are.all))))) ∙ m))
       ]
 
--- the hints of a place, behind a reference
+-- the hints of a place, through a reference
 pub hints_at : (items : List (Bor (List ℕ))) (us : List (List ℕ)) (place : ℕ) (x : Bor (List ℕ)) → map (λ h. h.now) items ≡ us
     → x ≡ get_or items place x → place < length items → get_or us place [] ≡ x.now
 hints_at items us place x of is below =

@@ -1,4 +1,5 @@
--- A closed derivation rests on the clauses that it reaches: nothing satisfies those of the formula.
+-- A closed derivation rests on the clauses that it reaches: no valuation satisfies those of the
+-- formula.
 use Rattle.std.proofs.Common.{◌≡◌, ◌∙◌, ℕ, zero, suc, ◌+◌, ◌<◌, List, [], ◌∷◌, length, map, ℤ, refl, ap, sym, subst, arith, get_or}
 use Rattle.std.proofs.Common.{Bool, true, false, cond, Some, None}
 use Rattle.std.specs.Prelude.{IfSome, ◌||◌}
@@ -10,7 +11,7 @@ use Rattle.std.proofs.lemmas.Bool.{and_parts}
 use borrow.Author.Tests.{eqb-true}
 use Rattle.cnf_core.specs.Clauses.{Valuation, clause_true, satisfies}
 use Rattle.refute_check.specs.Kept.{KeptClauses}
-use Rattle.refute_check.specs.Refutations.{Checking, keep, opening, start, without, after, passed}
+use Rattle.refute_check.specs.Refutations.{Checking, keep, opening, start, without_clauses, state_after_line, state_after_pass}
 use Rattle.refute_check.specs.declared.line.Line.{Line}
 use Rattle.refute_check.specs.declared.line.Line.TheVariants.{Add, Delete}
 use Rattle.refute_check.proofs.Checkings.{keep-next}
@@ -20,7 +21,7 @@ use Rattle.refute_core.specs.Laws.{ReachedAreUnsatisfiable}
 use Rattle.refute_core.proofs.Passes.{first_passes, goes_on, is_closed, start_open}
 
 module _ (v : Valuation) (R : ℕ → Type 0) where
-  -- each kept clause of such a number is true
+  -- each kept clause with such a number is true
   abbrev AreTrueIn : KeptClauses → Type 0
   AreTrueIn kept = (n : ℕ) → R n → IsTrueAt v kept n
 
@@ -40,7 +41,7 @@ module _ (v : Valuation) (R : ℕ → Type 0) where
       by true = tt
       by false = are q r
 
-  true_without : (kept : KeptClauses) (ns : List ℕ) → AreTrueIn kept → AreTrueIn (without kept ns)
+  true_without : (kept : KeptClauses) (ns : List ℕ) → AreTrueIn kept → AreTrueIn (without_clauses kept ns)
   true_without kept [] are = are
   true_without kept (n ∷ ns) are = true_without (remove kept n) ns (true_remove kept n are)
 
@@ -51,8 +52,8 @@ module _ (v : Valuation) (R : ℕ → Type 0) where
       true_from (keep s c) cs (true_insert s.kept s.next c are (λ r. each 0 (omega arith) (subst R (omega arith) r)))
       (λ k below r. each (suc k) (omega (arith, below)) (subst R (omega arith) r))
 
-  -- where such numbers are closed under hints, the first empty clause has none
-  never : (s : Checking) (base : ℕ) (ls : List Line) → s.next ≡ suc base → (fold after s ls).fault ≡ None → (fold after s ls).closed ≡ true
+  -- if such numbers are closed under hints, the first empty clause doesn't have one
+  never : (s : Checking) (base : ℕ) (ls : List Line) → s.next ≡ suc base → (fold state_after_line s ls).fault ≡ None → (fold state_after_line s ls).closed ≡ true
       → s.closed ≡ false → AreTrueIn s.kept
       → ((k : ℕ) → R (base + k + 1) → (h : ℕ) → Contains (get_or (hints_used ls) k []) h → R h) → R (base + length (hints_used ls)) → ⊥
   never s base [] at free closed none are hinted first = let e : true ≡ false = sym closed ∙ none in cc
@@ -64,7 +65,7 @@ module _ (v : Valuation) (R : ℕ → Type 0) where
   never s base (Add (l ∷ lits) hints ∷ ls) at free closed none are hinted first =
       let p = first_passes s (Add (l ∷ lits) hints) ls free in
       let on = goes_on s (Add (l ∷ lits) hints) ls p.to in
-      never (passed s (Add (l ∷ lits) hints)) (suc base) ls (omega (arith, at)) (sym (ap (λ (t : Checking). t.fault) on) ∙ free)
+      never (state_after_pass s (Add (l ∷ lits) hints)) (suc base) ls (omega (arith, at)) (sym (ap (λ (t : Checking). t.fault) on) ∙ free)
       (sym (ap (λ (t : Checking). t.closed) on) ∙ closed) (ap (λ b. b || false) none)
       (true_insert s.kept s.next (l ∷ lits) are (λ r. clause-sound v (s.line + 1) s.vars s.kept (l ∷ lits) hints
       (λ h among. are h (hinted 0 (subst R (omega (arith, at)) r) h among)) p.passes))
@@ -72,10 +73,10 @@ module _ (v : Valuation) (R : ℕ → Type 0) where
   never s base (Delete ns ∷ ls) at free closed none are hinted first =
       let p = first_passes s (Delete ns) ls free in
       let on = goes_on s (Delete ns) ls p.to in
-      never (passed s (Delete ns)) base ls at (sym (ap (λ (t : Checking). t.fault) on) ∙ free) (sym (ap (λ (t : Checking). t.closed) on) ∙ closed) none
+      never (state_after_pass s (Delete ns)) base ls at (sym (ap (λ (t : Checking). t.fault) on) ∙ free) (sym (ap (λ (t : Checking). t.closed) on) ∙ closed) none
       (true_without s.kept ns are) hinted first
 
--- each of those clauses is true
+-- each of the named clauses is true
 named_true : (v : Valuation) (cs : List (List ℤ)) (places : List ℕ) → satisfies v (map (λ place. get_or cs place []) places) ≡ true → (place : ℕ)
     → Contains places place → clause_true v (get_or cs place []) ≡ true
 named_true v cs [] all place (k, below, is) = absurd (omega (arith, below))
@@ -86,7 +87,7 @@ named_true v cs (p ∷ places) all place (suc k, below, is) =
 
 pub reached_are_unsatisfiable : ReachedAreUnsatisfiable
 reached_are_unsatisfiable f lines places closed every v all =
-    let e = is_closed (fold after (start f) lines).fault (fold after (start f) lines).closed closed in
+    let e = is_closed (fold state_after_line (start f) lines).fault (fold state_after_line (start f) lines).closed closed in
     let R = IsReached (length f.clauses) lines in
     let next : (start f).next ≡ suc (length f.clauses) = omega (arith, keep-next (opening f.vars) f.clauses) in
     never v R (start f) (length f.clauses) lines next e.0 e.1 (start_open (opening f.vars) f.clauses)

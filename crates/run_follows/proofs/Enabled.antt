@@ -1,4 +1,4 @@
--- Whether a move is enabled is told by the history.
+-- The history determines whether a move is enabled.
 use Rattle.std.proofs.Common.{◌≡◌, ◌↔◌, ◌∙◌, ℕ, ◌<◌, ◌==◌, length, Bool, true, false, not, ◌&&◌, ◌||◌, List, []}
 use Rattle.std.proofs.Common.{IsTrue, inl, inr, ◌∷◌, ◌++◌, Option, Some, None, refl, sym, ap, ap₂, subst}
 use Rattle.std.specs.Prelude.{is_some, is_none, unwrap_or, option_and_then, if◌then◌else◌}
@@ -18,13 +18,13 @@ use Rattle.tc_base.specs.declared.request.Request.TheVariants.{Read, Exchange, C
 use Rattle.tc_code.specs.declared.instr.Instr.{Instr}
 use Rattle.tc_code.specs.declared.instr.Instr.TheVariants.{Inside, Holds, Signal, Ready, Assert, Nonzero, InRange}
 use Rattle.tc_code.specs.Code.{Code}
-use Rattle.tc_code.specs.Step.{request, site, instr_of, loaded, drains_first, is_let, allows, perform, woken, step, move_of}
+use Rattle.tc_code.specs.Step.{request, site, instr_of, loaded, drains_first, is_let, allows, perform, state_after_wake, step, move_of}
 use Rattle.tc_code.specs.Step.{run_of, wake_of, drain_of, opening}
 use Rattle.tc_code.specs.Step as stepping
 use Rattle.tc_code.specs.Run.{run}
 use Rattle.store_buffers.specs.Pending.{Store, stores, Binding, Stands, waits}
 use Rattle.store_buffers.specs.Laws.{Laws, SomeDrains}
-use Rattle.run_history.specs.History.{Deed, pending, taken, history, Issue, pending_issues}
+use Rattle.run_history.specs.History.{Deed, pending, value_taken, history, Issue, pending_issues}
 use Rattle.run_follows.specs.Follow.{seen_in, is_let_in, is_allowed_in, may_wake_in, taken_in, IsNextDrain, HasTurn}
 use Rattle.run_history.specs.Told.{failed_in}
 use Rattle.run_history.proofs.Locals.{LocalsAre, keeps_locals, opening_locals}
@@ -37,7 +37,7 @@ use Rattle.run_laws.proofs.Asks.{AsksOf}
 use Rattle.run_history.proofs.Frame.{Keeps, holds_after}
 
 module _ {B : Type 0} (ops : BufferOps B) (model : Model) (bound : Binding) (laws : Laws ops model bound) (code : Code) where
-  -- all that a history tells of a state
+  -- everything that a history determines of a state
   pub record Tells (s : State B) (h : List Deed) : Type 0 where
     pub memory : MemoryIs ops code s h
     pub owners : OwnersAre ops code s h
@@ -94,7 +94,7 @@ module _ {B : Type 0} (ops : BufferOps B) (model : Model) (bound : Binding) (law
   pub told : (ms : List Move) (s : State B) → run ops code ms ≡ Some s → Tells s (history ops code ms)
   told ms s leads = holds_after ops code Tells keeps_tells opening_tells ms s leads
 
-  -- where something may drain there are buffers
+  -- a drain needs buffers
   pub drains_by_buffers : (b : B) (form : Option ℕ) → IsTrue (ops.may_drain b form) → ops.buffered ≡ true
   drains_by_buffers b form may =
       elim (cases_Bool ops.buffered) [ inl has ↦ has | inr none ↦ absurd (false≢true (sym (laws.unbuffered none b form) ∙ may)) ]
@@ -109,7 +109,7 @@ module _ {B : Type 0} (ops : BufferOps B) (model : Model) (bound : Binding) (law
     pub load_told : (c : ℕ) → c < length code.memory → loaded ops s t c ≡ seen_in ops.buffered code h n c
     load_told c within = ap₂ unwrap_or (laws.forward_stands t.buffer (pending ops.buffered h n) c stands) (a.memory.values c within)
 
-    pub taken_told : (r : Request) → AsksOf code r → taken ops code s t r ≡ taken_in ops.buffered code h n r
+    pub taken_told : (r : Request) → AsksOf code r → value_taken ops code s t r ≡ taken_in ops.buffered code h n r
     taken_told (Read c) within = load_told c within
     taken_told (Exchange c v) within = a.memory.values c within
     taken_told (CompareExchange c e v) within = a.memory.values c within
@@ -125,7 +125,7 @@ module _ {B : Type 0} (ops : BufferOps B) (model : Model) (bound : Binding) (law
     pub allowed_told : (r : Request) → AsksOf code r → allows ops s n t r ≡ is_allowed_in ops.buffered h n r
     allowed_told r within = ap₂ (λ e l. (not (drains_first r) || e) && l) empty_told (let_told r within)
 
-    -- where no thread has failed, a move goes by what it needs
+    -- if no thread has failed, a move is enabled by its own conditions
     unless_failed : {A : Type 0} (o : Option Name) (x : Option A) → is_some (if is_some o then None else x) ≡ is_none o && is_some x
     unless_failed None x = refl
     unless_failed (Some m) x = refl
@@ -153,7 +153,7 @@ module _ {B : Type 0} (ops : BufferOps B) (model : Model) (bound : Binding) (law
     wake_of_told : (u : Name) (i : Instr) → AsksOf code (request t.local i)
         → is_some (wake_of ops s n u t i) ≡ may_wake_in ops.buffered h n u (request t.local i)
     wake_of_told u (Signal c) within =
-        where_true _ (woken ops s n u t c) ∙ ap₂ (λ e ns. e && set.contains ns u) empty_told (a.waiters.waiters c within)
+        where_true _ (state_after_wake ops s n u t c) ∙ ap₂ (λ e ns. e && set.contains ns u) empty_told (a.waiters.waiters c within)
     wake_of_told u (Inside len e) within = sym (no_wake u _)
     wake_of_told u (Holds m) within = sym (no_wake u _)
     wake_of_told u (Ready v) within = sym (no_wake u _)
@@ -173,9 +173,9 @@ module _ {B : Type 0} (ops : BufferOps B) (model : Model) (bound : Binding) (law
     pub drain_told : (form : Option ℕ) → is_some (step ops code s (move.Drain n form)) ≡ is_none (failed_in h) && ops.may_drain t.buffer form
     drain_told form =
         move_told (move.Drain n form) (ops.may_drain t.buffer form)
-        (ap (λ o. is_some (option_and_then (λ x. drain_of ops s n x form) o)) here ∙ where_true _ (stepping.drained ops s n t form))
+        (ap (λ o. is_some (option_and_then (λ x. drain_of ops s n x form) o)) here ∙ where_true _ (stepping.state_after_drain ops s n t form))
 
-    -- a store may drain exactly where one is pending that needn't wait
+    -- a store may drain exactly if one is pending that needn't wait
     may_drain_told : (form : Option ℕ) → (ops.may_drain t.buffer form ≡ true → SomeDrains ops bound (pending ops.buffered h n) form)
         × (SomeDrains ops bound (pending ops.buffered h n) form → ops.may_drain t.buffer form ≡ true)
     may_drain_told form = (
@@ -183,7 +183,7 @@ module _ {B : Type 0} (ops : BufferOps B) (model : Model) (bound : Binding) (law
       λ some. (laws.drain_stands t.buffer (pending ops.buffered h n) form some.older some.store some.newer stands some.drains).may,
     )
 
-    -- it is the turn of a store that may drain
+    -- a store that may drain is next
     pub next_drain : (form : Option ℕ) → ops.buffered ≡ true → (some : SomeDrains ops bound (pending ops.buffered h n) form)
         → (split : SplitAt (pending_issues ops.buffered h n) some.older (Store some.store) some.newer)
         → IsNextDrain ops.buffered bound h n split.at.number some.store.cell some.store.value
@@ -196,7 +196,7 @@ module _ {B : Type 0} (ops : BufferOps B) (model : Model) (bound : Binding) (law
           (subst (λ qs. waits bound qs some.store.cell ≡ false) (sym split.olders) some.drains.is_free);
     }
 
-    -- some store may drain exactly where it is its turn
+    -- some store may drain exactly if one is next
     turn_by : (form : Option ℕ) → ops.buffered ≡ true → SomeDrains ops bound (pending ops.buffered h n) form → HasTurn ops.buffered bound h n form
     turn_by form has some =
         let split = split_at (pending_issues ops.buffered h n) some.older (Store some.store) some.newer some.drains.there in
@@ -225,7 +225,7 @@ module _ {B : Type 0} (ops : BufferOps B) (model : Model) (bound : Binding) (law
           };
         }
 
-    -- so a drain is enabled exactly there, unless a thread has failed
+    -- a drain is enabled exactly if its store is next, unless a thread has failed
     pub drain_iff : (form : Option ℕ)
         → (is_some (step ops code s (move.Drain n form)) ≡ true) ↔ ((is_none (failed_in h) ≡ true) × HasTurn ops.buffered bound h n form)
     drain_iff form = (

@@ -1,4 +1,4 @@
--- Each deed of a history may come after those before it.
+-- Each deed of a history may follow those before it.
 use Rattle.std.proofs.Common.{◌≡◌, ◌∙◌, inl, inr, ℕ, ◌+◌, ℤ, Bool, true, false, IsTrue, List, [], ◌∷◌, ◌++◌}
 use Rattle.std.proofs.Common.{Option, Some, None, refl, sym, ap, subst}
 use Rattle.std.specs.Prelude.{is_some, option_map, option_and_then}
@@ -36,7 +36,7 @@ use Rattle.run_follows.proofs.Enabled.{Tells, keeps_tells, opening_tells, drains
 use Rattle.run_history.proofs.Threads.{number_is, children_are}
 use Rattle.run_history.proofs.Frame.{Keeps, holds_after}
 
--- one more deed may follow
+-- a history stays one of deeds that follow if one more deed may follow
 pub follow_push : (buffered : Bool) (bound : Binding) (code : Code) (h : List Deed) (d : Deed) → AllFollow buffered bound code h → failed_in h ≡ None
     → MayFollow buffered bound code h d → AllFollow buffered bound code (h ++ d ∷ [])
 follow_push buffered bound code h d all none may older newer e is =
@@ -48,7 +48,7 @@ follow_push buffered bound code h d all none may older newer e is =
       | inr b ↦ all older b.rest e b.there
     ]
 
--- one more step is of a thread that is there and hasn't exited
+-- one more step is of a thread that exists and hasn't exited
 threads_push : (h : List Deed) (n : Name) (k : ℕ) (r : Request) (v : ℤ) (o : Option Name) → StepsAreOfThreads h → IsLeftIn h n
     → StepsAreOfThreads (h ++ Did n k r v o ∷ [])
 threads_push h n k r v o all of older newer q j r' v' o' is =
@@ -75,7 +75,7 @@ module _ {B : Type 0} (machine : Machine B) where
     pub follow : AllFollow ops.buffered bound code h
     pub threads : StepsAreOfThreads h
 
-  -- a step that wakes nobody may be done where it is allowed
+  -- a step that wakes no thread may be done if it is allowed
   may_do_is : (h : List Deed) (n : Name) (t : Local) (r : Request) → may_do_in ops.buffered h n r (created_by ops code n t r) ≡ is_allowed_in ops.buffered h n r
   may_do_is h n t (WakeOne c) = refl
   may_do_is h n t Silent = refl
@@ -96,7 +96,7 @@ module _ {B : Type 0} (machine : Machine B) where
         sym (a.deeds.buffers.threads.exits n) ∙ ap (λ o. option_map_or (λ (x : Thread B). x.local.has_exited) o false) here
         ∙ (unless t.local.has_exited _ i at).0
 
-  -- what a thread asks is what the history tells
+  -- the history determines the next request of a thread
   asks_what : (s : State B) (h : List Deed) (n : Name) (t : Thread B) (i : Instr) (r : Request) → fin.get s.threads n ≡ Some t
       → instr_of code t.local ≡ Some i → request t.local i ≡ r → Tells ops model bound laws code s h → asks_next code h n ≡ Some r
   asks_what s h n t i r here at asks a =
@@ -143,7 +143,7 @@ module _ {B : Type 0} (machine : Machine B) where
       let out = laws.drain_stands t.buffer ps form some.older some.store some.newer st some.drains in
       let split = split_at (pending_issues ops.buffered h n) some.older (Store some.store) some.newer some.drains.there in
       subst (MayFollow ops.buffered bound code h)
-      (sym (deed_is ops model bound laws code s (stepping.drained ops s n t form) h n t form here refl some.older some.store some.newer some.drains.is_free out
+      (sym (deed_is ops model bound laws code s (stepping.state_after_drain ops s n t form) h n t form here refl some.older some.store some.newer some.drains.is_free out
       a.deeds.buffers split))
       (next_drain ops model bound laws code s h a n t here form has some split)
 

@@ -1,4 +1,4 @@
--- A list of deeds of which each may come after those before it is the history of a run.
+-- A list of deeds, each of which may follow those before it, is the history of a run.
 use Rattle.std.proofs.Common.{◌<◌, ◌≡◌, ◌∙◌, ℕ, ◌+◌, ℤ, pos, true, false, ◌&&◌, List, [], ◌∷◌, ◌++◌, append_assoc, append-nil}
 use Rattle.std.proofs.Common.{Option, Some, None, refl, sym, ap, ap₂, subst, arith}
 use Rattle.std.specs.Prelude.{option_map, option_and_then}
@@ -23,7 +23,7 @@ use Rattle.tc_code.specs.Step as stepping
 use Rattle.tc_code.specs.Run.{IsReached, run_from, run}
 use Rattle.tc_code.proofs.Facts.{opening_is_reached, step_is_reached}
 use Rattle.store_buffers.specs.Pending.{Store, stores, form_of, waits}
-use Rattle.run_history.specs.History.{Deed, Did, Drained, Issue, pending_issues, pending, did, woke, drained, taken, created_by}
+use Rattle.run_history.specs.History.{Deed, Did, Drained, Issue, pending_issues, pending, did, woke, drained, value_taken, created_by}
 use Rattle.run_history.specs.History.{by_instr, deed_of, history_from, history}
 use Rattle.run_history.specs.Locals.{asks_next}
 use Rattle.run_history.specs.Told.{steps_in, failed_in, waiting_in}
@@ -41,7 +41,7 @@ use Rattle.run_history.proofs.Threads.{number_is, none_done, children_are}
 use Rattle.run_history.proofs.Frame.{kept_by_step}
 use Rattle.run_laws.proofs.Makes.{makes_run, makes_wake, makes_drain}
 
--- an instruction that asks something is there
+-- the instruction with this request
 pub record AsksBy (code : Code) (t : Local) (r : Request) : Type 0 where
   pub instr : Instr
   pub at : instr_of code t ≡ Some instr
@@ -54,7 +54,7 @@ asks_by code t r (Some i) at e = record { instr = i; at = at; asks = same_Some (
 module _ {B : Type 0} (machine : Machine B) where
   open machine use {ops, model, bound, laws, code, lawful}
 
-  -- and so is a thread that does
+  -- the thread whose next request is this
   pub record Asker (s : State B) (n : Name) (r : Request) : Type 0 where
     pub thread : Thread B
     pub there : fin.get s.threads n ≡ Some thread
@@ -81,7 +81,7 @@ module _ {B : Type 0} (machine : Machine B) where
     going = a.failure ∙ none
 
     module _ (n : Name) (k : ℕ) (v : ℤ) where
-      -- a step that wakes nobody is a run move
+      -- a step that wakes no thread is a run
       plays_run : (r : Request) (o : Option Name) (x : Asker s n r) → is_allowed_in ops.buffered h n r ≡ true → k ≡ steps_in h n
           → v ≡ taken_in ops.buffered code h n r → o ≡ created_by ops code n x.thread.local r → move_for bound (Did n k r v o) ≡ move.Run n
           → Plays s h (Did n k r v o)
@@ -90,7 +90,7 @@ module _ {B : Type 0} (machine : Machine B) where
           let i = x.by.instr in
           let within = subst (AsksOf code) x.by.asks (next_asks_within ops code s n t i lawful reached x.there x.by.at) in
           let steps : t.local.steps ≡ k = number_is ops code s h n a.deeds.buffers.threads t x.there ∙ sym number in
-          let took : taken ops code s t r ≡ v = taken_told ops model bound laws code s h a n t x.there r within ∙ sym takes in
+          let took : value_taken ops code s t r ≡ v = taken_told ops model bound laws code s h a n t x.there r within ∙ sym takes in
           record {
             state = stepping.perform ops code s n t i r;
             goes =
@@ -101,7 +101,7 @@ module _ {B : Type 0} (machine : Machine B) where
                 ∙ ap (λ o. option_map_or (λ t. by_instr ops code t (did ops code s n t)) o []) x.there
                 ∙ ap (λ o. option_map_or (λ i. did ops code s n t (request t.local i) ∷ []) o []) x.by.at
                 ∙ ap (λ q. did ops code s n t q ∷ []) x.by.asks
-                ∙ ap (λ j. Did n j r (taken ops code s t r) (created_by ops code n t.local r) ∷ []) steps
+                ∙ ap (λ j. Did n j r (value_taken ops code s t r) (created_by ops code n t.local r) ∷ []) steps
                 ∙ ap₂ (λ w p. Did n k r w p ∷ []) took (sym made);
           }
 
@@ -116,7 +116,7 @@ module _ {B : Type 0} (machine : Machine B) where
           let both = and_parts (is_nil (stores (pending ops.buffered h n))) (set.contains (waiting_in h c) u) may in
           let steps : t.local.steps ≡ k = number_is ops code s h n a.deeds.buffers.threads t x.there ∙ sym number in
           record {
-            state = stepping.woken ops s n u t c;
+            state = stepping.state_after_wake ops s n u t c;
             goes =
                 makes_wake ops code s n t going x.there u c at (empty_told ops model bound laws code s h a n t x.there ∙ both.0)
                 (ap (λ ns. set.contains ns u) (a.waiters.waiters c within) ∙ both.1);
@@ -136,7 +136,7 @@ module _ {B : Type 0} (machine : Machine B) where
       plays_did Silent o x number may takes other = plays_run Silent o x may number takes other refl
       plays_did r o x number may takes other = plays_run r o x may number takes other refl
 
-    -- what a thread has pending, by the steps
+    -- a pending store of a thread, by the number of its step
     record IsPlaced (n : Name) (k c : ℕ) (v : ℤ) : Type 0 where
       older : List Issue
       newer : List Issue
@@ -148,7 +148,7 @@ module _ {B : Type 0} (machine : Machine B) where
         let s = split_by_steps h n a.deeds.named (subst (λ b. Rises (pending_issues b h n)) d.buffers (a.deeds.buffers.numbers n).rises) bound k c v d.next in
         record { older = s.0.older; newer = s.0.newer; there = ap (λ b. pending_issues b h n) d.buffers ∙ s.0.there; is_free = s.1 }
 
-    -- a drain of a pending store that needn't wait
+    -- a drain of a pending store that needn't wait is a drain move
     plays_drain : (n : Name) (k c : ℕ) (v : ℤ) → IsPlaced n k c v → (t : Thread B) → fin.get s.threads n ≡ Some t
         → Plays s h (Drained n k c v)
     plays_drain n k c v d t here =
@@ -161,16 +161,16 @@ module _ {B : Type 0} (machine : Machine B) where
         let out = laws.drain_stands t.buffer (pending ops.buffered h n) form (whats d.older) e (whats d.newer) (a.deeds.buffers.stands n t here)
         (record { there = there; by_form = refl; is_free = d.is_free }) in
         record {
-          state = stepping.drained ops s n t form;
+          state = stepping.state_after_drain ops s n t form;
           goes = makes_drain ops code s n t going here form out.may;
           does =
               ap (λ o. option_map_or (λ (x : Thread B). drained ops code h n (ops.drain x.buffer form).entry ∷ []) o []) here
               ∙ ap (λ x. x ∷ [])
-              (deed_is ops model bound laws code s (stepping.drained ops s n t form) h n t form here refl (whats d.older) e (whats d.newer) d.is_free out
+              (deed_is ops model bound laws code s (stepping.state_after_drain ops s n t form) h n t form here refl (whats d.older) e (whats d.newer) d.is_free out
               a.deeds.buffers split);
         }
 
-    -- who has something pending is a thread
+    -- only a thread has something pending
     pending_of_thread : (n : Name) (o : Option (Thread B)) → fin.get s.threads n ≡ o → (older newer : List Issue) (x : Issue)
         → pending_issues ops.buffered h n ≡ older ++ x ∷ newer → (t : Thread B) × (fin.get s.threads n ≡ Some t)
     pending_of_thread n (Some t) here older newer x there = (t, here)
@@ -179,7 +179,7 @@ module _ {B : Type 0} (machine : Machine B) where
         (subst (In x) (sym there) (in_at older x newer)) in
         absurd (omega (arith, below, none_done ops code s h n a.deeds.buffers.threads here))
 
-    -- so each deed that may follow is done by a move
+    -- each deed that may follow is done by a move
     pub plays : (d : Deed) → MayFollow ops.buffered bound code h d → Plays s h d
     plays (Did n k r v o) m = plays_did n k v r o (asker s h n r a m.asks) m.number m.may m.takes m.other_is
     plays (Drained n k c v) m =
@@ -187,7 +187,7 @@ module _ {B : Type 0} (machine : Machine B) where
         let t = pending_of_thread n (fin.get s.threads n) refl d.older d.newer _ d.there in
         plays_drain n k c v d t.0 t.1
 
-  -- where the moves of some deeds lead, and what they did
+  -- the state to which the moves of some deeds lead, and their history
   record PlaysAll (s : State B) (h ds : List Deed) : Type 0 where
     state : State B
     leads : run_from ops code s (moves_for bound ds) ≡ Some state
@@ -213,7 +213,7 @@ module _ {B : Type 0} (machine : Machine B) where
             ∙ rest.did ∙ joined;
       }
 
-  -- deeds of which each may come after those before it are those of a run
+  -- deeds each of which may follow those before it are those of a run
   pub follows_is_run : (h : List Deed) → AllFollow ops.buffered bound code h
       → (s : State B) × (run ops code (moves_for bound h) ≡ Some s) × (history ops code (moves_for bound h) ≡ h)
   follows_is_run h all =

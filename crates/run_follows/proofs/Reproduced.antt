@@ -1,4 +1,4 @@
--- A log is reproduced where a history goes as logged.
+-- A log is reproduced if a history goes as logged.
 use Rattle.std.proofs.Common.{◌≡◌, ◌∙◌, List, Option, Some, None, refl, sym, ap, subst}
 use Rattle.std.specs.Prelude.{option_map, slice_get, IsSomeAnd}
 use Rattle.std.specs.FinMap as fin

@@ -1,4 +1,4 @@
--- Whether a state is stuck is told by the history.
+-- The history determines whether a state is stuck.
 use Rattle.std.proofs.Common.{◌≡◌, ◌↔◌, ◌∙◌, false, List, [], ◌∷◌, ◌++◌, length, Some, refl, sym, ap, arith}
 use Rattle.std.specs.Prelude.{is_some}
 use Rattle.std.specs.Option.{option_map_or}
@@ -46,7 +46,7 @@ module _ {B : Type 0} (machine : Machine B) where
         }
 
   module _ (s : State B) (h : List Deed) (reached : IsReached ops code s) (a : AllTold machine s h) where
-    -- what an enabled move does may follow
+    -- an enabled move does a deed that may follow
     does : (m : Move) (u : State B) → step ops code s m ≡ Some u → (d : Deed) × MayFollow ops.buffered bound code h d
     does m u one =
         let d = the_one (deed_of ops code s h m) (one_deed ops code s u h m (step_went ops code s u m one)) in

@@ -53,7 +53,7 @@ pub fn wakes_are_told<B>()
 {}
 
 /// A thread's store may drain by a form if no thread has failed and a pending store that drains by
-/// this form is bound behind no older pending store.
+/// this form isn't bound after any older pending store.
 pub fn drains_are_told<B>()
     ensures { (ops : BufferOps B) (model : Model) (bound : Binding) (code : Code) (moves : List Move) (s : State B) (n : Name) (t : Thread B)
         (form : Option ℕ)

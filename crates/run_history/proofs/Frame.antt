@@ -1,4 +1,4 @@
--- What each deed keeps, a history keeps.
+-- A fact of state and history that each deed keeps holds after each run.
 use Rattle.std.proofs.Common.{◌≡◌, ℕ, List, [], ◌∷◌, ◌++◌, IsTrue, Option, Some, None, refl, sym, ap, subst}
 use Rattle.std.specs.Option.{option_map_or}
 use Rattle.std.specs.FinMap as fin
@@ -14,7 +14,7 @@ use Rattle.tc_base.specs.declared.request.Request.TheVariants.{WakeOne}
 use Rattle.tc_code.specs.declared.instr.Instr.{Instr}
 use Rattle.tc_code.specs.declared.instr.Instr.TheVariants.{Signal}
 use Rattle.tc_code.specs.Code.{Code}
-use Rattle.tc_code.specs.Step.{request, instr_of, allows, perform, waiting_on, woken, step, opening}
+use Rattle.tc_code.specs.Step.{request, instr_of, allows, perform, waiting_on, state_after_wake, step, opening}
 use Rattle.tc_code.specs.Step as machine
 use Rattle.tc_code.specs.Run.{run_from, run, IsReached}
 use Rattle.tc_code.proofs.Facts.{opening_is_reached, step_is_reached}
@@ -22,17 +22,17 @@ use Rattle.run_laws.proofs.Steps.{Went, step_went, none_failed}
 use Rattle.run_history.specs.History.{Deed, did, woke, drained, by_instr, deed_of, history_from, history}
 
 module _ {B : Type 0} (ops : BufferOps B) (code : Code) where
-  -- each deed keeps what the history tells of the state
+  -- each deed keeps the relation between state and history
   pub record Keeps (P : State B → List Deed → Type 0) : Type 0 where
     pub ran : (s : State B) (h : List Deed) (n : Name) (t : Thread B) (i : Instr) (r : Request) → IsReached ops code s → s.failed ≡ None
         → fin.get s.threads n ≡ Some t → instr_of code t.local ≡ Some i → request t.local i ≡ r → IsTrue (allows ops s n t r) → P s h
         → P (perform ops code s n t i r) (h ++ did ops code s n t r ∷ [])
     pub waked : (s : State B) (h : List Deed) (n u : Name) (t : Thread B) (c : ℕ) → IsReached ops code s → s.failed ≡ None
         → fin.get s.threads n ≡ Some t → instr_of code t.local ≡ Some (Signal c) → IsTrue (ops.is_empty t.buffer)
-        → IsTrue (set.contains (waiting_on s c) u) → P s h → P (woken ops s n u t c) (h ++ woke ops code n u t (WakeOne c) ∷ [])
+        → IsTrue (set.contains (waiting_on s c) u) → P s h → P (state_after_wake ops s n u t c) (h ++ woke ops code n u t (WakeOne c) ∷ [])
     pub flushed : (s : State B) (h : List Deed) (n : Name) (t : Thread B) (form : Option ℕ) → IsReached ops code s → s.failed ≡ None
         → fin.get s.threads n ≡ Some t → IsTrue (ops.may_drain t.buffer form) → P s h
-        → P (machine.drained ops s n t form) (h ++ drained ops code h n (ops.drain t.buffer form).entry ∷ [])
+        → P (machine.state_after_drain ops s n t form) (h ++ drained ops code h n (ops.drain t.buffer form).entry ∷ [])
 
   module _ (P : State B → List Deed → Type 0) (keeps : Keeps P) where
     kept_by_move : (s u : State B) (h : List Deed) (m : Move) → IsReached ops code s → s.failed ≡ None → Went ops code s u m → P s h
@@ -52,7 +52,7 @@ module _ {B : Type 0} (ops : BufferOps B) (code : Code) where
         (subst (λ x. P x (h ++ drained ops code h n (ops.drain g.thread.buffer form).entry ∷ [])) (sym g.after)
         (keeps.flushed s h n g.thread form reached going g.there g.may p))
 
-    -- so does each move
+    -- each move keeps the relation
     pub kept_by_step : (s u : State B) (h : List Deed) (m : Move) → IsReached ops code s → step ops code s m ≡ Some u → P s h
         → P u (h ++ deed_of ops code s h m)
     kept_by_step s u h m reached one p = kept_by_move s u h m reached (none_failed ops code s u m one) (step_went ops code s u m one) p
@@ -66,6 +66,6 @@ module _ {B : Type 0} (ops : BufferOps B) (code : Code) where
         (kept_by_moves v u (h ++ deed_of ops code s h m) ms (step_is_reached ops code s v m one reached) rest
         (kept_by_move s v h m reached (none_failed ops code s v m one) (step_went ops code s v m one) p)))
 
-    -- so it holds after each run, where it holds at the start
+    -- the relation holds after each run if it holds at the start
     pub holds_after : P (opening ops code) [] → (ms : List Move) (s : State B) → run ops code ms ≡ Some s → P s (history ops code ms)
     holds_after start ms s leads = kept_by_moves (opening ops code) s [] ms (opening_is_reached ops code) leads start

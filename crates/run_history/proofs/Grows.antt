@@ -1,4 +1,4 @@
--- A history grows by one deed with each move.
+-- Each move adds one deed to a history.
 use Rattle.std.proofs.Common.{◌≡◌, ◌∙◌, ◌+◌, List, [], ◌∷◌, ◌++◌, length, Some, sym, ap, arith, append-nil, append_assoc, length-append}
 use Rattle.std.specs.Option.{option_map_or}
 use Rattle.std.proofs.lemmas.Option.{same_Some, option_and_then_some}
@@ -31,7 +31,7 @@ module _ {B : Type 0} (ops : BufferOps B) (code : Code) where
       history_from-append (opening ops code) s [] ms (m ∷ []) leads
       ∙ ap (λ o. option_map_or (λ x. history ops code ms ++ deed_of ops code s (history ops code ms) m) o (history ops code ms)) one
 
-  -- each move does one deed
+  -- each move adds one deed
   pub one_deed : (s u : State B) (h : List Deed) (m : Move) → Went ops code s u m → length (deed_of ops code s h m) ≡ 1
   one_deed s u h (move.Run n) g =
       ap (λ o. length (option_map_or (λ t. by_instr ops code t (did ops code s n t)) o [])) g.there
@@ -56,7 +56,7 @@ module _ {B : Type 0} (ops : BufferOps B) (code : Code) where
   pub one_deed_a_move : (ms : List Move) (s : State B) → run ops code ms ≡ Some s → length (history ops code ms) ≡ length ms
   one_deed_a_move ms s leads = let e = deeds_by_moves (opening ops code) s [] ms leads in e ∙ omega arith
 
-  -- what is there stays
+  -- a run only adds to the history
   only_grows : (s u : State B) (h : List Deed) (ms : List Move) → run_from ops code s ms ≡ Some u
       → (later : List Deed) × (history_from ops code s h ms ≡ h ++ later)
   only_grows s u h [] leads = ([], sym (append-nil h))

@@ -20,7 +20,7 @@ use Rattle.store_buffers.specs.Laws.{Laws}
 use Rattle.store_buffers.specs.helpers.Lists.{store_last, bar_last}
 use Rattle.run_laws.specs.Ints.{AsksInts, HoldsInts, Empty, Issued, Barred, Drained, PassesInts, ThreadHasInts, StateHasInts}
 use Rattle.run_laws.proofs.Ints.{zero_int, in_memory_int, loaded_int, values_are_ints, requests_have_ints}
-use Rattle.run_history.specs.History.{taken, history}
+use Rattle.run_history.specs.History.{value_taken, history}
 use Rattle.run_history.specs.Ints.{DeedHasInts}
 use Rattle.run_history.proofs.Frame.{Keeps, holds_after}
 
@@ -35,13 +35,13 @@ ints_append [] qs is js = js
 ints_append (Store e ∷ ps) qs is js = (is.0, ints_append ps qs is.1 js)
 ints_append (Bar ∷ ps) qs is js = ints_append ps qs is js
 
--- those among older, one store and newer
+-- in a list of ints, a store is of an int, and so are the others
 ints_around : (older : List Pending) (e : Entry) (newer : List Pending) → AreInts (older ++ Store e ∷ newer) → IsInt e.value × AreInts (older ++ newer)
 ints_around [] e newer is = is
 ints_around (Store d ∷ older) e newer is = let rest = ints_around older e newer is.1 in (rest.0, (is.0, rest.1))
 ints_around (Bar ∷ older) e newer is = ints_around older e newer is
 
--- so is the newest to a cell
+-- the newest store to a cell is of an int
 newest_by : (o : Option ℤ) (b : Bool) (w v : ℤ) → option_or o (cond b (Some w) None) ≡ Some v → (o ≡ Some v → IsInt v) → IsInt w → IsInt v
 newest_by (Some u) b w v is older int = older is
 newest_by None b w v is older int = subst IsInt (cond_some b w v is).1 int
@@ -52,14 +52,14 @@ newest_int (Store e ∷ ps) c v ints is = newest_by (newest (stores ps) c) (e.ce
 newest_int (Bar ∷ ps) c v ints is = newest_int ps c v ints is
 
 module _ {B : Type 0} (ops : BufferOps B) where
-  -- a buffer stands for stores of ints
+  -- a buffer represents a list of stores of ints
   record StandsForInts (b : B) : Type 0 where
     list : List Pending
     stands : Stands ops b list
     ints : AreInts list
 
   module _ (model : Model) (bound : Binding) (laws : Laws ops model bound) where
-    -- so does each into which only ints were put
+    -- a buffer into which only ints were put represents a list of stores of ints
     stands_for_ints : (b : B) → HoldsInts ops b → StandsForInts b
     stands_for_ints b Empty = record { list = []; stands = record { made = refl; issued = λ _. refl }; ints = tt }
     stands_for_ints b (Issued a c v buffered holds int) =
@@ -83,7 +83,7 @@ module _ {B : Type 0} (ops : BufferOps B) where
           ints = (ints_around some.older some.store some.newer (subst AreInts some.drains.there s.ints)).1;
         }
 
-    -- what each memory model gives of ints is an int
+    -- under each memory model, a buffer of ints gives only ints
     pub models_pass_ints : PassesInts ops
     models_pass_ints = record {
       forwards = λ b c v holds is.
@@ -97,7 +97,7 @@ module _ {B : Type 0} (ops : BufferOps B) where
     }
 
   module _ (code : Code) (passes : PassesInts ops) (lawful : IsLawful code) where
-    pub taken_int : (s : State B) (t : Thread B) (r : Request) → StateHasInts ops s → ThreadHasInts ops t → IsInt (taken ops code s t r)
+    pub taken_int : (s : State B) (t : Thread B) (r : Request) → StateHasInts ops s → ThreadHasInts ops t → IsInt (value_taken ops code s t r)
     taken_int s t (Read c) has ints = loaded_int ops code passes s has t c ints
     taken_int s t (Exchange c v) has ints = in_memory_int ops code passes s has c
     taken_int s t (CompareExchange c e v) has ints = in_memory_int ops code passes s has c
@@ -115,6 +115,6 @@ module _ {B : Type 0} (ops : BufferOps B) where
           All-push DeedHasInts h _ all (passes.drains t.buffer form (has.threads n t there).buffer may);
     }
 
-    -- so the deeds of a run have ints
+    -- the deeds of a run have only ints
     pub deeds_have_ints : (ms : List Move) (s : State B) → run ops code ms ≡ Some s → All DeedHasInts (history ops code ms)
     deeds_have_ints ms s leads = holds_after ops code (λ s h. All DeedHasInts h) keeps_ints (All-nil DeedHasInts) ms s leads

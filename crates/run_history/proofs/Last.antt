@@ -1,4 +1,4 @@
--- What the last deeds tell.
+-- What the last deeds of a kind determine.
 use Rattle.std.proofs.Common.{◌≡◌, ◌↔◌, ◌∙◌, ℕ, ◌==◌, ℤ, pos, Bool, true, false, not, ◌&&◌, ◌||◌, cond, List, [], ◌∷◌, ◌++◌, Option, Some, None}
 use Rattle.std.proofs.Common.{refl, sym, ap, ap₂, slice_index_or, if◌then◌else◌}
 use Rattle.std.specs.Prelude.{unwrap_or, option_and_then, fold}
@@ -32,7 +32,7 @@ module _ {X : Type 0} (f : Deed → Option X) where
     last = l.last;
   }
 
-  -- the last is the first deed's, or a later one's
+  -- the last value given is the first deed's, or a later deed's
   last_by : (d : Deed) (h : List Deed) (x : X) → (last_or None (filter_map f h) ≡ Some x → IsLast f h x) → (o : Option X) → f d ≡ o → (ys : List X)
       → filter_map f h ≡ ys → last_or None (cons_option o ys) ≡ Some x → IsLast f (d ∷ h) x
   last_by d h x later None e ys is l = behind d h x (later (ap (last_or None) is ∙ l))
@@ -78,7 +78,7 @@ pub cons_last : {A : Type 0} (o : Option A) (xs : List A) → last_or None (cons
 cons_last None xs = sym (or_none (last_or None xs))
 cons_last (Some x) xs = last_or-or (Some x) xs
 
--- the newest store to a cell is the last that brings it something
+-- the newest store to a cell is the last deed that brings it a value
 newest_by : (buffered : Bool) (c : ℕ) (d : Deed) (h : List Deed) (o : Option Entry) → reaches buffered d ≡ o
     → newest (filter_map (reaches buffered) h) c ≡ last_or None (filter_map (brings buffered c) h)
     → newest (cons_option o (filter_map (reaches buffered) h)) c ≡ last_or None (cons_option (option_and_then (to_cell c) o) (filter_map (brings buffered c) h))
@@ -131,7 +131,7 @@ waits_after c u ns (Did n k (WakeAll d) took other) x is = emptied (d == c) x ns
 waits_after c u ns (Did n k Silent took other) x is = is
 waits_after c u ns d x is = is
 
--- who waited at first waits unless the last deed about it says otherwise
+-- a thread that waited at first still waits unless the last deed about it says otherwise
 waits_from : (c : ℕ) (u : Name) (ns : NameSet) (h : List Deed) (x : Bool) → set.contains ns u ≡ x
     → set.contains (fold (waiting_after c) ns h) u ≡ unwrap_or (last_or None (filter_map (waits_by c u) h)) x
 waits_from c u ns [] x is = is

@@ -1,4 +1,4 @@
--- What each thread has to itself is told by the history.
+-- The history determines the local state of each thread.
 use Rattle.std.proofs.Common.{◌≡◌, ◌∙◌, inl, inr, ℕ, ◌+◌, ◌-◌, ℤ, pos, List, [], ◌∷◌, ◌++◌, length, Option, Some, refl, sym, ap}
 use Rattle.std.specs.Prelude.{option_map}
 use Rattle.std.specs.Option.{option_map_or}
@@ -12,9 +12,9 @@ use Rattle.tc_base.specs.declared.request.Request.TheVariants.{Silent, WakeOne, 
 use Rattle.tc_code.specs.declared.instr.Instr.{Instr}
 use Rattle.tc_code.specs.declared.instr.Instr.TheVariants.{Signal}
 use Rattle.tc_code.specs.Code.{Code}
-use Rattle.tc_code.specs.Step.{arguments_of, instr_of, perform, born, woken, opening}
+use Rattle.tc_code.specs.Step.{arguments_of, instr_of, perform, born, state_after_wake, opening}
 use Rattle.run_laws.proofs.Names.{same_or_apart, get_put, get_put_apart}
-use Rattle.run_history.specs.History.{Deed, Did, taken, created_by}
+use Rattle.run_history.specs.History.{Deed, Did, value_taken, created_by}
 use Rattle.run_history.specs.Locals.{after_step, with_child, after_deed, locals_in}
 use Rattle.run_history.proofs.Threads.{own, with_born, performed_threads}
 use Rattle.run_history.proofs.Frame.{Keeps}
@@ -23,7 +23,7 @@ module _ {B : Type 0} (ops : BufferOps B) (code : Code) where
   abbrev local : Thread B → Local
   local t = t.local
 
-  -- what threads have to themselves
+  -- the local states of threads
   abbrev pub AreLocals : ByName Local → ByName (Thread B) → Type 0
   AreLocals ls ts = (q : Name) → fin.get ls q ≡ option_map local (fin.get ts q)
 
@@ -36,7 +36,7 @@ module _ {B : Type 0} (ops : BufferOps B) (code : Code) where
         | inr other ↦ get_put_apart ls n t.local q other ∙ are q ∙ sym (ap (option_map local) (get_put_apart ts n t q other))
       ]
 
-  -- a thread whose local part stays
+  -- replacing a thread's buffer keeps the local states
   locals_stay : (ls : ByName Local) (ts : ByName (Thread B)) (n : Name) (t : Thread B) (b : B) → AreLocals ls ts → fin.get ts n ≡ Some t
       → AreLocals ls (fin.insert ts n (record t { buffer = b }))
   locals_stay ls ts n t b are here q =
@@ -59,7 +59,7 @@ module _ {B : Type 0} (ops : BufferOps B) (code : Code) where
   locals-push : (h : List Deed) (d : Deed) → locals_in code (h ++ d ∷ []) ≡ after_deed code (locals_in code h) d
   locals-push h d = fold-append (after_deed code) _ h (d ∷ [])
 
-  -- a step is done by the instruction at its thread's place
+  -- a step does the instruction at its thread's place
   step_by : (ls : ByName Local) (n : Name) (t : Local) (i : Instr) (k : ℕ) (r : Request) (v : ℤ) (o : Option Name) → fin.get ls n ≡ Some t
       → instr_of code t ≡ Some i → after_deed code ls (Did n k r v o) ≡ with_child code n t i r (fin.insert ls n (after_step t i r v))
   step_by ls n t i k r v o here at =
@@ -68,7 +68,7 @@ module _ {B : Type 0} (ops : BufferOps B) (code : Code) where
       ∙ ap (λ x. option_map_or (λ i. with_child code n t i r (fin.insert ls n (after_step t i r v))) x ls) at
 
   locals_by : (s u : State B) (h : List Deed) (n : Name) (t : Thread B) (i : Instr) (r : Request) (v : ℤ) (o : Option Name) → fin.get s.threads n ≡ Some t
-      → instr_of code t.local ≡ Some i → v ≡ taken ops code s t r → u.threads ≡ with_born ops code n t i r (fin.insert s.threads n (own ops code s t i r))
+      → instr_of code t.local ≡ Some i → v ≡ value_taken ops code s t r → u.threads ≡ with_born ops code n t i r (fin.insert s.threads n (own ops code s t i r))
       → LocalsAre s h → LocalsAre u (h ++ Did n t.local.steps r v o ∷ [])
   locals_by s u h n t i r v o here at takes is are q =
       ap (λ ls. fin.get ls q) (locals-push h (Did n t.local.steps r v o))
@@ -82,10 +82,10 @@ module _ {B : Type 0} (ops : BufferOps B) (code : Code) where
   pub keeps_locals : Keeps ops code LocalsAre
   keeps_locals = record {
     ran = λ s h n t i r _ _ here at _ _ are.
-        locals_by s (perform ops code s n t i r) h n t i r (taken ops code s t r) (created_by ops code n t.local r) here at refl
+        locals_by s (perform ops code s n t i r) h n t i r (value_taken ops code s t r) (created_by ops code n t.local r) here at refl
         (performed_threads ops code s n t i r) are;
     waked = λ s h n u t c _ _ here at _ _ are.
-        locals_by s (woken ops s n u t c) h n t (Signal c) (WakeOne c) (pos 0) (Some u) here at refl refl are;
+        locals_by s (state_after_wake ops s n u t c) h n t (Signal c) (WakeOne c) (pos 0) (Some u) here at refl refl are;
     flushed = λ s h n t form _ _ here _ are q.
         ap (λ ls. fin.get ls q) (locals-push h _) ∙ locals_stay (locals_in code h) s.threads n t (ops.drain t.buffer form).rest are here q;
   }

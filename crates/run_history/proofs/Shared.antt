@@ -1,4 +1,4 @@
--- Memory, owners, waiters and the failure are told by the history.
+-- The history determines memory, owners, waiters and the failure.
 use Rattle.std.proofs.Common.{◌≡◌, ◌∙◌, ℕ, ◌<◌, ◌==◌, ℤ, pos, Bool, true, false, List, [], ◌∷◌, ◌++◌, length, Option, Some, None}
 use Rattle.std.proofs.Common.{refl, sym, ap, subst, cond, slice_set, slice_index_or}
 use Rattle.std.specs.Prelude.{unwrap_or, if◌then◌else◌}
@@ -15,7 +15,7 @@ use Rattle.tc_base.specs.declared.request.Request.TheVariants.{Read, Write, Acqu
 use Rattle.tc_base.specs.declared.request.Request.TheVariants.{WakeOne, WakeAll, Fail}
 use Rattle.tc_code.specs.declared.instr.Instr.{Instr}
 use Rattle.tc_code.specs.Code.{Code}
-use Rattle.tc_code.specs.Step.{perform, with_thread, local_after, woken, waiting_on, in_memory, NameSet, opening}
+use Rattle.tc_code.specs.Step.{perform, with_thread, local_after, state_after_wake, waiting_on, in_memory, NameSet, opening}
 use Rattle.tc_code.specs.Step as machine
 use Rattle.run_laws.proofs.Basics.{by_bool, either, index_or-replicate}
 use Rattle.run_laws.proofs.Whole.{performed_shares}
@@ -37,7 +37,7 @@ written_at : (memory : List ℤ) (o : Option Entry) (c : ℕ) → c < length mem
 written_at memory None c within = refl
 written_at memory (Some e) c within = index_or-set memory e.cell c e.value (pos 0) within
 
--- who owns a mutex after a write
+-- the owner of a mutex after a write
 owned : {A : Type 0} (b : Bool) (x y : A) → cond b x y ≡ unwrap_or (cond b (Some x) None) y
 owned true x y = refl
 owned false x y = refl
@@ -52,7 +52,7 @@ owner-push h d m = ap (λ o. unwrap_or o None) (last_of-push (owner_by m) h d) �
 waiting-push : (h : List Deed) (d : Deed) (c : ℕ) → waiting_in (h ++ d ∷ []) c ≡ waiting_after c (waiting_in h c) d
 waiting-push h d c = fold-append (waiting_after c) set.empty h (d ∷ [])
 
--- a set that is written by what it was
+-- the waiters after one set is changed by a function
 by_itself : (f : NameSet → NameSet) (waiters : List NameSet) (d c : ℕ) (b : Bool) → (d == c) ≡ b
     → cond b (f (slice_index_or waiters d set.empty)) (slice_index_or waiters c set.empty)
     ≡ cond b (f (slice_index_or waiters c set.empty)) (slice_index_or waiters c set.empty)
@@ -65,14 +65,14 @@ changed_at : (f : NameSet → NameSet) (waiters : List NameSet) (d c : ℕ) → 
 changed_at f waiters d c within = index_or-set waiters d c (f (slice_index_or waiters d set.empty)) set.empty within ∙ by_itself f waiters d c _ refl
 
 module _ {B : Type 0} (ops : BufferOps B) (code : Code) where
-  -- the state after a store, by whether there are buffers
+  -- the state after a store, with or without buffers
   abbrev pub store_as : State B → Name → Thread B → Instr → ℕ → ℤ → Bool → State B
   store_as s n t i c v b =
       if b
       then with_thread s n (record { local = local_after t.local i (pos 0); buffer = ops.issue t.buffer c v })
-      else record (machine.did ops s n t i) { memory = slice_set s.memory c v }
+      else record (machine.state_after_step ops s n t i) { memory = slice_set s.memory c v }
 
-  -- what is told of memory
+  -- the history determines the values in memory
   pub record MemoryIs (s : State B) (h : List Deed) : Type 0 where
     pub cells : length s.memory ≡ length code.memory
     pub values : (c : ℕ) → c < length code.memory → in_memory s c ≡ value_in ops.buffered code h c
@@ -101,7 +101,7 @@ module _ {B : Type 0} (ops : BufferOps B) (code : Code) where
     flushed = λ s h n t form _ _ _ _ m. memory_by s _ h _ refl m;
   }
 
-  -- what is told of owners
+  -- the history determines the owners of mutexes
   pub record OwnersAre (s : State B) (h : List Deed) : Type 0 where
     pub mutexes : length s.owners ≡ code.mutexes
     pub owners : (m : ℕ) → m < code.mutexes → slice_index_or s.owners m None ≡ owner_in h m
@@ -132,7 +132,7 @@ module _ {B : Type 0} (ops : BufferOps B) (code : Code) where
     flushed = λ s h n t form _ _ _ _ o. owners_by s _ h _ refl (λ m within. refl) o;
   }
 
-  -- what is told of waiters
+  -- the history determines the waiters of conditions
   pub record WaitersAre (s : State B) (h : List Deed) : Type 0 where
     pub conditions : length s.waiters ≡ code.conditions
     pub waiters : (c : ℕ) → c < code.conditions → waiting_on s c ≡ waiting_in h c
@@ -161,7 +161,7 @@ module _ {B : Type 0} (ops : BufferOps B) (code : Code) where
     flushed = λ s h n t form _ _ _ _ w. waiters_by s _ h _ refl (λ c within. refl) w;
   }
 
-  -- what is told of the failure
+  -- the history determines which thread has failed
   abbrev pub FailureIs : State B → List Deed → Type 0
   FailureIs s h = s.failed ≡ failed_in h
 
@@ -177,11 +177,11 @@ module _ {B : Type 0} (ops : BufferOps B) (code : Code) where
   pub keeps_failure : Keeps ops code FailureIs
   keeps_failure = record {
     ran = λ s h n t i r _ _ _ _ _ _ f. failure_by s (perform ops code s n t i r) h (did ops code s n t r) (performed_failed s n t i r) f;
-    waked = λ s h n u t c _ _ _ _ _ _ f. failure_by s (woken ops s n u t c) h _ refl f;
-    flushed = λ s h n t form _ _ _ _ f. failure_by s (machine.drained ops s n t form) h _ refl f;
+    waked = λ s h n u t c _ _ _ _ _ _ f. failure_by s (state_after_wake ops s n u t c) h _ refl f;
+    flushed = λ s h n t form _ _ _ _ f. failure_by s (machine.state_after_drain ops s n t form) h _ refl f;
   }
 
-  -- so they are at the start
+  -- the memory at the start is that of the empty history
   pub opening_memory : MemoryIs (opening ops code) []
   opening_memory = record { cells = refl; values = λ c within. refl }
 

@@ -1,4 +1,4 @@
--- What a thread has done so far is told by the history.
+-- The history determines what a thread has done so far.
 use Rattle.std.proofs.Common.{◌≡◌, ◌≢◌, ◌∙◌, ◌⊎◌, inl, inr, ℕ, ◌+◌, ℤ, pos, Bool, true, false, ◌||◌, ◌&&◌, cond, List, [], ◌∷◌, ◌++◌}
 use Rattle.std.proofs.Common.{Option, Some, None, refl, sym, ap, arith, ◌-◌, length, append-nil}
 use Rattle.std.specs.Prelude.{if◌then◌else◌, is_some}
@@ -15,7 +15,7 @@ use Rattle.tc_base.specs.declared.request.Request.TheVariants.{Silent, Write, Ba
 use Rattle.tc_code.specs.declared.instr.Instr.{Instr}
 use Rattle.tc_code.specs.declared.instr.Instr.TheVariants.{Inside, Branch, Holds, Signal, Create, Ready, Assert, Nonzero, InRange, Exit}
 use Rattle.tc_code.specs.Code.{Code}
-use Rattle.tc_code.specs.Step.{request, site, local_after, arguments_of, perform, with_thread, born, woken, opening}
+use Rattle.tc_code.specs.Step.{request, site, local_after, arguments_of, perform, with_thread, born, state_after_wake, opening}
 use Rattle.tc_code.specs.Step as machine
 use Rattle.tc_code.specs.Run.{IsReached}
 use Rattle.run_laws.proofs.Basics.{by_bool}
@@ -23,7 +23,7 @@ use Rattle.run_laws.proofs.After.{branch_is}
 use Rattle.run_laws.proofs.Counts.{after_counts}
 use Rattle.run_laws.proofs.Created.{child_is_new}
 use Rattle.run_laws.proofs.Names.{same_self, same_other, same_or_apart, get_put, get_put_apart, child_apart}
-use Rattle.run_history.specs.History.{Deed, Did, Drained, same, taken, created_by}
+use Rattle.run_history.specs.History.{Deed, Did, Drained, same, value_taken, created_by}
 use Rattle.run_history.specs.Locals.{after_step}
 use Rattle.run_history.specs.Told.{creates, is_thread_in, is_step_of, steps_in, is_start_of, children_in, is_exit_of, has_exited_in}
 use Rattle.run_history.proofs.Lists.{filter_map-push, count-push}
@@ -91,9 +91,9 @@ module _ {B : Type 0} (ops : BufferOps B) (code : Code) where
   buffer_by b Bar = ops.bar b
   buffer_by b _ = b
 
-  -- the thread that met a request
+  -- the thread after a request
   abbrev pub own : State B → Thread B → Instr → Request → Thread B
-  own s t i r = record { local = after_step t.local i r (taken ops code s t r); buffer = buffer_by t.buffer r }
+  own s t i r = record { local = after_step t.local i r (value_taken ops code s t r); buffer = buffer_by t.buffer r }
 
   -- the threads with the child that a request creates
   abbrev pub with_born : Name → Thread B → Instr → Request → ByName (Thread B) → ByName (Thread B)
@@ -105,13 +105,14 @@ module _ {B : Type 0} (ops : BufferOps B) (code : Code) where
   performed_threads s n t i (Write c v) =
       by_bool (λ b. (let w : State B =
       if b then with_thread s n (record { local = local_after t.local i (pos 0); buffer = ops.issue t.buffer c v })
-      else record (machine.did ops s n t i) { memory = _ } in w.threads)
+      else record (machine.state_after_step ops s n t i) { memory = _ } in w.threads)
       ≡ fin.insert s.threads n (record { local = local_after t.local i (pos 0); buffer = if b then ops.issue t.buffer c v else t.buffer }))
       ops.buffered refl refl
   performed_threads s n t i Silent = refl
   performed_threads s n t i _ = refl
 
-  -- what is under a name after a request of a thread: the thread, the child that it creates, or what was there
+  -- the thread under a name after a request: the one that did it, the child that it creates, or the
+  -- old one
   pub data Found (s u : State B) (n : Name) (t : Thread B) (i : Instr) (r : Request) (q : Name) : Type 0 where
     Its_own : q ≡ n → fin.get u.threads q ≡ Some (own s t i r) → Found s u n t i r q
     Its_child : (f : ℕ) (vs : List ℤ) → q ≢ n → fin.get u.threads q ≡ Some (born ops code f vs) → fin.get s.threads q ≡ None
@@ -142,7 +143,7 @@ module _ {B : Type 0} (ops : BufferOps B) (code : Code) where
   find s u n t i Silent reached there is q = find_old s u n t i Silent q (ap (λ ts. fin.get ts q) is) refl
   find s u n t i r reached there is q = find_old s u n t i r q (ap (λ ts. fin.get ts q) is) refl
 
-  -- what is told of steps, exits and threads
+  -- the history determines which threads there are, and their steps, exits and children
   pub record ThreadsAre (s : State B) (h : List Deed) : Type 0 where
     pub steps : (q : Name) → option_map_or (λ t. t.local.steps) (fin.get s.threads q) 0 ≡ steps_in h q
     pub exits : (q : Name) → option_map_or (λ t. t.local.has_exited) (fin.get s.threads q) false ≡ has_exited_in h q
@@ -158,7 +159,7 @@ module _ {B : Type 0} (ops : BufferOps B) (code : Code) where
   abbrev children_at : Option (Thread B) → ℕ
   children_at o = option_map_or (λ t. t.local.children) o 0
 
-  -- so the history tells the number of a thread's next step, and how many children it has created
+  -- the history determines the number of a thread's next step, and of its children
   module _ (s : State B) (h : List Deed) (n : Name) (a : ThreadsAre s h) where
     pub number_is : (t : Thread B) → fin.get s.threads n ≡ Some t → t.local.steps ≡ steps_in h n
     number_is t here = ap steps_at (sym here) ∙ a.steps n
@@ -180,7 +181,7 @@ module _ {B : Type 0} (ops : BufferOps B) (code : Code) where
   or_swap false true = refl
   or_swap false false = refl
 
-  -- a step is an exit of the thread of a name where it asks for that, and the thread is that
+  -- a step is an exit of the named thread if the thread is its own and the request is an exit
   exit_by : (q n : Name) (k : ℕ) (r : Request) (v : ℤ) (o : Option Name) → is_exit_of q (Did n k r v o) ≡ is_finish r && same q n
   exit_by q n k Finish v o = refl
   exit_by q n k Silent v o = refl
@@ -272,7 +273,7 @@ module _ {B : Type 0} (ops : BufferOps B) (code : Code) where
   -- a drain changes only a buffer
   module _ (s u : State B) (h : List Deed) (n : Name) (t : Thread B) (b : B) (k c : ℕ) (v : ℤ) (here : fin.get s.threads n ≡ Some t)
       (is : u.threads ≡ fin.insert s.threads n (record t { buffer = b })) (a : ThreadsAre s h) where
-    -- what doesn't look at the buffer stays as it was
+    -- what doesn't depend on the buffer stays the same
     pub stays : {X : Type 0} → (f : Option (Thread B) → X) → f (Some t) ≡ f (Some (record t { buffer = b })) → (q : Name)
         → f (fin.get u.threads q) ≡ f (fin.get s.threads q)
     stays f blind q =
@@ -295,14 +296,14 @@ module _ {B : Type 0} (ops : BufferOps B) (code : Code) where
   pub keeps_threads : Keeps ops code ThreadsAre
   keeps_threads = record {
     ran = λ s h n t i r reached _ here _ asks _ a.
-        threads_by s (perform ops code s n t i r) h n t i r (taken ops code s t r) (created_by ops code n t.local r) reached here asks
+        threads_by s (perform ops code s n t i r) h n t i r (value_taken ops code s t r) (created_by ops code n t.local r) reached here asks
         (performed_threads s n t i r) (makes_what n t.local t.local.steps r _) a;
     waked = λ s h n u t c reached _ here _ _ _ a.
-        threads_by s (woken ops s n u t c) h n t (Signal c) (WakeOne c) (pos 0) (Some u) reached here refl refl refl a;
-    flushed = λ s h n t form _ _ here _ a. threads_flushed s (machine.drained ops s n t form) h n t (ops.drain t.buffer form).rest _ _ _ here refl a;
+        threads_by s (state_after_wake ops s n u t c) h n t (Signal c) (WakeOne c) (pos 0) (Some u) reached here refl refl refl a;
+    flushed = λ s h n t form _ _ here _ a. threads_flushed s (machine.state_after_drain ops s n t form) h n t (ops.drain t.buffer form).rest _ _ _ here refl a;
   }
 
-  -- at the start main is alone
+  -- only main exists at the start
   alone : (q : Name) → ((q ≡ main) × (fin.get (opening ops code).threads q ≡ Some (born ops code (length code.functions - 1) [])))
       ⊎ ((q ≢ main) × (fin.get (opening ops code).threads q ≡ None))
   alone q =

@@ -59,11 +59,11 @@ oldest_to c (i ∷ is) = if is_to c i.what then i.number else oldest_to c is
 
 module _ {B : Type 0} (ops : BufferOps B) (code : Code) where
   -- the value that a request reads, and 0 if it reads none
-  abbrev pub taken : State B → Thread B → Request → ℤ
-  taken s t (Read c) = loaded ops s t c
-  taken s t (Exchange c v) = in_memory s c
-  taken s t (CompareExchange c e v) = in_memory s c
-  taken s t _ = pos 0
+  abbrev pub value_taken : State B → Thread B → Request → ℤ
+  value_taken s t (Read c) = loaded ops s t c
+  value_taken s t (Exchange c v) = in_memory s c
+  value_taken s t (CompareExchange c e v) = in_memory s c
+  value_taken s t _ = pos 0
 
   -- the child that a thread's request creates, if any
   abbrev pub created_by : Name → Local → Request → Option Name
@@ -71,7 +71,7 @@ module _ {B : Type 0} (ops : BufferOps B) (code : Code) where
   created_by n t _ = None
 
   abbrev pub did : State B → Name → Thread B → Request → Deed
-  did s n t r = Did n t.local.steps r (taken s t r) (created_by n t.local r)
+  did s n t r = Did n t.local.steps r (value_taken s t r) (created_by n t.local r)
 
   -- the deed of a thread's signal that wakes another thread
   abbrev pub woke : Name → Name → Thread B → Request → Deed

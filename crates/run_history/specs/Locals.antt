@@ -9,7 +9,7 @@ use Rattle.tc_base.specs.declared.request.Request.{Request}
 use Rattle.tc_base.specs.declared.request.Request.TheVariants.{Start, Fail}
 use Rattle.tc_code.specs.declared.instr.Instr.{Instr}
 use Rattle.tc_code.specs.Code.{Code}
-use Rattle.tc_code.specs.Step.{request, stepped, local_after, arguments_of, instr_of, born}
+use Rattle.tc_code.specs.Step.{request, step_in_place, local_after, arguments_of, instr_of, born}
 use Rattle.run_history.specs.History.{Deed, Did, Drained}
 
 -- a thread at the start of a function
@@ -18,7 +18,7 @@ born_local code f arguments = (born no_buffer code f arguments).local
 
 -- a thread after a step with this request that reads this value
 abbrev pub after_step : Local → Instr → Request → ℤ → Local
-after_step t i Fail took = stepped t
+after_step t i Fail took = step_in_place t
 after_step t i r took = local_after t i took
 
 -- the threads with the child that a step creates, if any

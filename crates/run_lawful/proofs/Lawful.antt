@@ -30,7 +30,7 @@ use Rattle.run_lawful.proofs.of_waits.Stuck.{stuck_rule}
 
 module _ {B : Type 0} (setting : Setting B) (nodes : List Node) (terms : AreTerms nodes) (moves : List Move)
     (again : Reproduces setting.ops setting.code setting.log moves) where
-  open setting use {ops, model, bound, laws, code, lawful, log}
+  open setting use {machine, ops, bound, code, log}
 
   abbrev paths : Paths
   paths = paths_of code log
@@ -54,8 +54,8 @@ module _ {B : Type 0} (setting : Setting B) (nodes : List Node) (terms : AreTerm
 
   pub is_lawful : IsLawfulWorld setting nodes w
   is_lawful = record {
-    fits = reproduced_fits code ops model bound laws lawful log moves again;
-    lives = reproduced_alive code ops model bound laws lawful log moves again;
+    fits = reproduced_fits machine log moves again;
+    lives = reproduced_alive machine log moves again;
     terms = terms;
     world = is_world setting nodes moves again;
     of = is_world_of setting nodes moves again;

@@ -20,8 +20,8 @@ pub mod reads;
 pub mod waits;
 pub mod world;
 
-/// If moves reproduce a log, under any memory model that obeys its laws, the world of their history
-/// is lawful, and has the events in the order in which they take place.
+/// If moves reproduce a log, the world of their history is lawful, and has the events in the order
+/// in which they take place. This holds under any memory model that obeys its laws.
 pub fn runs_have_lawful_worlds<B>()
     ensures lawful { (s : Setting B) (nodes : List Node) (moves : List Move)
         → AreTerms nodes → Reproduces s.ops s.code s.log moves

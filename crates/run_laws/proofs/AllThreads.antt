@@ -1,4 +1,4 @@
--- What each move keeps of each thread.
+-- Facts of each thread that each move keeps.
 use Rattle.std.proofs.Common.{◌≡◌, ◌∙◌, inl, inr, ℕ, ◌+◌, ◌-◌, ◌≤◌, length, List, [], Some, sym, subst, arith}
 use Rattle.std.specs.FinMap as fin
 use Rattle.std.proofs.lemmas.Option.{none-some}
@@ -17,7 +17,7 @@ use Rattle.run_laws.proofs.Names.{get_put_cases}
 use Rattle.run_laws.proofs.Steps.{holds_in_reached}
 use Rattle.run_laws.proofs.Changes.{Goes, Went_on, Stayed, with_child, step_changes}
 
--- a fact of all threads, and of one that is put in, is one of all after that
+-- a fact of all threads and of a new one holds for all with the new one
 all_after_put : {B : Type 0} (P : Local → Type 0) (threads : ByName (Thread B)) (n : Name) (new : Thread B) → AllThreads P threads → P new.local
     → AllThreads P (fin.insert threads n new)
 all_after_put {B} P threads n new all p q t there =
@@ -27,7 +27,8 @@ all_after_put {B} P threads n new all p q t there =
     ]
 
 module _ {B : Type 0} (ops : BufferOps B) (code : Code) where
-  -- what holds of a thread before a move from the state gives what holds of it after that, and of a child born in it
+  -- a move from the state takes fact `P` of a thread before it to fact `Q` after it, and `Q` holds
+  -- for a child
   pub record Keeps (s : State B) (P Q : Local → Type 0) : Type 0 where
     pub stays : (t : Local) (steps : ℕ) → steps ≤ t.steps + 1 → P t → Q (record t { steps = steps })
     pub does : (u : State B) (n : Name) (i : Instr) (g : Goes ops code s u n i) → P g.before.local → Q (local_after g.before.local i g.value)
@@ -35,20 +36,20 @@ module _ {B : Type 0} (ops : BufferOps B) (code : Code) where
         → Q (born ops code f (arguments_of g.before.local (Create h f es))).local
 
   module _ (s u : State B) (P Q : Local → Type 0) (keeps : Keeps s P Q) (all : AllThreads P s.threads) where
-    -- where a thread that has the fact is put in, all have it
+    -- if `Q` holds for a thread that is put in, it holds for all
     all_put : (n : Name) (new : Thread B) → Q new.local → AllThreads Q (fin.insert s.threads n new)
     all_put n new q = all_after_put Q s.threads n new (λ m t there. keeps.stays t.local t.local.steps (omega arith) (all m t there)) q
 
-    -- all have it after an instruction
+    -- `Q` holds for all threads after an instruction
     all_done : (n : Name) (i : Instr) → (g : Goes ops code s u n i) → AllThreads Q (fin.insert s.threads n g.after)
     all_done n i g = all_put n g.after (subst Q (sym g.local) (keeps.does u n i g (all n g.before g.there)))
 
-    -- and after one that may create a child
+    -- `Q` holds for all threads after an instruction that may create a child
     all_gone : (n : Name) (i : Instr) → (g : Goes ops code s u n i) → AllThreads Q (with_child ops code g.before.local n i (fin.insert s.threads n g.after))
     all_gone n (Create h f es) g = all_after_put Q _ _ _ (all_done n (Create h f es) g) (keeps.bears u n h f es g (all n g.before g.there))
     all_gone n i g = all_done n i g
 
-  -- what holds of each thread before a move gives what holds of each after it, where it does so for one
+  -- if a move takes `P` to `Q` for one thread, it does so for all
   pub all_after_step : (s u : State B) (m : Move) (P Q : Local → Type 0) → Keeps s P Q → step ops code s m ≡ Some u → AllThreads P s.threads
       → AllThreads Q u.threads
   all_after_step s u m P Q keeps one all =
@@ -58,11 +59,12 @@ module _ {B : Type 0} (ops : BufferOps B) (code : Code) where
             (all_put s u P Q keeps all n g.after (subst Q (sym g.local) (keeps.stays g.before.local g.steps g.few (all n g.before g.there))))
       ]
 
-  -- what main has at the start, each thread has
+  -- what holds for main at the start holds for each thread there
   pub all_at_opening : (P : Local → Type 0) → P (born ops code (length code.functions - 1) []).local → AllThreads P (opening ops code).threads
   all_at_opening P p = all_after_put P fin.empty main _ (λ n t there. absurd (none-some t (sym (fin.get-empty by_name n) ∙ there))) p
 
-  -- what main has at the start, and each move keeps for one thread, each thread of a reached state has
+  -- what holds for main at the start, and what each move keeps for one thread, holds for each
+  -- thread of a reached state
   pub all_in_reached : (P : Local → Type 0) → ((s : State B) → IsReached ops code s → Keeps s P P)
       → P (born ops code (length code.functions - 1) []).local → (s : State B) → IsReached ops code s → AllThreads P s.threads
   all_in_reached P keeps p =

@@ -1,4 +1,4 @@
--- What lawful code asks for is there.
+-- Requests of lawful code name only what exists.
 use Rattle.std.proofs.Common.{◌≡◌, ℕ, ◌+◌, ◌<◌, ℤ, pos, length, Bool, true, false, ◌&&◌, IsTrue, Some, sym, subst, arith}
 use Rattle.std.specs.Prelude.{nat_lt, nat_le, int_lt, int_le}
 use Rattle.std.specs.FinMap as fin
@@ -41,7 +41,7 @@ cell_within cells a len index inside h =
     grind (arith, nat_tests, ints)
 
 module _ (code : Code) where
-  -- what a request of code asks for is there
+  -- the request names only cells, mutexes and conditions of the code
   abbrev pub AsksOf : Request → Type 0
   AsksOf r = AsksWithin (length code.memory) code.mutexes code.conditions r
 
@@ -72,13 +72,13 @@ module _ (code : Code) where
 
 module _ {B : Type 0} (ops : BufferOps B) (code : Code) (s : State B) (n : Name) (t : Thread B) (i : Instr) (lawful : IsLawful code)
     (reached : IsReached ops code s) (there : fin.get s.threads n ≡ Some t) (at : instr_of code t.local ≡ Some i) where
-  -- what a thread asks for by its next instruction is there
+  -- the request of a thread's next instruction names only what exists in the code
   pub next_asks_within : AsksOf code (request t.local i)
   next_asks_within =
       asks_within code (placed_next code t.local i lawful at).function t.local i (names_next code t.local i lawful at)
       (index_is_within ops code s n t i lawful reached there at)
 
-  -- and so it is in the state
+  -- the request of a thread's next instruction names only what exists in the state
   pub asked_is_there : AsksWithin (length s.memory) (length s.owners) (length s.waiters) (request t.local i)
   asked_is_there =
       let whole = reached_is_whole ops code s lawful reached in

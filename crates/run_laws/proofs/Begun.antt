@@ -1,4 +1,4 @@
--- Each thread of a run began in it, and goes by itself from there.
+-- Each thread of a run began in it, and has run alone since.
 use Rattle.std.proofs.Common.{◌≡◌, ◌∙◌, ◌⊎◌, inl, inr, ℕ, ◌+◌, ℤ, List, [], ◌∷◌, ◌++◌, Bool, true, false, IsSome, Some, refl, ap, sym, subst, arith}
 use Rattle.std.specs.Prelude.{option_and_then}
 use Rattle.std.specs.FinMap as fin
@@ -38,7 +38,7 @@ module _ {B : Type 0} (ops : BufferOps B) (code : Code) where
     there = get_put fin.empty main _;
   }
 
-  -- each thread at the start is main
+  -- the only thread at the start is main
   begins_at_opening : (n : Name) → IsSome (fin.get (opening ops code).threads n) → Beginning ops code n []
   begins_at_opening n there =
       let is = some_value _ there in
@@ -47,7 +47,7 @@ module _ {B : Type 0} (ops : BufferOps B) (code : Code) where
         | inr e ↦ absurd (none-some is.0 (sym (fin.get-empty by_name n) ∙ e.1))
       ]
 
-  -- a thread that began so began so where there is one move more
+  -- a thread that began in some moves began in these with one move more
   begins_before : (n : Name) (moves : List Move) (m : Move) → Beginning ops code n moves → Beginning ops code n (moves ++ m ∷ [])
   begins_before n moves m b = record {
     first = b.first;
@@ -63,21 +63,21 @@ module _ {B : Type 0} (ops : BufferOps B) (code : Code) where
 
   module _ (moves : List Move) (s : State B) (leads : run ops code moves ≡ Some s) where
     module _ (p : Name) (t : Thread B) (there : fin.get s.threads p ≡ Some t) (n : Name) where
-      -- a thread that is there after a thread is put in was there before
+      -- a thread after a put was there before, unless it is the one put in
       was_there : (new : Thread B) → IsSome (fin.get (fin.insert s.threads p new) n) → IsSome (fin.get s.threads n)
       was_there new = there_before_put s.threads p new n (some_is _ t there)
 
-      -- a site creates none
+      -- a site creates no thread
       site_creates_none : (i : Instr) (b : Bool) → IsSome (fin.get (perform ops code s p t i (site b)).threads n) → IsSome (fin.get s.threads n)
       site_creates_none i true h = was_there _ h
       site_creates_none i false h = was_there _ h
 
-      -- nor does a store, wherever it goes
+      -- a store creates no thread, with or without buffers
       store_creates_none : (i : Instr) (c : ℕ) (v : ℤ) → IsSome (fin.get (perform ops code s p t i (Write c v)).threads n) → IsSome (fin.get s.threads n)
       store_creates_none i c v =
           either (λ (x : State B). IsSome (fin.get x.threads n) → IsSome (fin.get s.threads n)) ops.buffered _ _ (was_there _) (was_there _)
 
-      -- the child begins where its parent has done the create
+      -- a child begins when its parent has done the create
       child_begins : (u : State B) (h f : ℕ) (es : List Expr) → instr_of code t.local ≡ Some (Create h f es) → step ops code s (move.Run p) ≡ Some u
           → u ≡ perform ops code s p t (Create h f es) (request t.local (Create h f es))
           → Beginning ops code (child p (t.local.children + 1)) (moves ++ move.Run p ∷ [])
@@ -93,7 +93,7 @@ module _ {B : Type 0} (ops : BufferOps B) (code : Code) where
         there = ap (λ (x : State B). fin.get x.threads (child p (t.local.children + 1))) after ∙ get_put _ _ _;
       }
 
-      -- a thread that is there after an instruction was there before, or begins with it
+      -- a thread after an instruction was there before, or begins with it
       begins_by : (u : State B) (i : Instr) → instr_of code t.local ≡ Some i → step ops code s (move.Run p) ≡ Some u
           → u ≡ perform ops code s p t i (request t.local i) → IsSome (fin.get (perform ops code s p t i (request t.local i)).threads n)
           → IsSome (fin.get s.threads n) ⊎ Beginning ops code n (moves ++ move.Run p ∷ [])
@@ -113,7 +113,7 @@ module _ {B : Type 0} (ops : BufferOps B) (code : Code) where
       begins_by u (Assert e) at one after here = inl (site_creates_none (Assert e) _ here)
       begins_by u i at one after here = inl (was_there _ here)
 
-    -- a thread that is there after a move was there before, or begins with it
+    -- a thread after a move was there before, or begins with it
     begins_in : (u : State B) (m : Move) (n : Name) → step ops code s m ≡ Some u → Went ops code s u m → IsSome (fin.get u.threads n)
         → IsSome (fin.get s.threads n) ⊎ Beginning ops code n (moves ++ m ∷ [])
     begins_in u (move.Run p) n one w here =
@@ -127,7 +127,7 @@ module _ {B : Type 0} (ops : BufferOps B) (code : Code) where
   abbrev AllBegan : List Move → State B → Type 0
   AllBegan moves s = (n : Name) → IsSome (fin.get s.threads n) → Beginning ops code n moves
 
-  -- a move keeps that
+  -- a move keeps that all threads began
   all_began : (moves : List Move) (s u : State B) (m : Move) → run ops code moves ≡ Some s → step ops code s m ≡ Some u → AllBegan moves s
       → AllBegan (moves ++ m ∷ []) u
   all_began moves s u m leads one all n here =
@@ -136,7 +136,7 @@ module _ {B : Type 0} (ops : BufferOps B) (code : Code) where
         | inr b ↦ b
       ]
 
-  -- and so does a run
+  -- a run keeps that all threads began
   all_began_in : (moves : List Move) (s u : State B) (ms : List Move) → run ops code moves ≡ Some s → run_from ops code s ms ≡ Some u
       → AllBegan moves s → AllBegan (moves ++ ms) u
   all_began_in moves s u [] leads rest all n here =
@@ -160,7 +160,7 @@ module _ {B : Type 0} (ops : BufferOps B) (code : Code) where
       ∙ ap (run ops code) (sym b.split)
       ∙ leads
 
-  -- from there it goes by itself
+  -- a thread runs alone from its beginning on
   goes_since : (moves : List Move) (s : State B) (n : Name) (t : Thread B) (b : Beginning ops code n moves) → run ops code moves ≡ Some s
       → fin.get s.threads n ≡ Some t → t.local ≡ alone_since ops code n moves b t.local.steps
   goes_since moves s n t b leads there =
@@ -168,7 +168,7 @@ module _ {B : Type 0} (ops : BufferOps B) (code : Code) where
       let count : g.0 ≡ t.local.steps = omega (arith, g.1) in
       g.2 ∙ ap (alone_since ops code n moves b) count
 
-  -- after any run a thread is what it is by itself since it began
+  -- after any run, a thread's state is the one that it reaches alone from its beginning
   pub threads_live_alone : (moves : List Move) (s : State B) (n : Name) (t : Thread B) → run ops code moves ≡ Some s → fin.get s.threads n ≡ Some t
       → (b : Beginning ops code n moves) × (t.local ≡ alone_since ops code n moves b t.local.steps)
   threads_live_alone moves s n t leads there = let b = began moves s n t leads there in (b, goes_since moves s n t b leads there)

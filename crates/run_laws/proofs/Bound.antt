@@ -1,4 +1,4 @@
--- What a thread has at an instruction that goes with the one before it.
+-- What holds at an instruction that belongs to the one before it.
 use Rattle.std.proofs.Common.{◌≡◌, ◌∙◌, inl, inr, ℕ, suc, ℤ, List, [], true, false, IsTrue, Some, refl, ap, sym, subst, arith, slice_get, true≢false}
 use Rattle.std.proofs.lemmas.Option.{same_Some}
 use Rattle.tc_base.specs.Buffers.{BufferOps}
@@ -17,17 +17,17 @@ use Rattle.run_laws.proofs.After.{Leads, after_has, place_after}
 use Rattle.run_laws.proofs.Changes.{is_fail, site_is_true}
 use Rattle.run_laws.proofs.AllThreads.{Keeps, all_in_reached}
 
--- an instruction that is bound to the one before it is no place to jump to
+-- no jump leads to a bound instruction
 not_target : (is : List Instr) (k : ℕ) (j : Instr) → slice_get is k ≡ Some j → is_bound j ≡ true → IsTarget is k → ⊥
 not_target is k j there bound t = true≢false (sym bound ∙ ap is_bound (same_Some j t.instr (sym there ∙ t.there)) ∙ t.unbound)
 
--- so a thread comes to it from the place before
+-- a thread comes to a bound instruction from the place before it
 from_before : (is : List Instr) (p k : ℕ) (i j : Instr) → slice_get is p ≡ Some i → (target i ≡ Some k → IsTarget is k) → slice_get is k ≡ Some j
     → is_bound j ≡ true → Leads i p k → k ≡ suc p
 from_before is p k i j at jumps there bound (inl next) = omega (arith, next)
 from_before is p k i j at jumps there bound (inr jump) = absurd (not_target is k j there bound (jumps jump))
 
--- what stands before a bound instruction is what the thread did
+-- the instruction before a bound instruction is the one that the thread did last
 came_before : (code : Code) (t : Local) (i j b : Instr) (v : ℤ) → IsLawful code → instr_of code t ≡ Some i
     → instr_of code (local_after t i v) ≡ Some j → is_bound j ≡ true
     → ((g : Func) → IsLawfulFunction code g → (k : ℕ) → slice_get g.instrs k ≡ Some j → StandsBefore g.instrs k b) → i ≡ b
@@ -40,18 +40,18 @@ came_before code t i j b v lawful at next bound stands =
     let after = from_before here.function.instrs t.instruction k i j here.at (here.lawful.jump t.instruction k i here.at) at_k bound (place_after t i v) in
     same_Some i b (sym here.at ∙ subst (λ n. StandsBefore here.function.instrs n b) after (stands here.function here.lawful k at_k))
 
--- after a test of a mutex that passed the thread holds it
+-- after a passed test of a mutex, the thread holds the mutex
 holds_after : (t : Local) (i : Instr) (v : ℤ) (m : ℕ) → i ≡ Holds m → is_fail (request t i) ≡ false → IsTrue (holds (local_after t i v) m)
 holds_after t i v m is went =
     subst (λ j. IsTrue (holds (local_after t j v) m)) (sym is) (site_is_true (holds t m) (subst (λ j. is_fail (request t j) ≡ false) is went))
 
--- after a test of a thread variable that passed there is a child to join
+-- after a passed test of a thread variable, there is a child to join
 ready_after : (t : Local) (i : Instr) (v : ℤ) (h : ℕ) → i ≡ Ready h → is_fail (request t i) ≡ false → IsTrue (can_be_joined (handle_of (local_after t i v) h))
 ready_after t i v h is went =
     subst (λ j. IsTrue (can_be_joined (handle_of (local_after t j v) h))) (sym is)
     (site_is_true (can_be_joined (handle_of t h)) (subst (λ j. is_fail (request t j) ≡ false) is went))
 
--- after each instruction a thread has what a bound one needs
+-- after each instruction, what a bound instruction needs holds
 has_tested_after : (code : Code) (t : Local) (i : Instr) (v : ℤ) → IsLawful code → instr_of code t ≡ Some i → is_fail (request t i) ≡ false
     → HasTested code (local_after t i v)
 has_tested_after code t i v lawful at went = record {
@@ -61,7 +61,7 @@ has_tested_after code t i v lawful at went = record {
 }
 
 module _ {B : Type 0} (ops : BufferOps B) (code : Code) where
-  -- no function begins with a bound instruction
+  -- a function doesn't begin with a bound instruction
   born_has_tested : (f : ℕ) (vs : List ℤ) → IsLawful code → HasTested code (born ops code f vs).local
   born_has_tested f vs lawful =
       let t = (born ops code f vs).local in
@@ -79,6 +79,6 @@ module _ {B : Type 0} (ops : BufferOps B) (code : Code) where
     bears = λ u n h f es g has. born_has_tested f _ lawful;
   }
 
-  -- in each reached state of lawful code a thread at a bound instruction has what the one before it tests
+  -- in each reached state of lawful code, what the instruction before a bound one tests holds
   pub reached_has_tested : (s : State B) → IsLawful code → IsReached ops code s → AllThreads (HasTested code) s.threads
   reached_has_tested s lawful = all_in_reached ops code (HasTested code) (λ v r. keeps_tested lawful v) (born_has_tested _ [] lawful) s

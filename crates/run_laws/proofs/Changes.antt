@@ -1,4 +1,4 @@
--- What a move changes.
+-- The changes that a move makes.
 use Rattle.std.proofs.Common.{◌≡◌, ◌∙◌, ◌⊎◌, inl, inr, ℕ, ◌+◌, ◌≤◌, ℤ, pos, List, Bool, true, false, IsTrue, Option, Some}
 use Rattle.std.proofs.Common.{None, refl, ap, sym, subst, arith, slice_set, slice_index_or, ◌||◌, true≢false}
 use Rattle.std.specs.FinMap as fin
@@ -21,23 +21,23 @@ use Rattle.run_laws.proofs.Basics.{index_or-set_cases, either}
 use Rattle.run_laws.proofs.Names.{tells_names}
 use Rattle.run_laws.proofs.Steps.{Went, step_went}
 
--- whether a request is that of a site that is false
+-- whether a request is one of a site whose test is false
 abbrev pub is_fail : Request → Bool
 is_fail Fail = true
 is_fail _ = false
 
--- a site that doesn't fail is true
+-- the test of a site that doesn't fail is true
 pub site_is_true : (b : Bool) → is_fail (site b) ≡ false → IsTrue b
 site_is_true true h = refl
 site_is_true false h = sym h
 
--- what is done with a mutex
+-- what an instruction does with a mutex
 pub data Hold : Type 0 where
   Keeps : Hold
   Takes : (mutex : ℕ) → Hold
   Leaves : (mutex : ℕ) → Hold
 
--- what an instruction does with a mutex, if it does anything
+-- what this instruction does with a mutex, if anything
 abbrev pub hold_of : Instr → Hold
 hold_of (Lock m) = Takes m
 hold_of (Unlock m) = Leaves m
@@ -45,13 +45,13 @@ hold_of (Sleep c m) = Leaves m
 hold_of (Wake c m) = Takes m
 hold_of _ = Keeps
 
--- what a thread holds after that
+-- the held flags after that
 abbrev pub held_after : List Bool → Hold → List Bool
 held_after held Keeps = held
 held_after held (Takes m) = slice_set held m true
 held_after held (Leaves m) = slice_set held m false
 
--- who owns what after the thread of a name did that
+-- the owners after the named thread did that
 abbrev pub owners_after : List (Option Name) → Name → Hold → List (Option Name)
 owners_after owners n Keeps = owners
 owners_after owners n (Takes m) = slice_set owners m (Some n)
@@ -62,20 +62,20 @@ abbrev pub SleepsOn : Instr → ℕ → Type 0
 SleepsOn (Sleep c m) d = d ≡ c
 SleepsOn _ d = ⊥
 
--- the thread of a name waits on a condition
+-- the named thread waits on a condition
 abbrev pub Waits : List NameSet → ℕ → Name → Type 0
 Waits waiters c n = IsTrue (set.contains (slice_index_or waiters c set.empty) n)
 
--- who waits after an instruction waited before, or is the thread that sleeps
+-- each waiter after an instruction waited before or is the thread that sleeps
 abbrev pub StillWaits : {B : Type 0} → State B → State B → Name → Instr → Type 0
 StillWaits s u n i = (q : Name) (d : ℕ) → Waits u.waiters d q → Waits s.waiters d q ⊎ (SleepsOn i d × (q ≡ n))
 
--- whether the other threads let a request be met; a signal that wakes a thread is another move
+-- whether the other threads allow a request; a signal that wakes a thread is another move
 abbrev pub lets : {B : Type 0} → State B → Name → Request → Bool
 lets s n (WakeOne c) = true
 lets s n r = is_let s n r
 
--- who waits after one set is written waited before, or is in that set
+-- each waiter after one set of waiters is written waited before or is in that set
 waits_after_set : (waiters : List NameSet) (c d : ℕ) (new : NameSet) (q : Name) → Waits (slice_set waiters c new) d q
     → Waits waiters d q ⊎ ((d ≡ c) × IsTrue (set.contains new q))
 waits_after_set waiters c d new q h =
@@ -84,7 +84,7 @@ waits_after_set waiters c d new q h =
       | inr was ↦ inl (subst (λ ns. IsTrue (set.contains ns q)) was h)
     ]
 
--- who is in the set with one more was there, or is the one
+-- each name in a set with one more name was in it or is the new one
 added : (ns : NameSet) (n q : Name) → IsTrue (set.contains (set.insert ns n) q) → IsTrue (set.contains ns q) ⊎ (q ≡ n)
 added ns n q h =
     elim (tells_names q n) [
@@ -92,7 +92,7 @@ added ns n q h =
       | inr e ↦ inl (sym (set.contains-insert nat_list_cmp_total ns n q ∙ ap (λ b. b || set.contains ns q) e.0) ∙ h)
     ]
 
--- who waits after a sleep waited before, or is the one that sleeps
+-- each waiter after a sleep waited before or is the thread that sleeps
 sleeps : (waiters : List NameSet) (c : ℕ) (n q : Name) (d : ℕ) → Waits (slice_set waiters c (set.insert (slice_index_or waiters c set.empty) n)) d q
     → Waits waiters d q ⊎ ((d ≡ c) × (q ≡ n))
 sleeps waiters c n q d h =
@@ -104,7 +104,7 @@ sleeps waiters c n q d h =
       ]
     ]
 
--- who waits after a broadcast waited before
+-- each waiter after a broadcast waited before
 empties : (waiters : List NameSet) (c d : ℕ) (q : Name) → Waits (slice_set waiters c set.empty) d q → Waits waiters d q
 empties waiters c d q h =
     elim (waits_after_set waiters c d _ q h) [
@@ -112,7 +112,7 @@ empties waiters c d q h =
       | inr is ↦ absurd (true≢false (sym is.1 ∙ set.contains-empty by_name q))
     ]
 
--- who waits after a signal waited before
+-- each waiter after a signal waited before
 removes : (waiters : List NameSet) (c : ℕ) (v : Name) (d : ℕ) (q : Name)
     → Waits (slice_set waiters c (set.remove (slice_index_or waiters c set.empty) v)) d q → Waits waiters d q
 removes waiters c v d q h =
@@ -123,7 +123,7 @@ removes waiters c v d q h =
     ]
 
 module _ {B : Type 0} (ops : BufferOps B) (code : Code) where
-  -- the threads, and the child that an instruction creates
+  -- the threads, with the child that an instruction creates
   abbrev pub with_child : Local → Name → Instr → ByName (Thread B) → ByName (Thread B)
   with_child t n (Create h f es) threads = fin.insert threads (child n (t.children + 1)) (born ops code f (arguments_of t (Create h f es)))
   with_child t n _ threads = threads
@@ -142,7 +142,7 @@ module _ {B : Type 0} (ops : BufferOps B) (code : Code) where
     pub owners : u.owners ≡ owners_after s.owners n (hold_of i)
     pub waiters : StillWaits s u n i
 
-  -- a thread stays at its place: a site of it is false, or a store of it reaches memory
+  -- a thread stays at its place: it fails at a site, or one of its stores drains
   pub record Stays (s u : State B) (n : Name) : Type 0 where
     pub before : Thread B
     pub there : fin.get s.threads n ≡ Some before
@@ -154,13 +154,13 @@ module _ {B : Type 0} (ops : BufferOps B) (code : Code) where
     pub owners : u.owners ≡ s.owners
     pub waiters : u.waiters ≡ s.waiters
 
-  -- what a move changes
+  -- the changes of a move
   pub data Change (s u : State B) : Type 0 where
     Went_on : (n : Name) (i : Instr) → Goes s u n i → Change s u
     Stayed : (n : Name) → Stays s u n → Change s u
 
   module _ (s : State B) (n : Name) (t : Thread B) (there : fin.get s.threads n ≡ Some t) where
-    -- a thread goes on
+    -- a thread does an instruction that doesn't fail
     goes : (u : State B) (i : Instr) (v : ℤ) (new : Thread B) → instr_of code t.local ≡ Some i → is_fail (request t.local i) ≡ false
         → IsTrue (lets s n (request t.local i)) → new.local ≡ local_after t.local i v
         → u.threads ≡ with_child t.local n i (fin.insert s.threads n new) → u.owners ≡ owners_after s.owners n (hold_of i) → StillWaits s u n i → Change s u
@@ -179,7 +179,7 @@ module _ {B : Type 0} (ops : BufferOps B) (code : Code) where
           waiters = waiters;
         })
 
-    -- a site goes on, or fails at its place
+    -- a thread passes a site or fails there
     site_performed : (i : Instr) (b : Bool) → instr_of code t.local ≡ Some i → request t.local i ≡ site b
         → ((threads : ByName (Thread B)) → threads ≡ with_child t.local n i threads) → s.owners ≡ owners_after s.owners n (hold_of i)
         → Change s (perform ops code s n t i (site b))
@@ -198,7 +198,7 @@ module _ {B : Type 0} (ops : BufferOps B) (code : Code) where
           waiters = refl;
         })
 
-    -- what an instruction changes
+    -- the changes of an instruction
     performed : (i : Instr) → instr_of code t.local ≡ Some i → IsTrue (is_let s n (request t.local i)) → Change s (perform ops code s n t i (request t.local i))
     performed (Load k c) at may = goes _ (Load k c) _ _ at refl may refl refl refl (λ q d h. inl h)
     performed (LoadAt k a len e) at may = goes _ (LoadAt k a len e) _ _ at refl may refl refl refl (λ q d h. inl h)
@@ -223,7 +223,7 @@ module _ {B : Type 0} (ops : BufferOps B) (code : Code) where
     performed (Broadcast c) at may = goes _ (Broadcast c) (pos 0) _ at refl may refl refl refl (λ q d h. inl (empties s.waiters c d q h))
     performed i at may = goes _ i (pos 0) _ at refl may refl refl refl (λ q d h. inl h)
 
-  -- what a move changes
+  -- the changes of a move, by its kind
   went_changes : (s u : State B) (m : Move) → Went ops code s u m → Change s u
   went_changes s u (move.Run n) w =
       subst (Change s) (sym w.after) (performed s n w.thread w.there w.instr w.at (and_parts _ (is_let s n (request w.thread.local w.instr)) w.allowed).1)
@@ -242,6 +242,6 @@ module _ {B : Type 0} (ops : BufferOps B) (code : Code) where
     waiters = ap (λ x. x.waiters) w.after;
   })
 
-  -- what each move changes
+  -- the changes of each move
   pub step_changes : (s u : State B) (m : Move) → step ops code s m ≡ Some u → Change s u
   step_changes s u m one = went_changes s u m (step_went ops code s u m one)

@@ -1,4 +1,4 @@
--- A thread counts no further than the moves that led there.
+-- The counters of a thread are at most the number of moves.
 use Rattle.std.proofs.Common.{◌≡◌, ℕ, ◌+◌, ◌<◌, ◌≤◌, ◌^◌, length, List, [], ◌∷◌, Some, refl, sym, subst, arith, ℤ}
 use Rattle.std.proofs.lemmas.Option.{same_Some, option_and_then_some}
 use Rattle.tc_base.specs.Buffers.{BufferOps}
@@ -24,17 +24,17 @@ pub after_counts : (t : Local) (i : Instr) (v : ℤ) → CountsOne t (local_afte
 after_counts t (Branch e to) v = subst (CountsOne t) (sym (branch_is t _ to)) (record { steps = refl; children = omega arith })
 after_counts t _ v = record { steps = refl; children = omega arith }
 
--- a thread has counted no further than so many moves
+-- the counters of a thread are at most `k`
 pub record CountsUpTo (k : ℕ) (t : Local) : Type 0 where
   pub steps : t.steps ≤ k
   pub children : t.children ≤ k
 
--- so it counts no further than so many moves and one more
+-- one step later they are at most `k + 1`
 counted_on : (k : ℕ) (old new : Local) → CountsOne old new → CountsUpTo k old → CountsUpTo (k + 1) new
 counted_on k old new one c = record { steps = omega (arith, one.steps, c.steps); children = omega (arith, one.children, c.children) }
 
 module _ {B : Type 0} (ops : BufferOps B) (code : Code) where
-  -- what each move counts one further, a run counts on by the number of its moves
+  -- what each move raises by one, a run raises by the number of its moves
   counted_by_run : (P : ℕ → State B → Type 0) → ((k : ℕ) (s u : State B) (m : Move) → step ops code s m ≡ Some u → P k s → P (k + 1) u)
       → (k : ℕ) (s u : State B) (ms : List Move) → run_from ops code s ms ≡ Some u → P k s → P (k + length ms) u
   counted_by_run P counts k s u [] h p = let e : k ≡ k + 0 = omega arith in subst (λ j. P j u) e (subst (P k) (same_Some s u h) p)
@@ -52,7 +52,7 @@ module _ {B : Type 0} (ops : BufferOps B) (code : Code) where
     bears = λ u n h f es g c. record { steps = omega arith; children = omega arith };
   }
 
-  -- a thread counts no further than the moves that led there
+  -- the counters of a thread are at most the number of moves
   pub counts_of_run : (moves : List Move) (s : State B) → run ops code moves ≡ Some s → AllThreads (CountsUpTo (length moves)) s.threads
   counts_of_run moves s leads =
       let e : 0 + length moves ≡ length moves = omega arith in
@@ -62,7 +62,7 @@ module _ {B : Type 0} (ops : BufferOps B) (code : Code) where
       0 (opening ops code) s moves leads
       (all_at_opening ops code (CountsUpTo 0) (record { steps = omega arith; children = omega arith })))
 
-  -- where the moves are few, each counter of a thread has room
+  -- if the moves are few, each counter of a thread has room
   pub counters_below_last : (moves : List Move) (s : State B) → run ops code moves ≡ Some s → length moves + 1 < 2 ^ 32 → CountersAreBelowLast s
   counters_below_last moves s leads few n t there =
       let c = counts_of_run moves s leads n t there in

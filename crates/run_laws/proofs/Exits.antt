@@ -1,4 +1,4 @@
--- A thread has exited exactly where its last instruction was an exit.
+-- A thread has exited exactly if its last instruction was an exit.
 use Rattle.std.proofs.Common.{◌≡◌, ◌∙◌, ℕ, ◌+◌, ◌-◌, ◌<◌, length, List, [], Bool, true, false, IsTrue, None, if◌then◌else◌}
 use Rattle.std.proofs.Common.{Some, refl, ap, sym, subst, arith, ℤ, slice_get, inl, inr}
 use Rattle.std.specs.Prelude.{option_and_then}
@@ -23,7 +23,7 @@ use Rattle.run_laws.proofs.After.{Leads, branch_is, after_has, place_after}
 use Rattle.run_laws.proofs.AllThreads.{Keeps, all_in_reached}
 use Rattle.run_laws.proofs.Whole.{reached_is_whole}
 
--- what is below the length is there
+-- there is an instruction at each place below the length
 there_below : (is : List Instr) (k : ℕ) → k < length is → (i : Instr) × (slice_get is k ≡ Some i)
 there_below is k within = elim ((slice_get_cases is k).1) [ inl at ↦ (at.0, at.2) | inr past ↦ absurd (omega (arith, within, past.0)) ]
 
@@ -43,13 +43,13 @@ goes_on_below code g k i is at other =
           absurd (true≢false (sym (ap is_exit (same_Some i Exit (sym at ∙ ap (slice_get g.instrs) same ∙ is.last))) ∙ other))
     ]
 
--- only an exit exits
+-- only an exit makes a thread exit
 after_stays : (t : Local) (i : Instr) (v : ℤ) → is_exit i ≡ false → (local_after t i v).has_exited ≡ t.has_exited
 after_stays t (Branch e to) v h = ap (λ u. u.has_exited) (branch_is t _ to)
 after_stays t Exit v h = absurd (true≢false h)
 after_stays t _ v h = refl
 
--- a thread that has exited is past an exit, and another is at an instruction of its function
+-- a thread that has exited is past an exit, and any other is at an instruction of its function
 record Exits (code : Code) (t : Local) : Type 0 where
   past : IsTrue t.has_exited → IsPastExit code t
   below : (g : Func) → t.has_exited ≡ false → slice_get code.functions t.function ≡ Some g → t.instruction < length g.instrs
@@ -60,7 +60,7 @@ next_below : (code : Code) (g : Func) (p k : ℕ) (i : Instr) → IsLawfulFuncti
 next_below code g p k i is at other (inl next) = omega (arith, next, goes_on_below code g p i is at other)
 next_below code g p k i is at other (inr jump) = let to = is.jump p k i at jump in slice_get_within g.instrs k to.instr to.there
 
--- so the thread stays in its function
+-- after an instruction that isn't an exit the thread is at an instruction
 after_other : (code : Code) (t : Local) (i : Instr) (v : ℤ) → IsPlaced code t.function t.instruction i → t.has_exited ≡ false → is_exit i ≡ false
     → Exits code (local_after t i v)
 after_other code t i v placed here other = record {
@@ -71,7 +71,7 @@ after_other code t i v placed here other = record {
       (next_below code placed.function t.instruction _ i placed.lawful placed.at other (place_after t i v));
 }
 
--- each instruction keeps that
+-- each instruction keeps a thread past an exit or at an instruction
 after_exits : (code : Code) (t : Local) (i : Instr) (v : ℤ) → IsLawful code → instr_of code t ≡ Some i → Exits code (local_after t i v)
 after_exits code t Exit v lawful at = record {
   past = λ gone. record { place = t.instruction; next = refl; exit = at_its_place code t Exit at };
@@ -86,11 +86,11 @@ begins_below code f g lawful there =
     omega (arith, within)
 
 module _ {B : Type 0} (ops : BufferOps B) (code : Code) where
-  -- a new thread is at its first
+  -- a new thread is at the first instruction
   born_exits : (f : ℕ) (vs : List ℤ) → IsLawful code → Exits code (born ops code f vs).local
   born_exits f vs lawful = record { past = λ gone. absurd (false≢true gone); below = λ g not_yet there. begins_below code f g lawful there }
 
-  -- each move keeps that
+  -- each move keeps threads past an exit or at an instruction
   keeps_exits : IsLawful code → (s : State B) → Keeps ops code s (Exits code) (Exits code)
   keeps_exits lawful s = record {
     stays = λ t steps few h. record { past = λ gone. let p = h.past gone in record { place = p.place; next = p.next; exit = p.exit }; below = h.below };
@@ -107,12 +107,12 @@ module _ {B : Type 0} (ops : BufferOps B) (code : Code) where
   all_exit : (s : State B) → IsLawful code → IsReached ops code s → AllThreads (Exits code) s.threads
   all_exit s lawful = all_in_reached ops code (Exits code) (λ v r. keeps_exits lawful v) (born_exits _ [] lawful) s
 
-  -- a thread of lawful code has exited exactly where its last instruction was an exit
+  -- a thread of lawful code has exited exactly if its last instruction was an exit
   pub exited_past_exit : (s : State B) → IsLawful code → IsReached ops code s → AllThreads (ExitedPastExit code) s.threads
   exited_past_exit s lawful reached n t there =
       let h = all_exit s lawful reached n t there in (h.past, λ p. true_from_ne_false _ (not_below t.local p lawful h))
 
-  -- one that hasn't exited is at an instruction
+  -- a thread that hasn't exited is at an instruction
   pub has_next : (s : State B) → IsLawful code → IsReached ops code s → (n : Name) (t : Thread B) → fin.get s.threads n ≡ Some t
       → t.local.has_exited ≡ false → (i : Instr) × (instr_of code t.local ≡ Some i)
   has_next s lawful reached n t there going =

@@ -1,4 +1,4 @@
--- A thread goes by itself, with the values that its loads take.
+-- Each thread runs alone, given the values that its loads take.
 use Rattle.std.proofs.Common.{◌≡◌, ◌≢◌, ◌∙◌, inl, inr, ℕ, zero, suc, ◌+◌, List, [], ◌∷◌, ◌++◌, Bool, true}
 use Rattle.std.proofs.Common.{false, Option, Some, refl, ap, sym, subst, arith, cond, ℤ, pos}
 use Rattle.std.specs.Option.{option_map_or}
@@ -15,7 +15,7 @@ use Rattle.tc_code.specs.declared.instr.Instr.TheVariants.{Signal}
 use Rattle.tc_code.specs.Code.{Code}
 use Rattle.tc_base.specs.declared.request.Request.{Request}
 use Rattle.tc_base.specs.declared.request.Request.TheVariants.{Read, Write, Exchange, CompareExchange, Bar, WakeOne, Start, Fail}
-use Rattle.tc_code.specs.Step.{request, stepped, local_after, instr_of, loaded, in_memory, perform, step}
+use Rattle.tc_code.specs.Step.{request, step_in_place, local_after, instr_of, loaded, in_memory, perform, step}
 use Rattle.tc_code.specs.Run.{IsReached, run_from}
 use Rattle.tc_code.proofs.Facts.{step_is_reached}
 use Rattle.run_laws.specs.Alone.{same, Alone, after_request, goes_on, after_steps, taken_by, taken_in, taken_from}
@@ -34,10 +34,10 @@ is_read _ = false
 
 -- the thread after a request that takes no value
 abbrev local_by : Local → Instr → Request → Local
-local_by t i Fail = stepped t
+local_by t i Fail = step_in_place t
 local_by t i _ = local_after t i (pos 0)
 
--- a request that takes none leaves all values
+-- a request that takes no value leaves all values
 takes_none : (t : Local) (i : Instr) (vs : List ℤ) (r : Request) → is_read r ≡ false → after_request t i vs r ≡ record { local = local_by t i r; values = vs }
 takes_none t i [] Fail h = refl
 takes_none t i [] _ h = refl
@@ -46,20 +46,20 @@ takes_none t i (v ∷ vs) (Exchange c _) h = absurd (true≢false h)
 takes_none t i (v ∷ vs) (CompareExchange c _ _) h = absurd (true≢false h)
 takes_none t i (v ∷ vs) _ h = refl
 
--- some steps, and then some more, are all of them
+-- `j` steps and then `k` more are `j + k` steps
 after_both : (code : Code) (j k : ℕ) (a : Alone) → after_steps code (j + k) a ≡ after_steps code k (after_steps code j a)
 after_both code zero k a = let e : 0 + k ≡ k = omega arith in ap (λ n. after_steps code n a) e
 after_both code (suc j) k a =
     let e : suc j + k ≡ suc (j + k) = omega arith in
     ap (λ n. after_steps code n a) e ∙ after_both code j k (goes_on code a)
 
--- an instruction that is there is done
+-- a thread that runs alone does its next instruction
 goes_by : (code : Code) (t : Local) (i : Instr) (vs : List ℤ) → instr_of code t ≡ Some i
     → goes_on code (record { local = t; values = vs }) ≡ after_request t i vs (request t i)
 goes_by code t i vs at = ap (λ o. option_map_or (λ j. after_request t j vs (request t j)) o (record { local = t; values = vs })) at
 
 module _ {B : Type 0} (ops : BufferOps B) (code : Code) where
-  -- what the thread of a name does in a move: so many steps, with the values that it takes
+  -- what the thread of a name does in a move: `count` steps, with the values that it takes
   record GoesOn (w : State B) (n : Name) (t : Thread B) (taken : List ℤ) : Type 0 where
     after : Thread B
     there : fin.get w.threads n ≡ Some after
@@ -67,7 +67,7 @@ module _ {B : Type 0} (ops : BufferOps B) (code : Code) where
     steps : after.local.steps ≡ t.local.steps + count
     goes : (vs : List ℤ) → after_steps code count (record { local = t.local; values = taken ++ vs }) ≡ record { local = after.local; values = vs }
 
-  -- it may do nothing
+  -- a thread may do nothing in a move
   stays_put : (w : State B) (n : Name) (t u : Thread B) → fin.get w.threads n ≡ Some u → u.local ≡ t.local → GoesOn w n t []
   stays_put w n t u there same = record {
     after = u;
@@ -77,12 +77,12 @@ module _ {B : Type 0} (ops : BufferOps B) (code : Code) where
     goes = λ vs. ap (λ x. record { local = x; values = vs }) (sym same);
   }
 
-  -- and each request is one step
+  -- each request counts one step
   steps_one : (t : Local) (i : Instr) (r : Request) → (local_by t i r).steps ≡ t.steps + 1
   steps_one t i Fail = refl
   steps_one t i _ = (after_counts t i (pos 0)).steps
 
-  -- it may do an instruction that takes no value
+  -- a thread may do an instruction that takes no value
   does_one : (w : State B) (n : Name) (t : Thread B) (i : Instr) (r : Request) (buffer : B) → instr_of code t.local ≡ Some i → request t.local i ≡ r
       → is_read r ≡ false → fin.get w.threads n ≡ Some (record { local = local_by t.local i r; buffer = buffer }) → GoesOn w n t []
   does_one w n t i r buffer at e reads there = record {
@@ -93,7 +93,7 @@ module _ {B : Type 0} (ops : BufferOps B) (code : Code) where
     goes = λ vs. goes_by code t.local i vs at ∙ ap (after_request t.local i vs) e ∙ takes_none t.local i vs r reads;
   }
 
-  -- or one that takes a value
+  -- a thread may do an instruction that takes a value
   takes_one : (w : State B) (n : Name) (t : Thread B) (i : Instr) (v : ℤ) → instr_of code t.local ≡ Some i
       → ((vs : List ℤ) → after_request t.local i (v ∷ vs) (request t.local i) ≡ record { local = local_after t.local i v; values = vs })
       → fin.get w.threads n ≡ Some (record t { local = local_after t.local i v }) → GoesOn w n t (v ∷ [])
@@ -105,7 +105,7 @@ module _ {B : Type 0} (ops : BufferOps B) (code : Code) where
     goes = λ vs. goes_by code t.local i (v ∷ vs) at ∙ takes vs;
   }
 
-  -- a thread that does an instruction takes what its request takes
+  -- a thread that does an instruction takes the value of its request
   own_goes : (s : State B) (n : Name) (t : Thread B) (i : Instr) (r : Request) → instr_of code t.local ≡ Some i → request t.local i ≡ r
       → GoesOn (perform ops code s n t i r) n t (taken_by ops code s t r)
   own_goes s n t i (Read c) at e =
@@ -133,7 +133,7 @@ module _ {B : Type 0} (ops : BufferOps B) (code : Code) where
   leaves s q x i (Start f) n t there other new = get_put_apart _ _ _ n new ∙ get_put_apart s.threads q _ n other ∙ there
   leaves s q x i _ n t there other new = get_put_apart s.threads q _ n other ∙ there
 
-  -- what the thread of a name does where it is the one that moves, and where it is another
+  -- what a thread does in a move of its own, and in a move of another thread
   own_or_other : (s w : State B) (n q : Name) (t x : Thread B) (taken : Bool → List ℤ) → fin.get s.threads n ≡ Some t → fin.get s.threads q ≡ Some x
       → GoesOn w q x (taken true) → (n ≢ q → GoesOn w n t (taken false)) → GoesOn w n t (taken (same n q))
   own_or_other s w n q t x taken there here own other =
@@ -144,11 +144,11 @@ module _ {B : Type 0} (ops : BufferOps B) (code : Code) where
         | inr e ↦ subst (λ b. GoesOn w n t (taken b)) (sym e.0) (other e.1)
       ]
 
-  -- what the thread that there may be takes
+  -- the values that a thread takes in its next instruction, if the thread exists
   abbrev taken_at : State B → Option (Thread B) → List ℤ
   taken_at s o = option_map_or (λ t. option_map_or (λ i. taken_by ops code s t (request t.local i)) (instr_of code t.local) []) o []
 
-  -- it is what its instruction takes
+  -- the values taken by an instruction are those of its request
   taken_is : (s : State B) (q : Name) (x : Thread B) (i : Instr) → fin.get s.threads q ≡ Some x → instr_of code x.local ≡ Some i
       → taken_at s (fin.get s.threads q) ≡ taken_by ops code s x (request x.local i)
   taken_is s q x i here at = ap (taken_at s) here ∙ ap (λ o. option_map_or (λ j. taken_by ops code s x (request x.local j)) o []) at
@@ -179,7 +179,7 @@ module _ {B : Type 0} (ops : BufferOps B) (code : Code) where
       (k : ℕ) × (v.local.steps ≡ t.local.steps + k)
       × (v.local ≡ (after_steps code k (record { local = t.local; values = taken_from ops code s n moves })).local)
 
-  -- a thread goes alone from a state, where it does so from the next
+  -- a thread runs alone from a state if it runs alone from the next one
   goes_further : (s u : State B) (m : Move) (ms : List Move) (n : Name) (t v : Thread B) → step ops code s m ≡ Some u
       → (g : GoesOn u n t (taken_in ops code s n m)) → GoesAlone u ms n g.after v → GoesAlone s (m ∷ ms) n t v
   goes_further s u m ms n t v one g rest =
@@ -194,7 +194,7 @@ module _ {B : Type 0} (ops : BufferOps B) (code : Code) where
             ∙ ap (λ vs. (after_steps code (g.count + rest.0) (record { local = t.local; values = vs })).local) (sym all),
       )
 
-  -- in a run each thread goes alone
+  -- in a run each thread runs alone
   pub threads_go_alone : (s u : State B) (moves : List Move) (n : Name) (t v : Thread B) → IsReached ops code s → run_from ops code s moves ≡ Some u
       → fin.get s.threads n ≡ Some t → fin.get u.threads n ≡ Some v → GoesAlone s moves n t v
   threads_go_alone s u [] n t v reached leads there then =

@@ -21,18 +21,18 @@ use Rattle.run_laws.proofs.Changes.{Goes}
 use Rattle.run_laws.proofs.AllThreads.{Keeps, all_in_reached}
 use Rattle.run_laws.proofs.Created.{reached_is_created}
 
--- a child stays one while no fewer are created
+-- a child of a thread stays its child as its number of children grows
 still_child : (t u : Local) (x : Handle) → t.children ≤ u.children → HoldsChild t x → HoldsChild u x
 still_child t u Unset more is = tt
 still_child t u (Child k) more is = record { first = is.first; last = omega (arith, is.last, more) }
 still_child t u (Joined k) more is = record { first = is.first; last = omega (arith, is.last, more) }
 
--- so thread variables that stay hold children
+-- unchanged thread variables hold children
 still_children : (t u : Local) → u.handles ≡ t.handles → t.children ≤ u.children → HandlesAreChildren t → HandlesAreChildren u
 still_children t u same more all h =
     still_child t u (handle_of u h) more (subst (λ hs. HoldsChild t (slice_index_or hs h Unset)) (sym same) (all h))
 
--- and one that takes a child, and the others
+-- thread variables hold children after one of them is set to a child
 still_children_after : (t u : Local) (k : ℕ) (x : Handle) → u.handles ≡ slice_set t.handles k x → t.children ≤ u.children → HoldsChild u x
     → HandlesAreChildren t → HandlesAreChildren u
 still_children_after t u k x written more is all h =
@@ -42,7 +42,7 @@ still_children_after t u k x written more is all h =
       | inr old ↦ subst (HoldsChild u) (sym old) (still_child t u (handle_of t h) more (all h))
     ])
 
--- the child that a join waits for, where it isn't none
+-- the child for which a join waits, if the thread variable holds one
 joined_child : (t : Local) (x : Handle) → HoldsChild t x → (child_number x ≡ 0 → ⊥) → IsChildOf t (child_number x)
 joined_child t Unset is some = absurd (some refl)
 joined_child t (Child k) is some = is
@@ -61,12 +61,12 @@ module _ {B : Type 0} (ops : BufferOps B) (code : Code) where
       let zero_th : 0 ≡ c.number = (same_from_push n c.parent 0 c.number c.name).1 in
       omega (arith, c.created.first, zero_th)
 
-  -- so a join that is let waits for a child
+  -- a join that may be done waits for a child
   awaited : (s : State B) (n : Name) (t : Local) (x : Handle) → ThreadsAreCreated s → HoldsChild t x → IsTrue (child_has_exited s n (child_number x))
       → IsChildOf t (child_number x)
   awaited s n t x created is exited = joined_child t x is (λ none. no_child_zero s n created (subst (λ k. IsTrue (child_has_exited s n k)) none exited))
 
-  -- an instruction leaves children in all thread variables
+  -- after an instruction all thread variables hold children
   does_keep : (s u : State B) (n : Name) (i : Instr) → ThreadsAreCreated s → (g : Goes ops code s u n i) → HandlesAreChildren g.before.local
       → HandlesAreChildren (local_after g.before.local i g.value)
   does_keep s u n (Branch e to) created g all =
@@ -79,7 +79,7 @@ module _ {B : Type 0} (ops : BufferOps B) (code : Code) where
       (record { first = is.first; last = is.last }) all
   does_keep s u n i created g all = still_children g.before.local _ refl (le_refl _) all
 
-  -- each move does
+  -- each move keeps children in all thread variables
   keeps_children : (s : State B) → ThreadsAreCreated s → Keeps ops code s HandlesAreChildren HandlesAreChildren
   keeps_children s created = record {
     stays = λ t steps few all. still_children t (record t { steps = steps }) refl (le_refl t.children) all;

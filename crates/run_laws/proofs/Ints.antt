@@ -24,8 +24,8 @@ use Rattle.tc_code.specs.declared.instr.Instr.TheVariants.{Set, Load, LoadAt, St
 use Rattle.tc_code.specs.declared.instr.Instr.TheVariants.{Ready, Assert, Nonzero, InRange, Swap, Cas}
 use Rattle.tc_code.specs.Code.{Code}
 use Rattle.tc_code.specs.Lawful.{exprs_of, IsLawful}
-use Rattle.tc_code.specs.Step.{request, site, stepped, value_in, local_after, arguments_of, instr_of, in_memory, replaced, ints_of, loaded, born}
-use Rattle.tc_code.specs.Step.{perform, with_thread, did, exchanged, step, opening}
+use Rattle.tc_code.specs.Step.{request, site, step_in_place, value_in, local_after, arguments_of, instr_of, in_memory, replaced, ints_of, loaded, born}
+use Rattle.tc_code.specs.Step.{perform, with_thread, state_after_step, state_after_exchange, step, opening}
 use Rattle.tc_code.specs.Run.{IsReached}
 use Rattle.tc_code.proofs.Facts.{placed_next, step_is_reached}
 use Rattle.tc_code.proofs.Ints.{value_int}
@@ -36,7 +36,7 @@ use Rattle.run_laws.proofs.Names.{get_put_cases}
 use Rattle.run_laws.proofs.After.{branch_is}
 use Rattle.run_laws.proofs.Steps.{Went, step_went, holds_in_reached}
 
--- what the next instruction of a thread computes with are ints
+-- the next instruction of a thread computes only with ints
 pub ints_next : (code : Code) (t : Local) (i : Instr) (lawful : IsLawful code) (at : instr_of code t ≡ Some i) → All HasInts (exprs_of i)
 ints_next code t i lawful at = let placed = placed_next code t i lawful at in placed.lawful.ints t.instruction i placed.at
 
@@ -44,7 +44,7 @@ ints_next code t i lawful at = let placed = placed_next code t i lawful at in pl
 pub zero_int : IsInt (pos 0)
 zero_int = truth_int false
 
--- over ints expressions of ints are ints
+-- expressions over ints have ints as values
 values_int : (es : List Expr) (slots : List ℤ) → All HasInts es → All IsInt slots → All IsInt (map (λ e. value_of e slots) es)
 values_int es slots i are =
     All-map IsInt (λ e. value_of e slots) es (All-weaker HasInts (λ e. IsInt (value_of e slots)) (λ e is. value_int e slots is are) es i)
@@ -60,7 +60,7 @@ module _ (t : Local) (are : All IsInt t.slots) where
   site_asks_ints true = tt
   site_asks_ints false = tt
 
-  -- so an instruction of ints asks ints
+  -- an instruction over ints requests ints
   pub asks_ints : (i : Instr) → All HasInts (exprs_of i) → AsksInts (request t i)
   asks_ints (Store c e) is = first_int e [] is
   asks_ints (StoreAt a len i e) is = second_int i e is
@@ -74,12 +74,12 @@ module _ (t : Local) (are : All IsInt t.slots) where
   asks_ints (InRange e) is = site_asks_ints _
   asks_ints i is = tt
 
-  -- hands ints to a child
+  -- it hands ints to a child
   arguments_int : (i : Instr) → All HasInts (exprs_of i) → All IsInt (arguments_of t i)
   arguments_int (Create h f es) is = values_int es t.slots is are
   arguments_int i is = All-nil IsInt
 
-  -- and leaves ints in the slots, where it takes one
+  -- the slots hold ints after an instruction, if the value that it takes is an int
   pub after_int : (i : Instr) (v : ℤ) → All HasInts (exprs_of i) → IsInt v → All IsInt (local_after t i v).slots
   after_int (Set k e) v is int = All-set IsInt t.slots k _ (first_int e [] is) are
   after_int (Load k c) v is int = All-set IsInt t.slots k v int are
@@ -90,7 +90,7 @@ module _ (t : Local) (are : All IsInt t.slots) where
   after_int i v is int = are
 
 module _ {B : Type 0} (ops : BufferOps B) (code : Code) (passes : PassesInts ops) where
-  -- a thread that begins with ints has ints
+  -- a thread that begins with ints has only ints
   born_ints : (f : ℕ) (vs : List ℤ) → All IsInt vs → ThreadHasInts ops (born ops code f vs)
   born_ints f vs are = record {
     slots = All-append IsInt vs _ are (All-replicate IsInt (ints_of code f - length vs) (pos 0) zero_int);
@@ -98,7 +98,7 @@ module _ {B : Type 0} (ops : BufferOps B) (code : Code) (passes : PassesInts ops
   }
 
   module _ (s : State B) (has : StateHasInts ops s) where
-    -- a thread that has ints is put in
+    -- putting in a thread with ints keeps a state's values ints
     put_ints : (n : Name) (t : Thread B) → ThreadHasInts ops t → StateHasInts ops (with_thread s n t)
     put_ints n t ints = record {
       memory = has.memory;
@@ -109,11 +109,11 @@ module _ {B : Type 0} (ops : BufferOps B) (code : Code) (passes : PassesInts ops
           ];
     }
 
-    -- what is in memory is an int
+    -- each value in memory is an int
     pub in_memory_int : (c : ℕ) → IsInt (in_memory s c)
     in_memory_int c = there_int s.memory c has.memory
 
-    -- and so is what a load takes
+    -- each value that a load takes is an int
     pub loaded_int : (t : Thread B) (c : ℕ) → ThreadHasInts ops t → IsInt (loaded ops s t c)
     loaded_int t c ints = by (ops.forward t.buffer c) refl
       where
@@ -127,7 +127,7 @@ module _ {B : Type 0} (ops : BufferOps B) (code : Code) (passes : PassesInts ops
     taken_by_int t (CompareExchange c e v) ints = All-cons IsInt _ [] (in_memory_int c) (All-nil IsInt)
     taken_by_int t r ints = All-nil IsInt
 
-    -- what the thread of a name takes in a move
+    -- the values that a thread takes in a move are ints
     taken_in_int : (q : Name) (m : Move) → All IsInt (taken_in ops code s q m)
     taken_in_int q (move.Run n) = either (All IsInt) (same q n) _ _ (by_thread (fin.get s.threads n) refl) (All-nil IsInt)
       where
@@ -143,14 +143,14 @@ module _ {B : Type 0} (ops : BufferOps B) (code : Code) (passes : PassesInts ops
     taken_in_int q (move.Drain n form) = All-nil IsInt
 
   module _ (s : State B) (n : Name) (t : Thread B) (i : Instr) (has : StateHasInts ops s) (ints : ThreadHasInts ops t) (is : All HasInts (exprs_of i)) where
-    -- a thread does an instruction
+    -- an instruction that takes an int keeps a state's values ints
     does_ints : (v : ℤ) (b : B) → IsInt v → HoldsInts ops b → StateHasInts ops (with_thread s n (record { local = local_after t.local i v; buffer = b }))
     does_ints v b int holds = put_ints s has n _ (record { slots = after_int t.local ints.slots i v is int; buffer = holds })
 
-    did_ints : StateHasInts ops (did ops s n t i)
+    did_ints : StateHasInts ops (state_after_step ops s n t i)
     did_ints = does_ints (pos 0) t.buffer zero_int ints.buffer
 
-    exchanged_ints : (c : ℕ) (v : ℤ) → IsInt v → StateHasInts ops (exchanged ops s n t i c v)
+    exchanged_ints : (c : ℕ) (v : ℤ) → IsInt v → StateHasInts ops (state_after_exchange ops s n t i c v)
     exchanged_ints c v int = record {
       memory = All-set IsInt s.memory c v int has.memory;
       threads = (does_ints (in_memory s c) t.buffer (in_memory_int s has c) ints.buffer).threads;
@@ -167,14 +167,14 @@ module _ {B : Type 0} (ops : BufferOps B) (code : Code) (passes : PassesInts ops
         exchanged_ints c (replaced (in_memory s c) e v) (either IsInt (int_eq (in_memory s c) e) v (in_memory s c) asks.1 (in_memory_int s has c))
     performed_ints Bar asks = does_ints (pos 0) (ops.bar t.buffer) zero_int (Barred t.buffer ints.buffer)
     performed_ints (Start f) asks =
-        put_ints (did ops s n t i) did_ints (child n (t.local.children + 1)) _ (born_ints f _ (arguments_int t.local ints.slots i is))
+        put_ints (state_after_step ops s n t i) did_ints (child n (t.local.children + 1)) _ (born_ints f _ (arguments_int t.local ints.slots i is))
     performed_ints Fail asks =
-        let failed = put_ints s has n (record t { local = stepped t.local }) (record { slots = ints.slots; buffer = ints.buffer }) in
+        let failed = put_ints s has n (record t { local = step_in_place t.local }) (record { slots = ints.slots; buffer = ints.buffer }) in
         record { memory = failed.memory; threads = failed.threads }
     performed_ints r asks = record { memory = did_ints.memory; threads = did_ints.threads }
 
   module _ (lawful : IsLawful code) where
-    -- so each move of lawful code keeps ints
+    -- each move of lawful code keeps a state's values ints
     went_ints : (s u : State B) (m : Move) → Went ops code s u m → StateHasInts ops s → StateHasInts ops u
     went_ints s u (move.Run n) w has =
         let ints = has.threads n w.thread w.there in
@@ -205,13 +205,13 @@ module _ {B : Type 0} (ops : BufferOps B) (code : Code) (passes : PassesInts ops
     pub values_are_ints : (s : State B) → IsReached ops code s → StateHasInts ops s
     values_are_ints = holds_in_reached ops code (StateHasInts ops) opening_ints (λ s u m r one has. went_ints s u m (step_went ops code s u m one) has)
 
-    -- what a thread asks next has ints
+    -- the next request of a thread has only ints
     pub requests_have_ints : (s : State B) (n : Name) (t : Thread B) (i : Instr) → IsReached ops code s → fin.get s.threads n ≡ Some t
         → instr_of code t.local ≡ Some i → AsksInts (request t.local i)
     requests_have_ints s n t i reached there at =
         asks_ints t.local ((values_are_ints s reached).threads n t there).slots i (ints_next code t.local i lawful at)
 
-    -- and what it takes are ints
+    -- the values that a thread takes are ints
     pub taken_are_ints : (s : State B) (n : Name) (moves : List Move) → IsReached ops code s → All IsInt (taken_from ops code s n moves)
     taken_are_ints s n [] reached = All-nil IsInt
     taken_are_ints s n (m ∷ ms) reached =

@@ -16,13 +16,13 @@ use Rattle.run_laws.proofs.Steps.{holds_in_reached}
 use Rattle.run_laws.proofs.Changes.{Went_on, Stayed, with_child, step_changes}
 
 module _ {B : Type 0} (ops : BufferOps B) (code : Code) where
-  -- a thread that is there stays where an instruction may create a child
+  -- a thread of the state stays if an instruction adds a child
   stays_with_child : (t : Local) (n : Name) (i : Instr) (threads : ByName (Thread B)) (q : Name) → IsSome (fin.get threads q)
       → IsSome (fin.get (with_child ops code t n i threads) q)
   stays_with_child t n (Create h f es) threads q there = stays_after_put threads _ _ q there
   stays_with_child t n _ threads q there = there
 
-  -- a thread that is there stays in each move
+  -- a thread of the state stays in each move
   pub thread_stays : (q : Name) (s u : State B) (m : Move) → step ops code s m ≡ Some u → IsSome (fin.get s.threads q) → IsSome (fin.get u.threads q)
   thread_stays q s u m one there =
       elim (step_changes ops code s u m one) [

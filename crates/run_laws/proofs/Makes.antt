@@ -1,4 +1,4 @@
--- A move is made where all that it asks is given.
+-- A move is enabled if its conditions hold.
 use Rattle.std.proofs.Common.{◌≡◌, ◌∙◌, ℕ, IsTrue, Option, Some, None, ap}
 use Rattle.std.specs.Prelude.{is_some, if◌then◌else◌, option_and_then}
 use Rattle.std.specs.FinMap as fin
@@ -13,14 +13,14 @@ use Rattle.tc_base.specs.declared.request.Request.{Request}
 use Rattle.tc_code.specs.declared.instr.Instr.{Instr}
 use Rattle.tc_code.specs.declared.instr.Instr.TheVariants.{Signal}
 use Rattle.tc_code.specs.Code.{Code}
-use Rattle.tc_code.specs.Step.{request, instr_of, allows, perform, waiting_on, woken, drained, step, move_of, run_of, wake_of, drain_of}
+use Rattle.tc_code.specs.Step.{request, instr_of, allows, perform, waiting_on, state_after_wake, state_after_drain, step, move_of, run_of, wake_of, drain_of}
 
 module _ {B : Type 0} (ops : BufferOps B) (code : Code) (s : State B) (n : Name) (t : Thread B) (going : s.failed ≡ None)
     (there : fin.get s.threads n ≡ Some t) where
   goes : (m : Move) → step ops code s m ≡ move_of ops code s m
   goes m = ap (λ o. if is_some o then None else move_of ops code s m) going
 
-  -- a thread does an instruction that asks what it may
+  -- a thread does an instruction whose request is allowed
   pub makes_run : (i : Instr) (r : Request) → instr_of code t.local ≡ Some i → request t.local i ≡ r → IsTrue (allows ops s n t r)
       → step ops code s (move.Run n) ≡ Some (perform ops code s n t i r)
   makes_run i r at asks may =
@@ -30,18 +30,18 @@ module _ {B : Type 0} (ops : BufferOps B) (code : Code) (s : State B) (n : Name)
       ∙ ap (λ q. if allows ops s n t q then Some (perform ops code s n t i q) else None) asks
       ∙ ap (λ b. if b then Some (perform ops code s n t i r) else None) may
 
-  -- it signals, and wakes a thread that waits
+  -- a thread signals, and wakes a thread that waits
   pub makes_wake : (u : Name) (c : ℕ) → instr_of code t.local ≡ Some (Signal c) → IsTrue (ops.is_empty t.buffer)
-      → IsTrue (set.contains (waiting_on s c) u) → step ops code s (move.Wake n u) ≡ Some (woken ops s n u t c)
+      → IsTrue (set.contains (waiting_on s c) u) → step ops code s (move.Wake n u) ≡ Some (state_after_wake ops s n u t c)
   makes_wake u c at empty waits =
       goes (move.Wake n u)
       ∙ ap (option_and_then (λ x. option_and_then (wake_of ops s n u x) (instr_of code x.local))) there
       ∙ ap (option_and_then (wake_of ops s n u t)) at
-      ∙ ap (λ b. if b then Some (woken ops s n u t c) else None) (and_from _ _ empty waits)
+      ∙ ap (λ b. if b then Some (state_after_wake ops s n u t c) else None) (and_from _ _ empty waits)
 
-  -- a store of it reaches memory
-  pub makes_drain : (form : Option ℕ) → IsTrue (ops.may_drain t.buffer form) → step ops code s (move.Drain n form) ≡ Some (drained ops s n t form)
+  -- a store of the thread drains
+  pub makes_drain : (form : Option ℕ) → IsTrue (ops.may_drain t.buffer form) → step ops code s (move.Drain n form) ≡ Some (state_after_drain ops s n t form)
   makes_drain form may =
       goes (move.Drain n form)
       ∙ ap (option_and_then (λ x. drain_of ops s n x form)) there
-      ∙ ap (λ b. if b then Some (drained ops s n t form) else None) may
+      ∙ ap (λ b. if b then Some (state_after_drain ops s n t form) else None) may

@@ -1,4 +1,4 @@
--- A thread holds a mutex exactly where it is its owner.
+-- A thread holds a mutex exactly if it is its owner.
 use Rattle.std.proofs.Common.{◌≡◌, ◌≢◌, ◌↔◌, ◌∙◌, inl, inr, ℕ, ◌+◌, ◌<◌, length, ℤ, List, Bool, true, false, not, IsTrue, IsSome, Option}
 use Rattle.std.proofs.Common.{Some, None, is_none, refl, ap, sym, subst, arith, nat_lt, slice_set, slice_index_or, true≢false}
 use Rattle.std.specs.FinMap as fin
@@ -27,11 +27,11 @@ use Rattle.run_laws.proofs.Created.{child_is_new}
 use Rattle.run_laws.proofs.Whole.{names_next, reached_is_whole}
 use Rattle.run_laws.proofs.Bound.{reached_has_tested}
 
--- a thread with these marks holds the mutex
+-- a thread with these held flags holds the mutex
 abbrev Has : List Bool → ℕ → Type 0
 Has held m = IsTrue (slice_index_or held m false)
 
--- the thread of that name owns the mutex
+-- the named thread owns the mutex
 abbrev Owns : List (Option Name) → Name → ℕ → Type 0
 Owns owners n m = slice_index_or owners m None ≡ Some n
 
@@ -40,7 +40,7 @@ record Agree {B : Type 0} (owners : List (Option Name)) (threads : ByName (Threa
   holder : (n : Name) (t : Thread B) (m : ℕ) → fin.get threads n ≡ Some t → Has t.local.held m ↔ Owns owners n m
   there : (n : Name) (m : ℕ) → Owns owners n m → IsSome (fin.get threads n)
 
--- a thread that holds what it owns is put in, and the others own what they did
+-- owners and threads still agree after a thread that holds exactly what it owns is put in
 agree_after : {B : Type 0} (owners new : List (Option Name)) (threads : ByName (Thread B)) (n : Name) (t : Thread B) → Agree owners threads
     → ((m : ℕ) → Has t.local.held m ↔ Owns new n m) → ((q : Name) (m : ℕ) → q ≢ n → Owns owners q m ↔ Owns new q m) → Agree new (fin.insert threads n t)
 agree_after {B} owners new threads n t agree own others = record {
@@ -58,13 +58,13 @@ agree_after {B} owners new threads n t agree own others = record {
   ];
 }
 
--- a mutex that is free, with a place for its owner and for the mark of who takes it
+-- a free mutex, with a place for its owner and for the flag of the thread that takes it
 record IsFree (owners : List (Option Name)) (held : List Bool) (k : ℕ) : Type 0 where
   free : slice_index_or owners k None ≡ None
   owner : k < length owners
   mark : k < length held
 
--- who writes what it holds and owns of a mutex holds what it owns
+-- a thread whose flag and ownership of a mutex are written holds exactly what it owns
 writer_owns : (owners : List (Option Name)) (held : List Bool) (n : Name) (k m : ℕ) (o : Option Name) (b : Bool)
     → slice_index_or (slice_set owners k o) k None ≡ o → slice_index_or (slice_set held k b) k false ≡ b → IsTrue b ↔ (o ≡ Some n)
     → Has held m ↔ Owns owners n m → Has (slice_set held k b) m ↔ Owns (slice_set owners k o) n m
@@ -80,7 +80,7 @@ writer_owns owners held n k m o b owner mark new old =
           (λ h. owns ∙ old.0 (sym has ∙ h), λ h. has ∙ old.1 (sym owns ∙ h))
     ]
 
--- and who neither owned that mutex nor does so now owns what it did
+-- a thread that owns that mutex neither before nor after owns the same mutexes as before
 others_own_after : (owners : List (Option Name)) (k m : ℕ) (o : Option Name) (q : Name) → slice_index_or (slice_set owners k o) k None ≡ o
     → (Owns owners q k → ⊥) → (o ≡ Some q → ⊥) → Owns owners q m ↔ Owns (slice_set owners k o) q m
 others_own_after owners k m o q owner was is =
@@ -92,13 +92,13 @@ others_own_after owners k m o q owner was is =
       | inr apart ↦ let owns = get_or-set_other owners k m o None apart in (λ h. owns ∙ h, λ h. sym owns ∙ h)
     ]
 
--- what a thread may do with a mutex
+-- the conditions for what a thread does with a mutex
 abbrev May : List (Option Name) → List Bool → Name → Hold → Type 0
 May owners held n Keeps = Unit {0}
 May owners held n (Takes k) = IsFree owners held k
 May owners held n (Leaves k) = Owns owners n k
 
--- who does what it may holds what it owns
+-- a thread that meets these conditions holds exactly what it owns
 goer_owns : (owners : List (Option Name)) (held : List Bool) (n : Name) (h : Hold) → May owners held n h → (m : ℕ) → Has held m ↔ Owns owners n m
     → Has (held_after held h) m ↔ Owns (owners_after owners n h) n m
 goer_owns owners held n Keeps may m old = old
@@ -109,7 +109,7 @@ goer_owns owners held n (Leaves k) may m old =
     writer_owns owners held n k m None false (index_or-set_default owners k None) (index_or-set_default held k false)
     (λ h. absurd (true≢false (sym h)), λ h. absurd (none-some n h)) old
 
--- and the others own what they did
+-- the other threads own the same mutexes as before
 others_own : (owners : List (Option Name)) (held : List Bool) (n : Name) (h : Hold) → May owners held n h → (q : Name) (m : ℕ) → q ≢ n
     → Owns owners q m ↔ Owns (owners_after owners n h) q m
 others_own owners held n Keeps may q m other = (λ o. o, λ o. o)
@@ -119,13 +119,13 @@ others_own owners held n (Takes k) may q m other =
 others_own owners held n (Leaves k) may q m other =
     others_own_after owners k m None q (index_or-set_default owners k None) (λ h. other (sym (same_Some n q (sym may ∙ h)))) (λ h. none-some q h)
 
--- what a thread holds after an instruction
+-- the held flags after an instruction
 held_is : (t : Local) (i : Instr) (v : ℤ) → (local_after t i v).held ≡ held_after t.held (hold_of i)
 held_is t (Branch e to) v = ap (λ u. u.held) (branch_is t _ to)
 held_is t _ v = refl
 
 module _ {B : Type 0} where
-  -- owners and threads agree after a thread did what it may
+  -- owners and threads agree after a thread did what the conditions allow
   agree_goes : (owners : List (Option Name)) (threads : ByName (Thread B)) (n : Name) (t new : Thread B) (h : Hold) → fin.get threads n ≡ Some t
       → new.local.held ≡ held_after t.local.held h → May owners t.local.held n h → Agree owners threads
       → Agree (owners_after owners n h) (fin.insert threads n new)
@@ -134,7 +134,7 @@ module _ {B : Type 0} where
       (λ m. subst (λ hs. Has hs m ↔ Owns (owners_after owners n h) n m) (sym held) (goer_owns owners t.local.held n h may m (agree.holder n t m there)))
       (others_own owners t.local.held n h may)
 
-  -- a thread that holds nothing, of a name that no thread has
+  -- owners and threads agree after a thread that holds nothing is born under a new name
   agree_born : (owners : List (Option Name)) (threads : ByName (Thread B)) (c : Name) (baby : Thread B) → fin.get threads c ≡ None
       → ((m : ℕ) → holds baby.local m ≡ false) → Agree owners threads → Agree owners (fin.insert threads c baby)
   agree_born owners threads c baby none free agree =
@@ -145,13 +145,13 @@ module _ {B : Type 0} where
       ))
       (λ q m other. (λ o. o, λ o. o))
 
--- a mutex that is free has no owner
+-- a free mutex has no owner
 is_free_none : (o : Option Name) → IsTrue (is_none o) → o ≡ None
 is_free_none None h = refl
 is_free_none (Some n) h = absurd (true≢false (sym h))
 
 module _ {B : Type 0} (ops : BufferOps B) (code : Code) where
-  -- a thread may take a mutex that is free
+  -- a thread may take a free mutex
   may_take : (s : State B) (n : Name) (t : Thread B) (m : ℕ) → IsWhole code s → fin.get s.threads n ≡ Some t → IsTrue (nat_lt m code.mutexes)
       → IsTrue (is_free s m) → IsFree s.owners t.local.held m
   may_take s n t m whole there few free =
@@ -163,7 +163,7 @@ module _ {B : Type 0} (ops : BufferOps B) (code : Code) where
       }
 
   module _ (s u : State B) (n : Name) (lawful : IsLawful code) (r : IsReached ops code s) (agree : Agree s.owners s.threads) where
-    -- what a thread of lawful code does with mutexes it may
+    -- an instruction of lawful code meets the conditions for its mutex
     may_do : (i : Instr) → (g : Goes ops code s u n i) → May s.owners g.before.local.held n (hold_of i)
     may_do (Lock m) g = may_take s n g.before m (reached_is_whole ops code s lawful r) g.there (names_next code g.before.local (Lock m) lawful g.at) g.allowed
     may_do (Wake c m) g =
@@ -174,13 +174,13 @@ module _ {B : Type 0} (ops : BufferOps B) (code : Code) where
     may_do (Sleep c m) g = (agree.holder n g.before m g.there).0 ((reached_has_tested ops code s lawful r n g.before g.there).sleep c m g.at)
     may_do _ g = tt
 
-    -- owners and threads agree after an instruction, but for the child that it creates
+    -- owners and threads agree after an instruction, apart from the child that it creates
     agree_put : (i : Instr) → (g : Goes ops code s u n i) → Agree u.owners (fin.insert s.threads n g.after)
     agree_put i g =
         subst (λ owners. Agree owners (fin.insert s.threads n g.after)) (sym g.owners)
         (agree_goes s.owners s.threads n g.before g.after (hold_of i) g.there (ap (λ t. t.held) g.local ∙ held_is g.before.local i g.value) (may_do i g) agree)
 
-    -- they agree with the child too
+    -- owners and threads agree after an instruction, with the child
     agree_went : (i : Instr) → Goes ops code s u n i → Agree u.owners u.threads
     agree_went (Create h f es) g =
         subst (Agree u.owners) (sym g.threads)
@@ -189,7 +189,7 @@ module _ {B : Type 0} (ops : BufferOps B) (code : Code) where
         (λ m. index_or-replicate code.mutexes m false) (agree_put (Create h f es) g))
     agree_went i g = subst (Agree u.owners) (sym g.threads) (agree_put i g)
 
-    -- and where a thread stays at its place
+    -- owners and threads agree after a move that leaves its thread at its place
     agree_stayed : Stays ops code s u n → Agree u.owners u.threads
     agree_stayed g =
         subst (Agree u.owners) (sym g.threads) (subst (λ owners. Agree owners (fin.insert s.threads n g.after)) (sym g.owners)
@@ -213,7 +213,8 @@ module _ {B : Type 0} (ops : BufferOps B) (code : Code) where
         there = λ n m o. absurd (none-some n (sym (index_or-replicate code.mutexes m None) ∙ o));
       })
 
-  -- in each reached state of lawful code a thread holds a mutex exactly where it is its owner, and each owner is a thread
+  -- in each reached state of lawful code a thread holds a mutex exactly if it owns it, and each
+  -- owner is a thread
   pub owners_hold : (s : State B) → IsLawful code → IsReached ops code s → OwnersHold s
   owners_hold s lawful r =
       let agree = holds_in_reached ops code (λ u. Agree u.owners u.threads) opening_agrees (agreed_after_step lawful) s r in

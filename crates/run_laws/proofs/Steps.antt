@@ -1,4 +1,4 @@
--- How a move goes: it is a run, a wake or a drain, of a thread that is there.
+-- The kinds of moves: a run, a wake or a drain, of an existing thread.
 use Rattle.std.proofs.Common.{◌≡◌, ℕ, ◌&&◌, IsTrue, Option, Some, None, refl, sym}
 use Rattle.std.specs.Prelude.{is_some, if◌then◌else◌}
 use Rattle.std.specs.FinMap as fin
@@ -13,13 +13,13 @@ use Rattle.tc_base.specs.declared.moves.Move.TheVariants as move
 use Rattle.tc_code.specs.declared.instr.Instr.{Instr}
 use Rattle.tc_code.specs.declared.instr.Instr.TheVariants.{Signal}
 use Rattle.tc_code.specs.Code.{Code}
-use Rattle.tc_code.specs.Step.{request, instr_of, allows, perform, waiting_on, woken, drained, step, move_of, run_of, wake_of, drain_of, opening}
+use Rattle.tc_code.specs.Step.{request, instr_of, allows, perform, waiting_on, state_after_wake, state_after_drain, step, move_of, run_of, wake_of, drain_of, opening}
 use Rattle.tc_code.specs.Run.{IsReached}
 use Rattle.tc_code.proofs.Facts.{kept_by_run, opening_is_reached, step_is_reached}
 use Rattle.run_laws.proofs.Basics.{unless}
 
 module _ {B : Type 0} (ops : BufferOps B) (code : Code) where
-  -- a thread does an instruction that it may
+  -- a thread does an instruction that is allowed
   pub record Ran (s u : State B) (n : Name) : Type 0 where
     pub thread : Thread B
     pub there : fin.get s.threads n ≡ Some thread
@@ -36,22 +36,22 @@ module _ {B : Type 0} (ops : BufferOps B) (code : Code) where
     pub at : instr_of code thread.local ≡ Some (Signal condition)
     pub empty : IsTrue (ops.is_empty thread.buffer)
     pub waits : IsTrue (set.contains (waiting_on s condition) waiter)
-    pub after : u ≡ woken ops s n waiter thread condition
+    pub after : u ≡ state_after_wake ops s n waiter thread condition
 
-  -- a store of a thread reaches memory
+  -- a store of a thread drains
   pub record Drained (s u : State B) (n : Name) (form : Option ℕ) : Type 0 where
     pub thread : Thread B
     pub there : fin.get s.threads n ≡ Some thread
     pub may : IsTrue (ops.may_drain thread.buffer form)
-    pub after : u ≡ drained ops s n thread form
+    pub after : u ≡ state_after_drain ops s n thread form
 
-  -- how a move goes
+  -- a move by its kind
   abbrev pub Went : State B → State B → Move → Type 0
   Went s u (move.Run n) = Ran s u n
   Went s u (move.Wake n v) = Woke s u n v
   Went s u (move.Drain n form) = Drained s u n form
 
-  -- a wake is done at a signal
+  -- a wake comes from a signal
   woke_at : (s u : State B) (n v : Name) (t : Thread B) (i : Instr) → fin.get s.threads n ≡ Some t → instr_of code t.local ≡ Some i
       → wake_of ops s n v t i ≡ Some u → Woke s u n v
   woke_at s u n v t (Signal c) there at h =
@@ -68,7 +68,7 @@ module _ {B : Type 0} (ops : BufferOps B) (code : Code) where
       }
   woke_at s u n v t _ there at h = absurd (none-some u h)
 
-  -- a move goes so, where no thread has failed
+  -- an enabled move is of its kind, if no thread has failed
   went : (s u : State B) (m : Move) → move_of ops code s m ≡ Some u → Went s u m
   went s u (move.Run n) h =
       option_and_then_some _ (fin.get s.threads n) u h (λ t there g.
@@ -91,11 +91,11 @@ module _ {B : Type 0} (ops : BufferOps B) (code : Code) where
       still_none None h = refl
       still_none (Some n) h = absurd (none-some u h)
 
-  -- how each move goes
+  -- each move is of its kind
   pub step_went : (s u : State B) (m : Move) → step ops code s m ≡ Some u → Went s u m
   step_went s u m h = went s u m (unless (is_some s.failed) _ u h).1
 
-  -- what holds at the start, and what each move from a reached state keeps, holds in each reached state
+  -- what holds at the start and what each move keeps holds in each reached state
   pub holds_in_reached : (P : State B → Type 0) → P (opening ops code)
       → ((s u : State B) (m : Move) → IsReached ops code s → step ops code s m ≡ Some u → P s → P u) → (s : State B) → IsReached ops code s → P s
   holds_in_reached P start keeps s r =

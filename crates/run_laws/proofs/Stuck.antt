@@ -1,4 +1,4 @@
--- Where nothing can go on, each thread that is left waits for others.
+-- In a stuck state, each thread that hasn't exited waits for others.
 use Rattle.std.proofs.Common.{◌≡◌, ◌∙◌, ◌||◌, Bool, true, false, Some, None, refl, sym, ap, true≢false}
 use Rattle.std.specs.Prelude.{not}
 use Rattle.std.specs.FinMap as fin
@@ -19,7 +19,7 @@ use Rattle.tc_code.specs.Step.{request, site, instr_of, waiting_on, is_let, drai
 use Rattle.run_laws.proofs.Makes.{makes_run, makes_wake}
 use Rattle.run_laws.proofs.Names.{some_in}
 
--- whether a request may have to wait for what other threads do
+-- whether a request may have to wait for other threads
 abbrev pub may_wait : Request → Bool
 may_wait (Acquire m) = true
 may_wait (EndWait c m) = true
@@ -30,7 +30,7 @@ site_wakes_none : (b : Bool) (c : _) → site b ≡ WakeOne c → ⊥
 site_wakes_none true c e = cc
 site_wakes_none false c e = cc
 
--- only a signal asks that a thread is woken
+-- only a signal requests to wake a thread
 pub signals : (t : Local) (i : Instr) (c : _) → request t i ≡ WakeOne c → i ≡ Signal c
 signals t (Signal d) c e = cc
 signals t (Inside len x) c e = absurd (site_wakes_none _ c e)
@@ -41,14 +41,14 @@ signals t (Nonzero x) c e = absurd (site_wakes_none _ c e)
 signals t (InRange x) c e = absurd (site_wakes_none _ c e)
 signals t i c e = absurd cc
 
--- A thread whose stores are in memory, where nothing can go on.
+-- A thread with all its stores in memory, in a state where no move is enabled.
 module _ {B : Type 0} (ops : BufferOps B) (code : Code) (s : State B) (n : Name) (t : Thread B) (i : Instr) (going : s.failed ≡ None)
     (still : (m : Move) → step ops code s m ≡ None) (there : fin.get s.threads n ≡ Some t) (at : instr_of code t.local ≡ Some i)
     (empty : ops.is_empty t.buffer ≡ true) where
   abbrev asked : Request
   asked = request t.local i
 
-  -- the others don't let it do its next instruction
+  -- the other threads don't let it do its next instruction
   not_let : is_let s n asked ≡ false
   not_let =
       false_from_ne_true _ (λ lets. none-some _ (sym (still (move.Run n))
@@ -65,6 +65,6 @@ module _ {B : Type 0} (ops : BufferOps B) (code : Code) (s : State B) (n : Name)
       ∙ makes_wake ops code s n t going there w.0 c (at ∙ ap (λ j. Some j) (signals t.local i c is)) empty w.1))
   waits_by r is held = absurd (true≢false held)
 
-  -- it may have to wait for them
+  -- it waits for other threads, and its request is one that may wait
   pub stuck_waits : (is_let s n asked ≡ false) × (may_wait asked ≡ true)
   stuck_waits = (not_let, waits_by asked refl not_let)

@@ -26,7 +26,7 @@ use Rattle.run_laws.proofs.Steps.{holds_in_reached}
 use Rattle.run_laws.proofs.Changes.{Goes, Stays, Went_on, Stayed, SleepsOn, Waits, lets, step_changes}
 use Rattle.run_laws.proofs.Created.{not_next_child}
 
--- who waits is a thread
+-- each waiter is a thread
 abbrev pub WaitersAreThere : {B : Type 0} → State B → Type 0
 WaitersAreThere s = (q : Name) (d : ℕ) → Waits s.waiters d q → IsSome (fin.get s.threads q)
 
@@ -52,7 +52,7 @@ module _ {B : Type 0} (ops : BufferOps B) (code : Code) where
         ∙ get_put_apart s.threads n g.after q apart ∙ there
     others_stay _ g q t apart there = ap (λ m. fin.get m q) g.threads ∙ get_put_apart s.threads n g.after q apart ∙ there
 
-    -- who sleeps is at the wake
+    -- a thread that sleeps is at the wake
     slept : (i : Instr) (d : ℕ) → Goes ops code s u n i → SleepsOn i d → IsAtWake code u d n
     slept (Sleep c m) d g on = record {
       thread = g.after;
@@ -67,7 +67,7 @@ module _ {B : Type 0} (ops : BufferOps B) (code : Code) where
     }
     slept _ d g on = absurd on
 
-    -- who waited is still at its wake
+    -- a thread that waited is still at its wake
     still_at_wake : (i : Instr) → Goes ops code s u n i → (q : Name) (d : ℕ) → Waits s.waiters d q → IsAtWake code u d q
     still_at_wake i g q d waits =
         let w = all q d waits in
@@ -79,7 +79,7 @@ module _ {B : Type 0} (ops : BufferOps B) (code : Code) where
           | inr apart ↦ record { thread = w.thread; there = others_stay i g q w.thread apart w.there; mutex = w.mutex; at = w.at }
         ]
 
-    -- so are all waiters after an instruction
+    -- all waiters are at a wake after an instruction
     waiters_went : (i : Instr) → Goes ops code s u n i → WaitersAreAtWake code u
     waiters_went i g q d waits =
         elim (g.waiters q d waits) [
@@ -87,7 +87,7 @@ module _ {B : Type 0} (ops : BufferOps B) (code : Code) where
           | inr new ↦ subst (IsAtWake code u d) (sym new.1) (slept i d g new.0)
         ]
 
-    -- and where a thread stays at its place
+    -- all waiters are at a wake after a move that leaves its thread at its place
     waiters_stayed : Stays ops code s u n → WaitersAreAtWake code u
     waiters_stayed g q d waits =
         let w = all q d (subst (λ ws. Waits ws d q) g.waiters waits) in
@@ -127,7 +127,7 @@ module _ {B : Type 0} (ops : BufferOps B) (code : Code) where
   pub waiters_are_at_wake : (s : State B) → IsLawful code → IsReached ops code s → WaitersAreAtWake code s
   waiters_are_at_wake s lawful = holds_in_reached ops code (WaitersAreAtWake code) (λ q d waits. absurd (nobody_waits q d waits)) (at_wake_after_step lawful) s
 
-  -- who waits after a move is there, where who waited was
+  -- each waiter after a move is a thread, if each waiter before it was
   there_after_step : (s u : State B) (m : Move) → IsReached ops code s → step ops code s m ≡ Some u → WaitersAreThere s → WaitersAreThere u
   there_after_step s u m r one all q d waits =
       elim (step_changes ops code s u m one) [

@@ -1,4 +1,4 @@
--- What stands in each state that a run reaches.
+-- Facts on each state that a run reaches.
 use Rattle.std.proofs.Common.{◌≡◌, ◌∙◌, ℕ, ◌-◌, ◌≤◌, length, List, [], ◌++◌, false, IsTrue, Some}
 use Rattle.std.proofs.Common.{refl, ap, sym, subst, arith, ℤ, pos, replicate, slice_get, nat_lt}
 use Rattle.std.specs.Prelude.{◌==◌}
@@ -29,13 +29,13 @@ use Rattle.run_laws.proofs.After.{HasAsMuch, after_has}
 use Rattle.run_laws.proofs.Steps.{Went, step_went, holds_in_reached}
 use Rattle.run_laws.proofs.AllThreads.{Keeps, all_after_step, all_at_opening}
 
--- how much there is of what threads share
+-- the numbers of cells, mutexes and conditions stay the same
 pub record SharesAsMuch {B : Type 0} (s u : State B) : Type 0 where
   pub memory : length u.memory ≡ length s.memory
   pub owners : length u.owners ≡ length s.owners
   pub waiters : length u.waiters ≡ length s.waiters
 
--- a thread that has as much as a whole one is whole
+-- a thread with as many slots, handles and flags as a whole one is whole
 whole_as : (code : Code) (old new : Local) → HasAsMuch old new → IsWholeThread code old → IsWholeThread code new
 whole_as code old new h w =
     record {
@@ -46,12 +46,12 @@ whole_as code old new h w =
       held = h.held ∙ w.held;
     }
 
--- what the next instruction of a thread names is there
+-- everything that the next instruction of a thread names exists
 pub names_next : (code : Code) (t : Local) (i : Instr) (lawful : IsLawful code) (at : instr_of code t ≡ Some i)
     → IsTrue (names_what_is code (placed_next code t i lawful at).function i)
 names_next code t i lawful at = let placed = placed_next code t i lawful at in placed.lawful.names t.instruction i placed.at
 
--- a function is there, and has slots for so many values
+-- a function exists, and has slots for `n` values
 pub record CanStart (code : Code) (f n : ℕ) : Type 0 where
   pub function : Func
   pub there : slice_get code.functions f ≡ Some function
@@ -71,7 +71,7 @@ create_starts code g h f es lawful names =
     (and_parts (nat_lt h g.handles) _ (and_parts _ _ names).0).1 in
     can_start code f (length es) taken.0 lawful taken.1 ((Decides-eqb _ _).0 taken.2)
 
--- values filled up to a number are so many
+-- values filled up to `n` are `n` values
 filled_up : (vs : List ℤ) (n : ℕ) → length vs ≤ n → length (vs ++ replicate (n - length vs) (pos 0)) ≡ n
 filled_up vs n few = omega (arith, few, length-append vs (replicate (n - length vs) (pos 0)), length-replicate (n - length vs) (pos 0))
 
@@ -100,7 +100,7 @@ module _ {B : Type 0} (ops : BufferOps B) (code : Code) where
         (create_starts code placed.function h f es lawful (names_next code g.before.local (Create h f es) lawful g.at)));
   }
 
-  -- an instruction leaves as much as there was
+  -- an instruction keeps the numbers of cells, mutexes and conditions
   pub performed_shares : (s : State B) (n : Name) (t : Thread B) (i : Instr) (r : Request) → SharesAsMuch s (perform ops code s n t i r)
   performed_shares s n t i (Write c v) =
       either (SharesAsMuch s) ops.buffered _ _ (record { memory = refl; owners = refl; waiters = refl })
@@ -114,14 +114,14 @@ module _ {B : Type 0} (ops : BufferOps B) (code : Code) where
   performed_shares s n t i (WakeAll c) = record { memory = refl; owners = refl; waiters = length-set s.waiters c _ }
   performed_shares s n t i _ = record { memory = refl; owners = refl; waiters = refl }
 
-  -- so does a move
+  -- a move keeps the numbers of cells, mutexes and conditions
   went_shares : (s u : State B) (m : Move) → Went ops code s u m → SharesAsMuch s u
   went_shares s u (move.Run n) w = subst (SharesAsMuch s) (sym w.after) (performed_shares s n w.thread w.instr (request w.thread.local w.instr))
   went_shares s u (move.Wake n v) w =
       subst (SharesAsMuch s) (sym w.after) (record { memory = refl; owners = refl; waiters = length-set s.waiters w.condition _ })
   went_shares s u (move.Drain n form) w = subst (SharesAsMuch s) (sym w.after) (record { memory = length-set s.memory _ _; owners = refl; waiters = refl })
 
-  -- each move leaves as much as there was
+  -- each move keeps the numbers of cells, mutexes and conditions
   pub step_shares : (s u : State B) (m : Move) → step ops code s m ≡ Some u → SharesAsMuch s u
   step_shares s u m h = went_shares s u m (step_went ops code s u m h)
 

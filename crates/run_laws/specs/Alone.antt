@@ -14,7 +14,7 @@ use Rattle.tc_code.specs.declared.instr.Instr.TheVariants.{Create}
 use Rattle.tc_code.specs.Code.{Code}
 use Rattle.tc_base.specs.declared.request.Request.{Request}
 use Rattle.tc_base.specs.declared.request.Request.TheVariants.{Read, Exchange, CompareExchange, Fail}
-use Rattle.tc_code.specs.Step.{request, stepped, value_in, local_after, instr_of, loaded, in_memory, born, step}
+use Rattle.tc_code.specs.Step.{request, step_in_place, value_in, local_after, instr_of, loaded, in_memory, born, step}
 use Rattle.tc_code.specs.Run.{run}
 
 -- whether two names are equal
@@ -31,7 +31,7 @@ abbrev pub after_request : Local → Instr → List ℤ → Request → Alone
 after_request t i (v ∷ vs) (Read c) = record { local = local_after t i v; values = vs }
 after_request t i (v ∷ vs) (Exchange c _) = record { local = local_after t i v; values = vs }
 after_request t i (v ∷ vs) (CompareExchange c _ _) = record { local = local_after t i v; values = vs }
-after_request t i vs Fail = record { local = stepped t; values = vs }
+after_request t i vs Fail = record { local = step_in_place t; values = vs }
 after_request t i vs _ = record { local = local_after t i (pos 0); values = vs }
 
 -- the thread after its next instruction; unchanged if it has none

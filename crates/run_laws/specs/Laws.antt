@@ -19,7 +19,7 @@ pub record OwnersHold {B : Type 0} (s : State B) : Type 0 where
   pub holder : (n : Name) (t : Thread B) (m : ℕ) → fin.get s.threads n ≡ Some t → IsTrue (holds t.local m) ↔ (owner_of s m ≡ Some n)
   pub there : (n : Name) (m : ℕ) → owner_of s m ≡ Some n → IsSome (fin.get s.threads n)
 
--- at the instruction behind a site, what the site tested holds
+-- at the instruction after a site, what the site tested holds
 pub record HasTested (code : Code) (t : Local) : Type 0 where
   pub unlock : (m : ℕ) → instr_of code t ≡ Some (Unlock m) → IsTrue (holds t m)
   pub sleep : (c m : ℕ) → instr_of code t ≡ Some (Sleep c m) → IsTrue (holds t m)

@@ -120,8 +120,8 @@ pub fn threads_go_alone<B>()
         × (v.local ≡ (after_steps code k (record { local = t.local; values = taken_from ops code s n moves })).local) }
 {}
 
-/// So after any run, a thread's local state depends only on its code, the function and arguments
-/// that it was created with, the values that it has read, and its number of steps.
+/// So after any run, a thread's local state depends only on four things: its code, the function and
+/// arguments with which it was created, the values that it has read, and its number of steps.
 pub fn threads_live_alone<B>()
     ensures { (ops : BufferOps B) (code : Code) (moves : List Move) (s : State B) (n : Name) (t : Thread B)
         → run ops code moves ≡ Some s → fin.get s.threads n ≡ Some t

@@ -1,4 +1,4 @@
--- Names of the threads of a log rise.
+-- The names of a log's threads rise.
 use Rattle.std.proofs.Common.{◌≡◌, ◌∙◌, ◌<◌, ℕ, zero, suc, Bool, true, false, cond, List, [], ◌∷◌, ◌++◌, drop}
 use Rattle.std.proofs.Common.{Option, Some, None, refl, ap, subst, arith, bytes_eq}
 use Rattle.std.specs.Prelude.{slice_get}
@@ -13,7 +13,7 @@ use Rattle.tc_base.specs.Paths.{ThreadPath, path_under}
 use Rattle.tc_base.proofs.Names.{same_name, between, turned, less_true, same_refl, apart_less, apart_above}
 use Rattle.run_log.specs.Logs.{is_above, rises_from}
 
--- the first of them is above the last one, and the others rise from it
+-- the first name is above the last one, and the others rise from it
 pub rising : (last : Option Name) (t : ThreadPath) (ts : List ThreadPath) → rises_from last (t ∷ ts) ≡ true
     → (is_above last t.name ≡ true) × (rises_from (Some t.name) ts ≡ true)
 rising last t ts h = and_parts (is_above last t.name) (rises_from (Some t.name) ts) h
@@ -21,7 +21,7 @@ rising last t ts h = and_parts (is_above last t.name) (rises_from (Some t.name) 
 above : (last : Name) (t : ThreadPath) (ts : List ThreadPath) → rises_from (Some last) (t ∷ ts) ≡ true → by_name last t.name ≡ Less
 above last t ts h = less_true (by_name last t.name) (rising (Some last) t ts h).0
 
--- so do those behind some of them
+-- the names after some of them rise too
 pub rises_behind : (last : Option Name) (i : ℕ) (ts : List ThreadPath) → rises_from last ts ≡ true → rises_from None (drop i ts) ≡ true
 rises_behind last zero [] h = refl
 rises_behind last zero (t ∷ ts) h = (rising last t ts h).1
@@ -34,7 +34,7 @@ not_under m t ts e = ap (λ (b : Bool). cond b (Some t.path) (path_under m ts)) 
 pub under_first : (t : ThreadPath) (ts : List ThreadPath) → path_under t.name (t ∷ ts) ≡ Some t.path
 under_first t ts = ap (λ (b : Bool). cond b (Some t.path) (path_under t.name ts)) (same_refl t.name)
 
--- a name that isn't above the last one isn't among those that rise from it
+-- a name that isn't above the last one isn't among names that rise from it
 pub none_under : (last m : Name) (ts : List ThreadPath) → rises_from (Some last) ts ≡ true → is_lt (by_name last m) ≡ false → path_under m ts ≡ None
 none_under last m [] h e = refl
 none_under last m (t ∷ ts) h e =
@@ -49,19 +49,19 @@ none_under last m (t ∷ ts) h e =
     before_next Equal is less h = subst (λ k. by_name k t.name ≡ Less) (same_name last m is) less
     before_next Greater is less h = between m last t.name (turned last m is) less
 
--- a name that is less than the last one isn't either
+-- a name below the last one isn't among them
 pub none_below : (last m : Name) (ts : List ThreadPath) → rises_from (Some last) ts ≡ true → by_name m last ≡ Less → path_under m ts ≡ None
 none_below last m ts h e = none_under last m ts h (ap is_lt (nat_list_cmp_total.antisymm last m ∙ ap ordering_reverse e))
 
 module _ (t : ThreadPath) (newer : List ThreadPath) where
-  -- it is above the name that those before it rise from
+  -- a name is above the one from which those before it rise
   above_last : (last : Name) (older : List ThreadPath) → rises_from (Some last) (older ++ t ∷ newer) ≡ true → by_name last t.name ≡ Less
   above_last last [] h = above last t newer h
   above_last last (o ∷ older) h =
       between last o.name t.name (above last o (older ++ t ∷ newer) h)
       (above_last o.name older (rising (Some last) o (older ++ t ∷ newer) h).1)
 
-  -- a thread of a log is under its name
+  -- a thread of a log is found under its name
   pub own_path : (last : Option Name) (older : List ThreadPath) → rises_from last (older ++ t ∷ newer) ≡ true
       → path_under t.name (older ++ t ∷ newer) ≡ Some t.path
   own_path last [] h = under_first t newer
@@ -69,7 +69,7 @@ module _ (t : ThreadPath) (newer : List ThreadPath) where
       let others = (rising last o (older ++ t ∷ newer) h).1 in
       not_under t.name o (older ++ t ∷ newer) (apart_above t.name o.name (above_last o.name older others)) ∙ own_path (Some o.name) older others
 
-  -- what is under a lesser name is before it
+  -- a lesser name is found before it
   pub lesser_is_older : (m : Name) (last : Option Name) (older : List ThreadPath) → rises_from last (older ++ t ∷ newer) ≡ true
       → by_name m t.name ≡ Less → path_under m (older ++ t ∷ newer) ≡ path_under m older
   lesser_is_older m last [] h less =
@@ -77,7 +77,7 @@ module _ (t : ThreadPath) (newer : List ThreadPath) where
   lesser_is_older m last (o ∷ older) h less =
       ap (λ r. cond (bytes_eq m o.name) (Some o.path) r) (lesser_is_older m (Some o.name) older (rising last o (older ++ t ∷ newer) h).1 less)
 
--- the name of a place is above the last one
+-- the name at a place is above the last one
 above_at : (last : Name) (ts : List ThreadPath) (k : ℕ) (b : ThreadPath) → rises_from (Some last) ts ≡ true → slice_get ts k ≡ Some b
     → by_name last b.name ≡ Less
 above_at last [] k b h at = absurd (none-some b at)
@@ -85,7 +85,7 @@ above_at last (t ∷ ts) zero b h at = subst (λ x. by_name last x.name ≡ Less
 above_at last (t ∷ ts) (suc k) b h at =
     between last t.name b.name (above last t ts h) (above_at t.name ts k b (rising (Some last) t ts h).1 at)
 
--- of two places the later has the greater name
+-- the later of two places has the greater name
 pub rise : (last : Option Name) (ts : List ThreadPath) (j k : ℕ) (a b : ThreadPath) → rises_from last ts ≡ true → j < k → slice_get ts j ≡ Some a
     → slice_get ts k ≡ Some b → by_name a.name b.name ≡ Less
 rise last [] j k a b h lt at bt = absurd (none-some a at)

@@ -23,8 +23,8 @@ use Rattle.tc_base.specs.declared.request.Request.TheVariants.{Start, Await, Fai
 use Rattle.tc_code.specs.declared.instr.Instr.{Instr}
 use Rattle.tc_code.specs.declared.instr.Instr.TheVariants.{Signal}
 use Rattle.tc_code.specs.Code.{Code}
-use Rattle.tc_code.specs.Step.{request, local_after, stepped, arguments_of, instr_of, in_memory, drains_first, is_let, with_thread}
-use Rattle.tc_code.specs.Step.{allows, loaded, done, did, stored, perform, born, waiting_on, woken, drained, step, opening}
+use Rattle.tc_code.specs.Step.{request, local_after, step_in_place, arguments_of, instr_of, in_memory, drains_first, is_let, with_thread}
+use Rattle.tc_code.specs.Step.{allows, loaded, state_after_read, state_after_step, state_after_store, perform, born, waiting_on, state_after_wake, state_after_drain, step, opening}
 use Rattle.tc_code.specs.Run.{run_from, run, IsStuck, EndsAs, Reproduces, path_of}
 use Rattle.tc_code.proofs.Facts.{run_from-append}
 use Rattle.store_buffers.specs.Pending.{Pending, Store, Bar as bar, stores, Binding, waits, form_of, Stands}
@@ -37,12 +37,12 @@ use Rattle.run_laws.proofs.Steps.{Ran, Woke, Drained, Went, step_went, none_fail
 use Rattle.run_models.specs.Models.{AllowsMore, drains_at_once, move_as, moves_from, moves_as, local_of, SameButBuffers}
 use Rattle.run_laws.proofs.Makes.{makes_run, makes_wake, makes_drain}
 
--- what isn't bound by more isn't by less
+-- a store that the stricter binding doesn't bind isn't bound by the weaker one
 not_bound : (b c : Bool) → (c ≡ true → b ≡ true) → b ≡ false → c ≡ false
 not_bound b true less e = absurd (false≢true (sym e ∙ less refl))
 not_bound b false less e = refl
 
--- so what waits for nothing by what binds more doesn't by what binds less
+-- a store that waits for nothing by the stricter binding doesn't wait by the weaker one
 waits_less : (bound less : Binding) → ((same_cell barred : Bool) → less same_cell barred ≡ true → bound same_cell barred ≡ true)
     → (ps : List Pending) (c : ℕ) → waits bound ps c ≡ false → waits less ps c ≡ false
 waits_less bound less binds [] c free = refl
@@ -52,7 +52,7 @@ waits_less bound less binds (Store e ∷ ps) c free =
 waits_less bound less binds (bar ∷ ps) c free = waits_less bound less binds ps c free
 
 module _ {B C : Type 0} (ops : BufferOps B) (more : BufferOps C) where
-  -- two buffers that stand for one list
+  -- two buffers that represent the same list
   pub record Both (b : B) (c : C) : Type 0 where
     pub list : List Pending
     pub here : Stands ops b list
@@ -65,7 +65,7 @@ module _ {B C : Type 0} (ops : BufferOps B) (more : BufferOps C) where
     there = record { made = refl; issued = λ _. refl };
   }
 
-  -- what the other model has under a name: the same thread, with a buffer that stands for the same list
+  -- the other model has the same thread under a name, with a buffer that represents the same list
   pub record IsThere (t : Thread B) (o : Option (Thread C)) : Type 0 where
     pub buffer : C
     pub is : o ≡ Some (record { local = t.local; buffer = buffer })
@@ -86,7 +86,7 @@ module _ {B C : Type 0} (ops : BufferOps B) (more : BufferOps C) where
       → IsThere t (fin.get us n)
   alike_at ts us n t all there = subst (λ o. Alike o (fin.get us n)) there (all n)
 
-  -- threads stay alike where one is put in on both sides
+  -- threads stay alike when alike ones are put in on both sides
   alike_put : (ts : ByName (Thread B)) (us vs : ByName (Thread C)) (n : Name) (l : Local) (b : B) (c : C) → AllAlike ts us
       → ((q : Name) → q ≢ n → fin.get vs q ≡ fin.get us q) → fin.get vs n ≡ Some (record { local = l; buffer = c }) → Both b c
       → AllAlike (fin.insert ts n (record { local = l; buffer = b })) vs
@@ -105,7 +105,7 @@ module _ {B C : Type 0} (ops : BufferOps B) (more : BufferOps C) where
   alike_insert ts us n l b c all both =
       alike_put ts us (fin.insert us n (record { local = l; buffer = c })) n l b c all (λ q other. get_put_apart us n _ q other) (get_put us n _) both
 
-  -- there is no thread on either side
+  -- two empty maps are alike
   none_alike : AllAlike fin.empty fin.empty
   none_alike q =
       subst (λ o. Alike o (fin.get {R = by_name} fin.empty q)) (sym (fin.get-empty by_name q)) (fin.get-empty by_name q)
@@ -115,7 +115,7 @@ module _ {B C : Type 0} (ops : BufferOps B) (more : BufferOps C) where
   same_exited None p is = ap (λ x. option_map_or (λ (t : Thread C). t.local.has_exited) x false) is
   same_exited (Some t) p is = ap (λ x. option_map_or (λ (t : Thread C). t.local.has_exited) x false) is.is
 
-  -- the other threads let a request be met on both sides, or on neither
+  -- the other threads allow a request on both sides or on neither
   same_let : (s : State B) (us : ByName (Thread C)) (n : Name) (r : Request) → AllAlike s.threads us → is_let (as_more s us) n r ≡ is_let s n r
   same_let s us n (Await k) all = same_exited (fin.get s.threads (child n k)) (fin.get us (child n k)) (all (child n k))
   same_let s us n Silent all = refl
@@ -129,13 +129,13 @@ module _ {B C : Type 0} (ops : BufferOps B) (more : BufferOps C) where
     same_forward : (b : B) (c : C) (cell : ℕ) → Both b c → more.forward c cell ≡ ops.forward b cell
     same_forward b c cell both = laws_more.forward_stands c both.list cell both.there ∙ sym (laws.forward_stands b both.list cell both.here)
 
-    -- where moves lead from a state on the other side
+    -- the state to which moves lead on the other side
     pub record Follows (s : State B) (us : ByName (Thread C)) (moves : List Move) (w : State B) : Type 0 where
       pub threads : ByName (Thread C)
       pub leads : run_from more code (as_more s us) moves ≡ Some (as_more w threads)
       pub alike : AllAlike w.threads threads
 
-    -- one move leads there
+    -- one move leads to that state
     follows_one : (s : State B) (us : ByName (Thread C)) (m : Move) (w : State B) (vs : ByName (Thread C))
         → step more code (as_more s us) m ≡ Some (as_more w vs) → AllAlike w.threads vs → Follows s us (m ∷ []) w
     follows_one s us m w vs one alike = record { threads = vs; leads = ap (option_and_then (λ u. run_from more code u [])) one; alike = alike }
@@ -148,11 +148,11 @@ module _ {B C : Type 0} (ops : BufferOps B) (more : BufferOps C) where
       same_allows : (r : Request) → allows more (as_more s us) n mine r ≡ allows ops s n t r
       same_allows r = ap₂ (λ e l. (not (drains_first r) || e) && l) (same_empty t.buffer c both) (same_let s us n r all)
 
-      -- the part of the thread after it, its buffer as before
+      -- the threads after a step that keeps the buffer
       kept : (l : Local) → AllAlike (fin.insert s.threads n (record { local = l; buffer = t.buffer })) (fin.insert us n (record { local = l; buffer = c }))
       kept l = alike_insert s.threads us n l t.buffer c all both
 
-      -- what a request that is no store does, on the other side
+      -- the effect of a request other than a store on the other side
       record Performs (i : Instr) (r : Request) : Type 0 where
         threads : ByName (Thread C)
         same : perform more code (as_more s us) n mine i r ≡ as_more (perform ops code s n t i r) threads
@@ -162,7 +162,7 @@ module _ {B C : Type 0} (ops : BufferOps B) (more : BufferOps C) where
       performs i (Write cell v) other = absurd (other cell v refl)
       performs i (Read cell) other = record {
         threads = fin.insert us n (record { local = local_after t.local i (loaded ops s t cell); buffer = c });
-        same = ap (λ o. done more (as_more s us) n mine i (unwrap_or o (in_memory s cell))) (same_forward t.buffer c cell both);
+        same = ap (λ o. state_after_read more (as_more s us) n mine i (unwrap_or o (in_memory s cell))) (same_forward t.buffer c cell both);
         alike = kept (local_after t.local i (loaded ops s t cell));
       }
       performs i (Exchange cell v) other = record { threads = _; same = refl; alike = kept (local_after t.local i (in_memory s cell)) }
@@ -179,11 +179,11 @@ module _ {B C : Type 0} (ops : BufferOps B) (more : BufferOps C) where
         alike = alike_insert _ _ (child n (t.local.children + 1)) (born ops code f (arguments_of t.local i)).local ops.empty more.empty
             (kept (local_after t.local i (pos 0))) both_empty;
       }
-      performs i Fail other = record { threads = _; same = refl; alike = kept (stepped t.local) }
+      performs i Fail other = record { threads = _; same = refl; alike = kept (step_in_place t.local) }
       performs i Silent other = record { threads = _; same = refl; alike = kept (local_after t.local i (pos 0)) }
       performs i _ other = record { threads = _; same = refl; alike = kept (local_after t.local i (pos 0)) }
 
-      -- so the thread does it on the other side
+      -- the thread does the request on the other side
       request_follows : (i : Instr) (r : Request) → instr_of code t.local ≡ Some i → request t.local i ≡ r → IsTrue (allows ops s n t r)
           → ((cell : ℕ) (v : ℤ) → r ≢ Write cell v) → Follows s us (move.Run n ∷ []) (perform ops code s n t i r)
       request_follows i r at asks may other =
@@ -204,15 +204,15 @@ module _ {B C : Type 0} (ops : BufferOps B) (more : BufferOps C) where
         buffered_store = with_thread s n (record { local = after; buffer = ops.issue t.buffer cell v })
 
         abbrev store_at_once : State B
-        store_at_once = record (did ops s n t i) { memory = slice_set s.memory cell v }
+        store_at_once = record (state_after_step ops s n t i) { memory = slice_set s.memory cell v }
 
-        -- what the other model makes of it, by whether this model has buffers, and the other
+        -- the effect of a store on the other side, by whether each model has buffers
         abbrev StoreFollows : Bool → Bool → Type 0
         StoreFollows b d =
             Follows s us (move.Run n ∷ (if b then [] else if d then move.Drain n form ∷ [] else []))
             (if b then buffered_store else store_at_once)
 
-        other_stores : step more code (as_more s us) (move.Run n) ≡ Some (stored more (as_more s us) n mine i cell v)
+        other_stores : step more code (as_more s us) (move.Run n) ≡ Some (state_after_store more (as_more s us) n mine i cell v)
         other_stores = makes_run more code (as_more s us) n mine going there i (Write cell v) at asks refl
 
         abbrev issued : Thread C
@@ -221,9 +221,9 @@ module _ {B C : Type 0} (ops : BufferOps B) (more : BufferOps C) where
         other_issues : more.buffered ≡ true → step more code (as_more s us) (move.Run n) ≡ Some (as_more s (fin.insert us n issued))
         other_issues buffered =
             other_stores ∙ ap (λ b. Some (if b then as_more s (fin.insert us n issued)
-            else record (did more (as_more s us) n mine i) { memory = slice_set s.memory cell v })) buffered
+            else record (state_after_step more (as_more s us) n mine i) { memory = slice_set s.memory cell v })) buffered
 
-        -- both have buffers
+        -- both models have buffers
         into_both : ops.buffered ≡ true → StoreFollows true true
         into_both buffered =
             let others = allows_more.buffers buffered in
@@ -235,15 +235,15 @@ module _ {B C : Type 0} (ops : BufferOps B) (more : BufferOps C) where
               there = store_last more c both.list cell v others both.there;
             }))
 
-        -- neither has
+        -- neither model has buffers
         into_neither : more.buffered ≡ false → StoreFollows false false
         into_neither none =
             follows_one s us (move.Run n) store_at_once (fin.insert us n (record { local = after; buffer = c }))
             (other_stores ∙ ap (λ b. Some (if b then as_more s (fin.insert us n issued)
-            else record (did more (as_more s us) n mine i) { memory = slice_set s.memory cell v })) none)
+            else record (state_after_step more (as_more s us) n mine i) { memory = slice_set s.memory cell v })) none)
             (kept after)
 
-        -- the other alone has: its store drains at once
+        -- only the other model has buffers: its store drains at once
         into_other : ops.buffered ≡ false → more.buffered ≡ true → StoreFollows false true
         into_other none buffered =
             let e : Entry = record { cell = cell; value = v } in
@@ -289,15 +289,15 @@ module _ {B C : Type 0} (ops : BufferOps B) (more : BufferOps C) where
       run_follows i r at asks may = request_follows i r at asks may (λ cell v e. cc)
 
       wake_follows : (u : Name) (cond : ℕ) → instr_of code t.local ≡ Some (Signal cond) → IsTrue (ops.is_empty t.buffer)
-          → IsTrue (set.contains (waiting_on s cond) u) → Follows s us (move.Wake n u ∷ []) (woken ops s n u t cond)
+          → IsTrue (set.contains (waiting_on s cond) u) → Follows s us (move.Wake n u ∷ []) (state_after_wake ops s n u t cond)
       wake_follows u cond at empty waits =
-          follows_one s us (move.Wake n u) (woken ops s n u t cond) (fin.insert us n (record { local = local_after t.local (Signal cond) (pos 0); buffer = c }))
+          follows_one s us (move.Wake n u) (state_after_wake ops s n u t cond) (fin.insert us n (record { local = local_after t.local (Signal cond) (pos 0); buffer = c }))
           (makes_wake more code (as_more s us) n mine going there u cond at (same_empty t.buffer c both ∙ empty) waits)
           (kept (local_after t.local (Signal cond) (pos 0)))
 
-      -- a drain takes the same store out on the other side
+      -- a drain removes the same store on the other side
       drain_follows : (form : Option ℕ) → IsTrue (ops.may_drain t.buffer form)
-          → Follows s us (move.Drain n (form_of bound_more (ops.drain t.buffer form).entry.cell) ∷ []) (drained ops s n t form)
+          → Follows s us (move.Drain n (form_of bound_more (ops.drain t.buffer form).entry.cell) ∷ []) (state_after_drain ops s n t form)
       drain_follows form may =
           let some = laws.may_drain_stands t.buffer both.list form both.here may in
           let d = some.drains in
@@ -318,7 +318,7 @@ module _ {B C : Type 0} (ops : BufferOps B) (more : BufferOps C) where
           (alike_insert s.threads us n l rest other_rest all
           (record { list = some.older ++ some.newer; here = mine_out.leaves; there = out.leaves })))
 
-    -- the drains that go with what a thread does next
+    -- the drains that go with a thread's next step
     abbrev drains_of : Name → Thread B → List Move
     drains_of n t = option_map_or (λ i. drains_at_once ops code more.buffered bound_more n (request t.local i)) (instr_of code t.local) []
 
@@ -341,7 +341,7 @@ module _ {B C : Type 0} (ops : BufferOps B) (more : BufferOps C) where
         subst (λ o. Follows s us (move.Drain n (option_map_or (λ t. form_of bound_more (ops.drain t.buffer form).entry.cell) o None) ∷ []) w) (sym g.there)
         (subst (Follows s us _) (sym g.after) (drain_follows s us n g.thread at.buffer all at.both going at.is form g.may))
 
-    -- and so each run
+    -- the other model follows each run
     run_from_follows : (s w : State B) (us : ByName (Thread C)) (ms : List Move) → AllAlike s.threads us → run_from ops code s ms ≡ Some w
         → Follows s us (moves_from ops code more.buffered bound_more s ms) w
     run_from_follows s w us [] all leads = record {
@@ -372,7 +372,7 @@ module _ {B C : Type 0} (ops : BufferOps B) (more : BufferOps C) where
         → Follows (opening ops code) (opening more code).threads (moves_as ops code more.buffered bound_more ms) w
     run_follows_run ms w leads = run_from_follows (opening ops code) w (opening more code).threads ms opening_alike leads
 
-    -- so each path is the same
+    -- the local state of each thread is the same
     same_local : (o : Option (Thread B)) (p : Option (Thread C)) → Alike o p → option_map local_of o ≡ option_map local_of p
     same_local None p is = ap (option_map local_of) (sym is)
     same_local (Some t) p is = ap (option_map local_of) (sym is.is)
@@ -381,7 +381,7 @@ module _ {B C : Type 0} (ops : BufferOps B) (more : BufferOps C) where
     same_path None p is = ap (option_map path_of) is
     same_path (Some t) p is = ap (option_map path_of) is.is
 
-    -- a run is one of the other model, to the same state but for the buffers
+    -- a run is one of the other model, to the same state except for the buffers
     pub runs_under_more : (ms : List Move) (s : State B) → run ops code ms ≡ Some s
         → (u : State C) × (run more code (moves_as ops code more.buffered bound_more ms) ≡ Some u) × SameButBuffers s u
     runs_under_more ms s leads =
@@ -391,9 +391,9 @@ module _ {B C : Type 0} (ops : BufferOps B) (more : BufferOps C) where
           record { memory = refl; owners = refl; waiters = refl; failed = refl; threads = λ n. same_local _ _ (f.alike n) },
         )
 
-    -- where no move is enabled, none is on the other side
+    -- if no move is enabled, none is on the other side
     module _ (s : State B) (us : ByName (Thread C)) (all : AllAlike s.threads us) (stuck : IsStuck ops code s) where
-      -- the thread of this side that is like one of the other
+      -- the thread of this side that is like a thread of the other
       record Twin (n : Name) (u : Thread C) : Type 0 where
         thread : Thread B
         there : fin.get s.threads n ≡ Some thread
@@ -434,7 +434,7 @@ module _ {B C : Type 0} (ops : BufferOps B) (more : BufferOps C) where
           (makes_wake ops code s n t.thread stuck.unfailed t.there v g.condition (ap (instr_of code) t.same ∙ g.at)
           (sym (same_empty t.thread.buffer g.thread.buffer t.both) ∙ g.empty) g.waits)
 
-      -- no store is pending here, and so none there
+      -- no store is pending here, so none is there
       no_drain : (n : Name) (form : Option ℕ) (w : State C) → Drained more code (as_more s us) w n form → ⊥
       no_drain n form w g =
           let t = twin n g.thread g.there in
@@ -459,13 +459,13 @@ module _ {B C : Type 0} (ops : BufferOps B) (more : BufferOps C) where
             left = (stuck.left.0, record { thread = record { local = l.thread.local; buffer = u.buffer }; there = u.is; going = l.going });
           }
 
-    -- so a run ends as it does on the other side
+    -- a run ends the same way on the other side
     same_end : (s : State B) (us : ByName (Thread C)) (ts : List ThreadPath) → AllAlike s.threads us → (f : Failing) → EndsAs ops code f ts s
         → EndsAs more code f ts (as_more s us)
     same_end s us ts all (failing.Thread k) h = h
     same_end s us ts all failing.Deadlock stuck = stuck_under_more s us all stuck
 
-    -- and it reproduces what that reproduces
+    -- a run reproduces the same logs on the other side
     pub reproduces_under_more : (log : Log) (ms : List Move) → Reproduces ops code log ms
         → Reproduces more code log (moves_as ops code more.buffered bound_more ms)
     reproduces_under_more log ms r =

@@ -1,4 +1,4 @@
--- The moves of a lawful world are those of its plan, and they reproduce each log that has its paths.
+-- The moves of a lawful world are those of its plan, and they reproduce each log with its paths.
 use Rattle.std.proofs.Common.{◌≡◌, ◌∙◌, ◌++◌, true, List, sym, ap, subst}
 use Rattle.tc_base.specs.Buffers.{BufferOps}
 use Rattle.run_log.specs.Logs.{Log}
@@ -41,7 +41,7 @@ module _ {B : Type 0} (ops : BufferOps B) (model : Model) (bound : Binding) (cod
     abbrev its : Setting B
     its = setting_of ops model bound code d.log d.laws d.code_is d.log_is
 
-    -- what is told of the paths of a log, of what their execution finds and of its terms
+    -- a fact on the log's paths, their execution and its terms holds for the decoded ones
     pub of_found : (C : Paths → Symbolic → List Node → Type 0)
         → C (paths_of code d.log) (found code d.log d.first).symbolic ((found code d.log d.first).nodes ++ d.more) → C paths symbolic nodes
     of_found C of_log =

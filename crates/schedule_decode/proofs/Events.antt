@@ -22,7 +22,7 @@ use Rattle.path_walk.specs.declared.event.EventKind.{EventKind}
 use Rattle.path_walk.specs.declared.event.EventKind.TheVariants as kind
 use Rattle.path_laws.specs.Setting.{Setting}
 use Rattle.path_laws.specs.Deeds.{kind_of}
-use Rattle.path_laws.specs.history.Along.{IsThread}
+use Rattle.path_laws.specs.history.Along.{IsThread, PathThread, path_thread}
 use Rattle.sym_terms.specs.declared.node.Node.{Node}
 use Rattle.sym_exec.specs.Alone.{cell_by}
 use Rattle.sym_exec.specs.Executed.{Symbolic}
@@ -35,7 +35,7 @@ use Rattle.world_plan.specs.Plan.{is_failure, woken_by, event_at, end_of, other_
 use Rattle.world_plan.proofs.Numbers.{number_is}
 use Rattle.world_plan.proofs.Places.{event_at_is}
 use Rattle.plan_runs.proofs.Deeds.{steps_own, steps_drained, steps_other}
-use Rattle.plan_runs.proofs.Given.{Gone, Given}
+use Rattle.plan_runs.proofs.Given.{Gone, Given, Here}
 use Rattle.plan_runs.proofs.Goes.{Reached, quiet_on, quiet_before, quiet_through, few_left, within, not_done, come, next_there, goes_last}
 use Rattle.plan_runs.proofs.Next as next
 use Rattle.plan_runs.proofs.Next.{NextIs, paths_whole}
@@ -94,7 +94,7 @@ module _ {B : Type 0} (setting : Setting B) (nodes more : List Node) (w : World)
   abbrev goes : ℕ → List Deed → ℕ → Name → List Deed
   goes m h t n = goes_on ops.buffered code paths w m h t n
 
-  -- what stands at a place among all events is where the world has it
+  -- the event at a place among all events has the position that the world gives its step
   here : (i : ℕ) (e : Of Event) → slice_get (all_events paths) i ≡ Some e → position w (0 + i) ≡ place_of paths w e.thread e.it.step
   here i e at =
       let number = number_is paths (paths_whole setting nodes w l) i e at in
@@ -112,7 +112,7 @@ module _ {B : Type 0} (setting : Setting B) (nodes more : List Node) (w : World)
       find_both (λ (a : Of Event). place_of paths w a.thread a.it.step == p) (λ (a : ℕ × Of Event). position w a.0 == p) 0 (all_events paths)
       (λ i e at. ap (λ n. n == p) (here i e at))
 
-  -- the end of both is one
+  -- both have the same end
   pub same_end : last_place paths w ≡ end_of paths w
   same_end =
       by (find_both (λ (a : Of Event). is_failure a.it.kind) (λ (a : ℕ × Of Event). is_failure a.1.it.kind) 0 (all_events paths) (λ i e at. refl))
@@ -132,8 +132,14 @@ module _ {B : Type 0} (setting : Setting B) (nodes more : List Node) (w : World)
   -- An event that comes.
   module _ (p : ℕ) (h : List Deed) (m : Made) (gone : Gone setting nodes w p h) (so_far : IsMadeOf bound code log h m) (t : ℕ) (q : Walk)
       (x : Event) (there : IsThread code log t q) (i : Contains q.events x) (at : place code log w t x ≡ p) where
+    abbrev thread : PathThread code log
+    thread = path_thread t q there
+
+    abbrev here_now : Here setting nodes w
+    here_now = record { position = p; deeds = h; gone = gone; thread = thread; event = x; among = i; at = at }
+
     abbrev is_there : is_thread_in h q.name ≡ true
-    is_there = g.there p h t q x gone there i at
+    is_there = g.there here_now
 
     same_steps : steps_of m t ≡ steps_in h q.name
     same_steps = so_far.steps t q there
@@ -148,17 +154,17 @@ module _ {B : Type 0} (setting : Setting B) (nodes more : List Node) (w : World)
     module _ (waits : is_pending ops.buffered x ≡ true) where
       quiet : (k : ℕ) → steps_in h q.name ≤ k → k < steps_in h q.name + left → (y : Event) → Contains q.events y → y.step ≡ k
           → is_pending ops.buffered y ≡ true
-      quiet = quiet_through setting nodes w l g p h gone t q x there i at waits
+      quiet = quiet_through setting nodes w l g here_now waits
 
       few : steps_in h q.name + left ≤ length q.places
-      few = few_left setting nodes w l g p h gone t q x there i at waits
+      few = few_left setting nodes w l g here_now waits
 
       reached : Reached setting nodes w l g p h q (steps_in h q.name + left) upto
-      reached = quiet_on setting nodes w l g left p h gone t q there is_there few quiet
+      reached = quiet_on setting nodes w l g left p h gone thread is_there few quiet
 
       issued_moves : moves_for bound upto ≡ moves_for bound h ++ runs_to m t q.name (x.step + 1)
       issued_moves =
-          runs_on setting nodes w l g left p h gone t q there is_there few quiet
+          runs_on setting nodes w l g left p h gone thread is_there few quiet
           ∙ ap (λ k. moves_for bound h ++ replicate (x.step + 1 - k) (move.Run q.name)) (sym same_steps)
 
       drain_moves : (c : ℕ) → IsStoreOf setting nodes more w l t x.step c
@@ -173,7 +179,7 @@ module _ {B : Type 0} (setting : Setting B) (nodes more : List Node) (w : World)
       pub store_made : IsMadeOf bound code log (upto ++ drains_next ops.buffered upto q.name x.step) (with_moves m t (x.step + 1) written)
       store_made =
           let done : x.step < steps_in upto q.name = omega (arith, reached.steps) in
-          let turn = g.turns p upto t q x reached.gone there i waits at done in
+          let turn = g.turns (record { position = p; deeds = upto; gone = reached.gone; thread = thread; event = x; among = i; at = at }) waits done in
           let c = turn.0 in
           let d = Drained q.name x.step c turn.1 in
           let s = store_of setting nodes more w l p upto reached.gone t q there x.step c turn.1 turn.2.next.issued in
@@ -192,26 +198,26 @@ module _ {B : Type 0} (setting : Setting B) (nodes more : List Node) (w : World)
       before = goes (x.step - steps_in h q.name) h t q.name
 
       low : steps_in h q.name ≤ x.step
-      low = not_done setting nodes w l g p h gone t q x there i at now
+      low = not_done setting nodes w l g here_now now
 
       came : Reached setting nodes w l g p h q x.step before
-      came = come setting nodes w l g p h gone t q x there i at now
+      came = come setting nodes w l g here_now now
 
-      n : NextIs setting nodes w l before t q
-      n = next_there setting nodes w l g p h gone t q x there i at now
+      n : NextIs setting nodes w l before thread
+      n = next_there setting nodes w l g here_now now
 
       abbrev d : Deed
-      d = next.deed setting nodes w l p before came.gone t q there n
+      d = next.deed setting nodes w l p before came.gone thread n
 
       does : upto ≡ before ++ d ∷ []
       does =
           let one : x.step + 1 - steps_in h q.name ≡ suc (x.step - steps_in h q.name) = omega (arith, low) in
           ap (λ k. goes k h t q.name) one ∙ goes_last ops.buffered code paths w (x.step - steps_in h q.name) h t q.name
-          ∙ ap (λ ds. before ++ ds) (next.does_it setting nodes w l p before came.gone t q there n)
+          ∙ ap (λ ds. before ++ ds) (next.does_it setting nodes w l p before came.gone thread n)
 
       led_moves : moves_for bound before ≡ moves_for bound h ++ runs_to m t q.name x.step
       led_moves =
-          runs_on setting nodes w l g (x.step - steps_in h q.name) p h gone t q there is_there
+          runs_on setting nodes w l g (x.step - steps_in h q.name) p h gone thread is_there
           (omega (arith, low, within setting nodes w l g t q x there i))
           (λ k over under. quiet_before setting nodes w l g p h gone t q x there i at k over (omega (arith, under, over, low)))
           ∙ ap (λ k. moves_for bound h ++ replicate (x.step - k) (move.Run q.name)) (sym same_steps)
@@ -219,8 +225,8 @@ module _ {B : Type 0} (setting : Setting B) (nodes more : List Node) (w : World)
       own_step : (event : ℕ) → event ≡ number_of paths t x.step → move_for bound d ≡ own_move paths w event q.name x.kind
       own_step event is =
           event_moves bound paths w event q.name (steps_in before q.name) n.request (taken_in ops.buffered code before q.name n.request)
-          (next.other setting nodes w l p before came.gone t q there n) x.kind
-          (next.kind_is setting nodes w l p before came.gone t q there n ∙ ap (kind_at q) came.steps
+          (next.other setting nodes w l p before came.gone thread n) x.kind
+          (next.kind_is setting nodes w l p before came.gone thread n ∙ ap (kind_at q) came.steps
           ∙ kind_of_event setting nodes w l g t q x there i)
           (λ c signals.
           ap (other_of paths w before t q.name) signals
@@ -237,7 +243,7 @@ module _ {B : Type 0} (setting : Setting B) (nodes more : List Node) (w : World)
           ∙ append_assoc (moves_for bound h) (runs_to m t q.name x.step) (own ∷ []) in
           let request = n.request in
           let took = taken_in ops.buffered code before q.name request in
-          let other = next.other setting nodes w l p before came.gone t q there n in
+          let other = next.other setting nodes w l p before came.gone thread n in
           let one : steps_in (before ++ d ∷ []) q.name ≡ steps_in before q.name + 1 = steps_own before q.name (steps_in before q.name) request took other in
           subst (λ ds. IsMadeOf bound code log ds (with_moves m t (x.step + 1) (runs_to m t q.name x.step ++ own ∷ []))) (sym does)
           (made_on bound code log setting.log_is h (before ++ d ∷ []) m so_far t q there (x.step + 1) (runs_to m t q.name x.step ++ own ∷ []) its
@@ -245,7 +251,7 @@ module _ {B : Type 0} (setting : Setting B) (nodes more : List Node) (w : World)
           (λ v apart. steps_other before q.name v (steps_in before q.name) request took other apart
           ∙ others_stay ops.buffered code paths w (x.step - steps_in h q.name) h t q.name v apart))
 
-    -- so with each event
+    -- the moves of each event are those of the plan
     pub event_made : (event : ℕ) → event ≡ number_of paths t x.step
         → IsMadeOf bound code log (with_drain ops.buffered code paths w upto q.name x)
         (moves.with_event ops.buffered bound paths symbolic terms w m event t q x)

@@ -1,4 +1,5 @@
--- A search over numbered elements and one over the elements themselves: both find the same, or neither finds anything.
+-- A search over numbered elements and one over the elements find the same, or neither finds
+-- anything.
 use Rattle.std.proofs.Common.{◌≡◌, ◌∙◌, ◌⊎◌, inl, inr, ℕ, suc, ◌+◌, Bool, true, false, cond, List, [], ◌∷◌, Some, None, refl, ap, arith}
 use Rattle.std.specs.Prelude.{slice_get}
 use Rattle.std.specs.List.{enumerate_from, find}

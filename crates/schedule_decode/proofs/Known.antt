@@ -16,7 +16,7 @@ use Rattle.path_walk.specs.declared.event.Event.{Event}
 use Rattle.path_walk.specs.declared.event.EventKind.{EventKind}
 use Rattle.path_walk.specs.declared.event.EventKind.TheVariants as kind
 use Rattle.path_laws.specs.Setting.{Setting}
-use Rattle.path_laws.specs.history.Along.{IsThread}
+use Rattle.path_laws.specs.history.Along.{IsThread, path_thread}
 use Rattle.path_laws.proofs.of_events.Lists.{in_contains}
 use Rattle.sym_terms.specs.declared.node.Node.{Node}
 use Rattle.sym_exec.specs.Alone.{cell_by}
@@ -41,18 +41,19 @@ use Rattle.plan_runs.proofs.Next.{paths_whole}
 use Rattle.schedule_decode.proofs.Events.{At, NoneAt, at_position, same_end}
 use Rattle.schedule_decode.proofs.Rest.{gone_to}
 use Rattle.schedule_decode.proofs.Stores.{IsStoreOf, store_of}
+use Rattle.plan_runs.proofs.Histories.{history_of}
 
 only_store : (k : EventKind) → is_store k ≡ true → k ≡ kind.Store
 only_store kind.Store e = refl
 only_store kind.Load e = absurd cc
 only_store k e = absurd cc
 
--- a cell of memory, whose terms are there
+-- a cell of memory, whose terms exist
 pub record IsOfMemory (code : Code) (nodes : List Node) (w : World) (c : Cell) : Type 0 where
   pub terms : CellIsOf (length nodes) c
   pub number : cell_by nodes w.loads c < length code.memory
 
--- an event at a position, by the number that it has
+-- an event at a position, with its number
 pub record IsKnown (buffered : Bool) (code : Code) (paths : Paths) (symbolic : Symbolic) (nodes : List Node) (w : World) (p : ℕ)
     (e : ℕ × Of Event) : Type 0 where
   pub walk : Walk
@@ -62,7 +63,7 @@ pub record IsKnown (buffered : Bool) (code : Code) (paths : Paths) (symbolic : S
   pub at : position w e.0 ≡ p
   pub cell : is_pending buffered e.1.it ≡ true → IfSome (cell_of symbolic e.1.thread e.1.it.step) (IsOfMemory code nodes w)
 
--- so is each event before the end
+-- each event before the end is known
 abbrev pub AreKnown : Bool → Code → Paths → Symbolic → List Node → World → Type 0
 AreKnown buffered code paths symbolic nodes w =
     (p : ℕ) (e : ℕ × Of Event) → p < last_place paths w → event_here paths w p ≡ Some e → IsKnown buffered code paths symbolic nodes w p e
@@ -98,7 +99,7 @@ module _ {B : Type 0} (setting : Setting B) (nodes more : List Node) (w : World)
   stored : (p : ℕ) (h : List Deed) → Gone setting nodes w p h → (t : ℕ) (q : Walk) (x : Event) → IsThread code log t q → Contains q.events x
       → place code log w t x < p → is_pending ops.buffered x ≡ true → IfSome (cell_of symbolic t x.step) (IsOfMemory code terms w)
   stored p h gone t q x there i before waits =
-      let s = event_issued setting l.fits h gone.along t q there x (in_contains x q.events i)
+      let s = event_issued setting (history_of l gone) (path_thread t q there) x (in_contains x q.events i)
       (only_store x.kind (and_parts ops.buffered (is_store x.kind) waits).1) (gone.did t q x there i before) in
       issued p h gone t q there x.step s.0 s.1 s.2
 

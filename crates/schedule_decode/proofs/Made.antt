@@ -1,4 +1,4 @@
--- Moves in the making that are those of a history.
+-- The moves made so far, and the history that they are those of.
 use Rattle.std.proofs.Common.{◌≡◌, ◌∙◌, ◌≢◌, ℕ, zero, suc, ◌<◌, ◌==◌, Bool, true, false, cond, List, [], ◌∷◌, ◌++◌, length}
 use Rattle.std.proofs.Common.{Option, Some, None, sym, ap, refl, arith, append-nil, length-set}
 use Rattle.std.specs.Prelude.{slice_get, max}
@@ -25,13 +25,13 @@ use Rattle.world_plan.proofs.Threads.{one_thread}
 use Rattle.world_moves.specs.Moves.{Made, steps_of, with_moves}
 use Rattle.plan_runs.proofs.Deeds.{steps_other}
 
--- the moves so far are those of a history, and so is how far each thread is
+-- the moves so far are those of a history, and so are the counts of steps
 pub record IsMadeOf (bound : Binding) (code : Code) (log : Log) (h : List Deed) (m : Made) : Type 0 where
   pub moves : m.moves ≡ moves_for bound h
   pub threads : length m.steps ≡ length (paths_of code log).threads
   pub steps : (t : ℕ) (q : Walk) → IsThread code log t q → steps_of m t ≡ steps_in h q.name
 
--- the steps of a thread are none of another's
+-- the steps of one thread aren't those of another
 pub others_stay : (buffered : Bool) (code : Code) (paths : Paths) (w : World) (m : ℕ) (h : List Deed) (t : ℕ) (n u : Name) → u ≢ n
     → steps_in (goes_on buffered code paths w m h t n) u ≡ steps_in h u
 others_stay buffered code paths w zero h t n u apart = refl
@@ -43,7 +43,7 @@ others_stay buffered code paths w (suc m) h t n u apart =
     by None = ap (λ ds. steps_in ds u) (append-nil h)
     by (Some r) = steps_other h n u (steps_in h n) r (taken_in buffered code h n r) (other_of paths w h t n r) apart
 
--- a thread's moves more are those of a longer history
+-- a thread's further moves are those of a longer history
 pub made_on : (bound : Binding) (code : Code) (log : Log) → is_log log ≡ true → (h later : List Deed) (m : Made) → IsMadeOf bound code log h m
     → (t : ℕ) (q : Walk) → IsThread code log t q → (k : ℕ) (more : List Move) → moves_for bound later ≡ moves_for bound h ++ more
     → steps_in later q.name ≡ max (steps_in h q.name) k → ((n : Name) → n ≢ q.name → steps_in later n ≡ steps_in h n)

@@ -23,7 +23,7 @@ use Rattle.path_walk.specs.Paths.{Walk, Paths, paths_of, walk_of}
 use Rattle.path_walk.specs.declared.event.Event.{Event}
 use Rattle.path_walk.specs.declared.event.EventKind.TheVariants as kind
 use Rattle.path_laws.specs.Setting.{Setting}
-use Rattle.path_laws.specs.history.Along.{IsThread, AllAreThere}
+use Rattle.path_laws.specs.history.Along.{AllAreThere, PathThread, path_thread}
 use Rattle.sym_exec.specs.Executed.{Symbolic, has_failed}
 use Rattle.sym_laws.specs.Valued.{found}
 use Rattle.sym_steps.specs.Next.{kind_at}
@@ -50,7 +50,7 @@ use Rattle.schedule_decode.proofs.Events.{same_end, made_up_to}
 use Rattle.schedule_decode.proofs.Made.{IsMadeOf, made_on, others_stay}
 use Rattle.schedule_decode.proofs.Runs.{own_run}
 
--- A fold that leaves some out is one over the others.
+-- A fold that skips some elements is a fold over the others.
 fold_but : {X Y : Type 0} (f : Y → X → Y) (p : X → Bool) (y : Y) (xs : List X)
     → fold (λ a x. if p x then a else f a x) y xs ≡ fold f y (filter (λ x. not (p x)) xs)
 fold_but f p y [] = refl
@@ -62,7 +62,7 @@ fold_but {X} {Y} f p y (x ∷ xs) = by (p x) (λ a. fold_but f p a xs)
     by true later = later y
     by false later = later (f y x)
 
--- A number stands once among those from one on, or not at all.
+-- A number outside a range doesn't occur in it.
 not_among : (k a n : ℕ) → (k < a) ⊎ (a + n ≤ k) → filter (λ t. k == t) (range_with_len a n) ≡ []
 not_among k a zero out = refl
 not_among k a (suc n) out =
@@ -124,74 +124,74 @@ module _ {B : Type 0} (setting : Setting B) (nodes more : List Node) (w : World)
   IsMade h m = IsMadeOf bound code log h m
 
   -- at the end a step is no signal
-  no_signal : (h : List Deed) → at_end h → (t : ℕ) (q : Walk) → IsThread code log t q → (c : ℕ) → kind_at q (steps_in h q.name) ≢ Some (kind.Signal c)
-  no_signal h gone t q there c signals = by (find (λ (e : Event). e.step == steps_in h q.name) q.events) refl
+  no_signal : (h : List Deed) → at_end h → (t : PathThread code log) → (c : ℕ) → kind_at t.walk (steps_in h t.name) ≢ Some (kind.Signal c)
+  no_signal h gone t c signals = by (find (λ (e : Event). e.step == steps_in h t.name) t.events) refl
     where
-      by : (o : Option Event) → find (λ (e : Event). e.step == steps_in h q.name) q.events ≡ o → ⊥
+      by : (o : Option Event) → find (λ (e : Event). e.step == steps_in h t.name) t.events ≡ o → ⊥
       by None none = none-some (kind.Signal c) (sym (ap (option_map (λ (e : Event). e.kind)) none) ∙ signals)
       by (Some x) one =
-          let f = of_find (λ (e : Event). e.step == steps_in h q.name) q.events x one in
+          let f = of_find (λ (e : Event). e.step == steps_in h t.name) t.events x one in
           let is = same_Some x.kind (kind.Signal c) (sym (ap (option_map (λ (e : Event). e.kind)) one) ∙ signals) in
-          let step = eqb-true x.step (steps_in h q.name) f.1 in
-          elim (quiet_unless setting nodes w l g h gone t q there x f.0 (omega (arith, step))) [
+          let step = eqb-true x.step (steps_in h t.name) f.1 in
+          elim (quiet_unless setting nodes w l g h gone t.index t.walk t.there x f.0 (omega (arith, step))) [
             | inl waits ↦ let s = and_parts ops.buffered (is_store x.kind) waits in false≢true (sym (ap is_store is) ∙ s.1)
             | inr fails ↦ let e : kind.Signal c ≡ kind.Fail = sym is ∙ fails in cc
           ]
 
   -- and it is quiet, unless its thread fails by it
-  quiet_here : (h : List Deed) → at_end h → (t : ℕ) (q : Walk) → IsThread code log t q
-      → (fails_in log q.name ≡ true → steps_in h q.name + 1 ≡ length q.places → ⊥)
-      → QuietAt setting nodes w l g q (steps_in h q.name)
-  quiet_here h gone t q there not x i step =
-      elim (quiet_unless setting nodes w l g h gone t q there x i (omega (arith, step))) [
+  quiet_here : (h : List Deed) → at_end h → (t : PathThread code log)
+      → (fails_in log t.name ≡ true → steps_in h t.name + 1 ≡ length t.places → ⊥)
+      → QuietAt setting nodes w l g t.walk (steps_in h t.name)
+  quiet_here h gone t not x i step =
+      elim (quiet_unless setting nodes w l g h gone t.index t.walk t.there x i (omega (arith, step))) [
         | inl waits ↦ waits
-        | inr fails ↦ let f = fail_is_last code log setting.log_is l.fits t q x there i fails in absurd (not f.0 (omega (arith, f.1, step)))
+        | inr fails ↦ let f = fail_is_last code log setting.log_is l.fits t.index t.walk x t.there i fails in absurd (not f.0 (omega (arith, f.1, step)))
       ]
 
-  -- So many steps to the end of a path are so many moves of its thread.
+  -- The `k` steps to the end of a path are `k` moves of its thread.
   record Ran (k : ℕ) (h : List Deed) (q : Walk) (later : List Deed) : Type 0 where
     moves : moves_for bound later ≡ moves_for bound h ++ replicate k (move.Run q.name)
     steps : steps_in later q.name ≡ steps_in h q.name + k
     on : GoesOn h later
     gone : fails_in log q.name ≡ false → at_end later
 
-  runs_out : (k : ℕ) (h : List Deed) → at_end h → (t : ℕ) (q : Walk) → IsThread code log t q → is_thread_in h q.name ≡ true
-      → steps_in h q.name + k ≡ length q.places → Ran k h q (goes k h t q.name)
-  runs_out zero h gone t q there is_there all =
+  runs_out : (k : ℕ) (h : List Deed) → at_end h → (t : PathThread code log) → is_thread_in h t.name ≡ true
+      → steps_in h t.name + k ≡ length t.places → Ran k h t.walk (goes k h t.index t.name)
+  runs_out zero h gone t is_there all =
       record { moves = sym (append-nil (moves_for bound h)); steps = omega arith; on = goes_nowhere h; gone = λ passes. gone }
-  runs_out (suc k) h gone t q there is_there all =
-      subst (λ ds. Ran (suc k) h q (goes k (h ++ ds) t q.name)) (sym (next.does_it setting nodes w l last h gone t q there n))
-      (by k all (λ on. runs_out k longer on t q there (one.goes.there q.name is_there) (omega (arith, all, one.steps))))
+  runs_out (suc k) h gone t is_there all =
+      subst (λ ds. Ran (suc k) h t.walk (goes k (h ++ ds) t.index t.name)) (sym (next.does_it setting nodes w l last h gone t n))
+      (by k all (λ on. runs_out k longer on t (one.goes.there t.name is_there) (omega (arith, all, one.steps))))
     where
-      n : NextIs setting nodes w l h t q
-      n = next_is setting nodes w l last h gone t q there is_there (omega (arith, all))
+      n : NextIs setting nodes w l h t
+      n = next_is setting nodes w l last h gone t is_there (omega (arith, all))
 
       d : Deed
-      d = next.deed setting nodes w l last h gone t q there n
+      d = next.deed setting nodes w l last h gone t n
 
       longer : List Deed
       longer = h ++ d ∷ []
 
-      one : Step h longer q
-      one = one_more setting nodes w l g last h gone t q there n
+      one : Step h longer t.walk
+      one = one_more setting nodes w l g last h gone t n
 
       run : Move
-      run = move.Run q.name
+      run = move.Run t.name
 
       own : move_for bound d ≡ run
       own =
-          own_run bound q.name (steps_in h q.name) n.request (taken_in ops.buffered code h q.name n.request)
-          (next.other setting nodes w l last h gone t q there n)
-          (λ c is. no_signal h gone t q there c (sym (next.kind_is setting nodes w l last h gone t q there n) ∙ is))
+          own_run bound t.name (steps_in h t.name) n.request (taken_in ops.buffered code h t.name n.request)
+          (next.other setting nodes w l last h gone t n)
+          (λ c is. no_signal h gone t c (sym (next.kind_is setting nodes w l last h gone t n) ∙ is))
 
       first : moves_for bound longer ≡ moves_for bound h ++ run ∷ []
       first = map-append (move_for bound) h (d ∷ []) ∙ ap (λ a. moves_for bound h ++ a ∷ []) own
 
-      on_quietly : (fails_in log q.name ≡ true → steps_in h q.name + 1 ≡ length q.places → ⊥) → at_end longer
-      on_quietly not = quiet_goes setting nodes w l g last h gone t q there n (quiet_here h gone t q there not)
+      on_quietly : (fails_in log t.name ≡ true → steps_in h t.name + 1 ≡ length t.places → ⊥) → at_end longer
+      on_quietly not = quiet_goes setting nodes w l g last h gone t n (quiet_here h gone t not)
 
-      by : (j : ℕ) → steps_in h q.name + suc j ≡ length q.places → (at_end longer → Ran j longer q (goes j longer t q.name))
-          → Ran (suc j) h q (goes j longer t q.name)
+      by : (j : ℕ) → steps_in h t.name + suc j ≡ length t.places → (at_end longer → Ran j longer t.walk (goes j longer t.index t.name))
+          → Ran (suc j) h t.walk (goes j longer t.index t.name)
       by zero left later = record {
         moves = first;
         steps = one.steps;
@@ -203,11 +203,11 @@ module _ {B : Type 0} (setting : Setting B) (nodes more : List Node) (w : World)
           record {
             moves = r.moves ∙ ap (λ ms. ms ++ replicate (suc j) run) first ∙ append_assoc (moves_for bound h) (run ∷ []) (replicate (suc j) run);
             steps = omega (arith, r.steps, one.steps);
-            on = goes_further h longer (goes (suc j) longer t q.name) one.goes r.on;
+            on = goes_further h longer (goes (suc j) longer t.index t.name) one.goes r.on;
             gone = r.gone;
           }
 
-  -- What is left to a thread.
+  -- The rest of a thread's path.
   record RestMade (h : List Deed) (t : ℕ) (later : List Deed) (m : Made) : Type 0 where
     made : IsMade later m
     on : GoesOn h later
@@ -232,8 +232,9 @@ module _ {B : Type 0} (setting : Setting B) (nodes more : List Node) (w : World)
           subst (λ o. RestMade h t (deeds_by o) (made_by o)) (sym none) (record { made = made; on = goes_nowhere h; gone = λ passes. gone })
       by (Some q) there =
           let left = length q.places - steps_in h q.name in
-          let most = few setting nodes w l g h gone.along t q there in
-          let r = runs_out left h gone t q there (are_there t q there) (omega (arith, most)) in
+          let thread : PathThread code log = path_thread t q there in
+          let most = few setting nodes w l g h gone.along thread in
+          let r = runs_out left h gone thread (are_there thread) (omega (arith, most)) in
           let count : left ≡ length q.places - steps_of m t = ap (λ k. length q.places - k) (sym (made.steps t q there)) in
           subst (λ o. RestMade h t (deeds_by o) (made_by o)) (sym there)
           (record {
@@ -245,16 +246,16 @@ module _ {B : Type 0} (setting : Setting B) (nodes more : List Node) (w : World)
             gone = λ passes. r.gone (fails_by_place code log setting.log_is t q there ∙ place_passes log.failing t passes);
           })
 
-  -- What is left to some threads that don't fail.
+  -- The rest of the paths of some threads that don't fail.
   all_made : (ts : List ℕ) (h : List Deed) (m : Made) → at_end h → AllAreThere code log h → ((t : ℕ) → Contains ts t → is_failing paths t ≡ false)
       → IsMade h m → IsMade (fold planned h ts) (fold (spec.with_rest paths) m ts)
   all_made [] h m gone are_there passing made = made
   all_made (t ∷ ts) h m gone are_there passing made =
       let r = rest_made h m gone are_there made t in
-      all_made ts (planned h t) (spec.with_rest paths m t) (r.gone (passing t (in_front t ts))) (λ u q at. r.on.there q.name (are_there u q at))
+      all_made ts (planned h t) (spec.with_rest paths m t) (r.gone (passing t (in_front t ts))) (λ u. r.on.there u.name (are_there u))
       (λ u i. passing u (in_back u t ts i)) r.made
 
-  -- All of the plan.
+  -- The whole plan.
   abbrev before : List Deed
   before = up_to ops.buffered code paths w last
 
@@ -275,7 +276,7 @@ module _ {B : Type 0} (setting : Setting B) (nodes more : List Node) (w : World)
         (all_threads setting nodes w l g before (come setting nodes w l g))
         (λ t i. not-true (is_failing paths t) (of_filter (λ u. not (is_failing paths u)) t range i).1) first)
 
-    -- the thread that fails is there
+    -- the failing thread exists
     failing_within : (k : ℕ) → log.failing ≡ failing.Thread k → k < length paths.threads
     failing_within k is =
         let within =
@@ -317,7 +318,7 @@ module _ {B : Type 0} (setting : Setting B) (nodes more : List Node) (w : World)
   gone_to =
       gone_up_to setting nodes w l g last (λ t q x there i. none_before setting nodes w l t q x there i)
 
-  -- so all of a plan is made
+  -- the moves of the whole plan are made
   pub plan_made : IsMade (plan.plan ops.buffered code paths w) (spec.made ops.buffered bound paths symbolic terms w)
   plan_made =
       whole_made (made_at (last_place paths w))

@@ -19,7 +19,6 @@ use Rattle.path_walk.specs.declared.event.Event.{Event}
 use Rattle.path_walk.specs.declared.event.EventKind.TheVariants as kind
 use Rattle.path_laws.specs.Setting.{Setting}
 use Rattle.path_laws.specs.Deeds.{kind_of}
-use Rattle.path_laws.specs.history.Along.{IsThread}
 use Rattle.sym_terms.specs.declared.node.Node.{Node}
 use Rattle.sym_steps.specs.Next.{kind_at}
 use Rattle.order_formula.specs.Worlds.{World}
@@ -31,8 +30,9 @@ use Rattle.plan_runs.proofs.Given.{Gone, Given}
 use Rattle.plan_runs.proofs.Next as next
 use Rattle.plan_runs.proofs.Next.{next_is}
 use Rattle.plan_runs.proofs.Steps.{QuietAt, quiet_goes, one_more}
+use Rattle.path_laws.specs.history.Along.{PathThread}
 
--- a step that is no signal is a thread's own move
+-- a step other than a signal is a move of its own thread
 pub own_run : (bound : Binding) (n : Name) (k : ℕ) (r : Request) (took : ℤ) (other : Option Name)
     → ((c : ℕ) → kind_of r other ≢ Some (kind.Signal c)) → move_for bound (Did n k r took other) ≡ move.Run n
 own_run bound n k (WakeOne c) took other not = absurd (not c refl)
@@ -48,7 +48,7 @@ module _ {B : Type 0} (setting : Setting B) (nodes : List Node) (w : World) (l :
   abbrev goes : ℕ → List Deed → ℕ → Name → List Deed
   goes m h t n = goes_on ops.buffered code paths w m h t n
 
-  -- a quiet step is no signal
+  -- a quiet step isn't a signal
   no_signal : (q : Walk) (k c : ℕ) → QuietAt setting nodes w l g q k → kind_at q k ≢ Some (kind.Signal c)
   no_signal q k c quiet signals = by (find (λ (e : Event). e.step == k) q.events) refl
     where
@@ -61,26 +61,27 @@ module _ {B : Type 0} (setting : Setting B) (nodes : List Node) (w : World) (l :
           false≢true (sym (ap is_store is) ∙ waits.1)
 
   -- so many quiet steps of a thread are so many moves of its own
-  pub runs_on : (m p : ℕ) (h : List Deed) → Gone setting nodes w p h → (t : ℕ) (q : Walk) → IsThread code log t q
-      → is_thread_in h q.name ≡ true → steps_in h q.name + m ≤ length q.places
-      → ((k : ℕ) → steps_in h q.name ≤ k → k < steps_in h q.name + m → QuietAt setting nodes w l g q k)
-      → moves_for bound (goes m h t q.name) ≡ moves_for bound h ++ replicate m (move.Run q.name)
-  runs_on zero p h gone t q there is_there few quiet = sym (append-nil (moves_for bound h))
-  runs_on (suc m) p h gone t q there is_there few quiet =
-      let n = next_is setting nodes w l p h gone t q there is_there (omega (arith, few)) in
-      let d = next.deed setting nodes w l p h gone t q there n in
-      let other = next.other setting nodes w l p h gone t q there n in
-      let one = one_more setting nodes w l g p h gone t q there n in
+  pub runs_on : (m p : ℕ) (h : List Deed) → Gone setting nodes w p h → (t : PathThread code log)
+      → is_thread_in h t.name ≡ true → steps_in h t.name + m ≤ length t.places
+      → ((k : ℕ) → steps_in h t.name ≤ k → k < steps_in h t.name + m → QuietAt setting nodes w l g t.walk k)
+      → moves_for bound (goes m h t.index t.name) ≡ moves_for bound h ++ replicate m (move.Run t.name)
+  runs_on zero p h gone t is_there few quiet = sym (append-nil (moves_for bound h))
+  runs_on (suc m) p h gone t is_there few quiet =
+      let q = t.walk in
+      let n = next_is setting nodes w l p h gone t is_there (omega (arith, few)) in
+      let d = next.deed setting nodes w l p h gone t n in
+      let other = next.other setting nodes w l p h gone t n in
+      let one = one_more setting nodes w l g p h gone t n in
       let now = quiet (steps_in h q.name) (omega arith) (omega arith) in
-      let later = quiet_goes setting nodes w l g p h gone t q there n now in
-      let told = next.kind_is setting nodes w l p h gone t q there n in
+      let later = quiet_goes setting nodes w l g p h gone t n now in
+      let told = next.kind_is setting nodes w l p h gone t n in
       let own : move_for bound d ≡ move.Run q.name =
       own_run bound q.name (steps_in h q.name) n.request (taken_in ops.buffered code h q.name n.request) other
       (λ c is. no_signal q (steps_in h q.name) c now (sym told ∙ is)) in
-      let rest = runs_on m p (h ++ d ∷ []) later t q there (one.goes.there q.name is_there) (omega (arith, one.steps, few))
+      let rest = runs_on m p (h ++ d ∷ []) later t (one.goes.there q.name is_there) (omega (arith, one.steps, few))
       (λ k low high. quiet k (omega (arith, low, one.steps)) (omega (arith, high, one.steps))) in
       let run = replicate m (move.Run q.name) in
-      ap (λ ds. moves_for bound (goes m (h ++ ds) t q.name)) (next.does_it setting nodes w l p h gone t q there n)
+      ap (λ ds. moves_for bound (goes m (h ++ ds) t.index q.name)) (next.does_it setting nodes w l p h gone t n)
       ∙ rest ∙ ap (λ ms. ms ++ run) (map-append (move_for bound) h (d ∷ []))
       ∙ append_assoc (moves_for bound h) (move_for bound d ∷ []) run
       ∙ ap (λ a. moves_for bound h ++ (a ∷ run)) own

@@ -1,10 +1,10 @@
--- The stores of the plan of a lawful world, as the accesses of its paths tell them.
+-- The stores in the plan of a lawful world, by the accesses of its paths.
 use Rattle.std.proofs.Common.{◌≡◌, ◌∙◌, ℕ, ℤ, List, ◌++◌, Some, sym, ap}
 use Rattle.run_history.specs.History.{Deed}
 use Rattle.run_history.specs.pending.Deeds.{IsIssuedIn}
 use Rattle.path_walk.specs.Paths.{Walk, paths_of}
 use Rattle.path_laws.specs.Setting.{Setting}
-use Rattle.path_laws.specs.history.Along.{IsThread}
+use Rattle.path_laws.specs.history.Along.{IsThread, path_thread}
 use Rattle.sym_terms.specs.declared.node.Node.{Node}
 use Rattle.sym_exec.specs.Alone.{Asked, asked_in, cell_by}
 use Rattle.sym_exec.specs.Executed.{Symbolic}
@@ -17,6 +17,7 @@ use Rattle.lawful_order.specs.Reads.{HasAccess}
 use Rattle.lawful_terms.proofs.Same.{more_mean_same}
 use Rattle.world_plan.specs.Going.{IsLawfulWorld, HasGone}
 use Rattle.plan_runs.proofs.of_memory.Accesses.{written, issue_asks, access_of, cell_at_step}
+use Rattle.plan_runs.proofs.Histories.{valued_of}
 
 module _ {B : Type 0} (setting : Setting B) (nodes more : List Node) (w : World) (l : IsLawfulWorld setting nodes w) where
   open setting use {ops, bound, code, log}
@@ -27,14 +28,14 @@ module _ {B : Type 0} (setting : Setting B) (nodes more : List Node) (w : World)
   abbrev terms : List Node
   terms = (found code log nodes).nodes ++ more
 
-  -- more terms leave what an access asks as it is
+  -- more terms don't change an access's request
   asked_stays : (t : ℕ) (a : Access) → HasAccess symbolic t a → asked_in terms w.loads a ≡ asked_in (found code log nodes).nodes w.loads a
   asked_stays t a has =
       let same = more_mean_same ops.buffered bound code (paths_of code log) symbolic w (found code log nodes).nodes more
       (have_terms code setting.lawful (paths_of code log) nodes) (have_tests code setting.lawful (paths_of code log) nodes) in
       sym (same.asked t a has)
 
-  -- the access of a store that has been issued
+  -- the access of an issued store
   pub record IsStoreOf (t k c : ℕ) : Type 0 where
     pub access : Access
     pub has : HasAccess symbolic t access
@@ -44,7 +45,7 @@ module _ {B : Type 0} (setting : Setting B) (nodes more : List Node) (w : World)
   pub store_of : (p : ℕ) (h : List Deed) → HasGone setting nodes w p h → (t : ℕ) (q : Walk) → IsThread code log t q
       → (k c : ℕ) (v : ℤ) → IsIssuedIn h q.name k c v → IsStoreOf t k c
   store_of p h gone t q there k c v issued =
-      let a = access_of setting nodes w l h gone.along gone.agrees t q there k (written c v) (issue_asks h q.name k c v issued) in
+      let a = access_of setting nodes w l (valued_of l gone) (path_thread t q there) k (written c v) (issue_asks h q.name k c v issued) in
       record {
         access = a.access;
         has = a.has;

@@ -1,4 +1,4 @@
--- What the moves of a lawful world's events need is there.
+-- Everything that the moves of a lawful world's events need exists.
 use Rattle.std.proofs.Common.{◌≡◌, ℕ, ◌≤◌, List, length, Option, Some, None, subst, arith}
 use Rattle.std.specs.Prelude.{slice_get}
 use Rattle.std.specs.List.{All}
@@ -22,7 +22,7 @@ use Rattle.schedule_decode.specs.Decodable.{HaveRoom, IsDecodable}
 use Rattle.schedule_decode.proofs.Decoded.{of_found}
 use Rattle.schedule_decode.proofs.Known.{IsOfMemory, AreKnown, are_known}
 
--- what holds of all holds of one at a place
+-- what holds for all elements holds for the one at a place
 pub of_all : {X : Type 0} (P : X → Type 0) (xs : List X) → All P xs → (k : ℕ) (x : X) → slice_get xs k ≡ Some x → P x
 of_all P xs all k x at = subst P (get_or_from_slice_get xs k x x at) (all k x (slice_get_within xs k x at))
 

@@ -41,7 +41,7 @@ use Rattle.schedule_decode.specs.Decodable.{HaveRoom, IsDecodable}
 use Rattle.schedule_decode.proofs.Known.{IsOfMemory, IsKnown, AreKnown}
 use Rattle.schedule_decode.proofs.Tellable.{of_all, all_known}
 
--- How many of some numbers are below one.
+-- The number of elements of a list that are below a number.
 abbrev digit : Bool → ℕ
 digit b = cond b 1 0
 
@@ -77,7 +77,7 @@ below_more p (x ∷ xs) (suc k) within at =
     let first = digit_rises x p in
     omega (arith, rest, first, below_cons p x xs, below_cons (suc p) x xs)
 
--- So many moves at most, each of which a schedule may have.
+-- At most `most` moves, each of which a schedule may have.
 record HasText (model : Model) (most : ℕ) (moves : List Move) : Type 0 where
   few : length moves ≤ most
   each : list_all (is_move model) moves ≡ true
@@ -103,7 +103,7 @@ runs_text model n named (suc k) =
     let rest = runs_text model n named k in
     record { few = omega (arith, rest.few); each = and_from (is_name n) (list_all (is_move model) (replicate k (move.Run n))) named rest.each }
 
--- a drain names what its model has it name
+-- a drain names a cell exactly if its model's drains do
 drain_fits : (binds buffered : Bool) (n : Name) (c : ℕ) → buffered ≡ true → is_name n ≡ true → c < CELLS
     → is_move (if buffered then (if binds then Tso else Pso) else Sc) (move.Drain n (if binds then None else Some c)) ≡ true
 drain_fits binds false n c is named less = absurd (false≢true is)
@@ -121,7 +121,7 @@ module _ (buffered : Bool) (bound : Binding) (code : Code) (paths : Paths) (symb
   named : (t : ℕ) (q : Walk) → slice_get paths.threads t ≡ Some q → is_name q.name ≡ true
   named t q at = of_all (λ (v : Walk). IsTrue (is_name v.name)) paths.threads room.names t q at
 
-  -- who is woken is a thread of the paths
+  -- a woken thread is one of the paths
   woken_named : (event : ℕ) (u : Name) → woken_by paths w event ≡ Some u → is_name u ≡ true
   woken_named event u woken = by (find (λ (s : ℕ × Of Sleep). is_ended w s.0 event) (enumerate_from 0 (all_sleeps paths))) woken
     where
@@ -192,7 +192,7 @@ module _ (buffered : Bool) (bound : Binding) (code : Code) (paths : Paths) (symb
           more_text model (most + (x - steps_of m t + 1)) (most + 65536) _ (omega (arith, low))
           (both_text model most (x - steps_of m t + 1) m.moves _ fits last)
 
-  -- What is left to a thread.
+  -- The rest of a thread's path.
   rest_fits : (most : ℕ) (m : Made) → Fits most m → (t : ℕ) → Fits (most + 65535) (with_rest paths m t)
   rest_fits most m fits t = by (slice_get paths.threads t) refl
     where
@@ -218,7 +218,7 @@ module _ (buffered : Bool) (bound : Binding) (code : Code) (paths : Paths) (symb
       let rest = all_fit ts (most + 65535) (with_passing paths m t) (passing_fits most m fits t) in
       more_text model (most + 65535 + length ts * 65535) (most + length (t ∷ ts) * 65535) _ (omega arith) rest
 
-  -- All of it.
+  -- The whole schedule.
   module _ (known : AreKnown buffered code paths symbolic nodes w) (many : length w.positions ≤ EVENTS) where
     events_fit : (p : ℕ) → p ≤ last_place paths w → Fits (below p w.positions * 65536) (made_to buffered bound paths symbolic nodes w p)
     events_fit zero low = no_text model (below 0 w.positions * 65536)

@@ -1,4 +1,4 @@
--- What is shown of a schedule, by what a memory model's constants tell of its buffers.
+-- The laws of a schedule, by the constants of a memory model.
 use Rattle.std.proofs.Common.{◌≡◌, ◌∙◌, Bool, true, List, sym, ap, subst}
 use Rattle.tc_base.specs.Buffers.{BufferOps}
 use Rattle.run_log.specs.Logs.{Log}

@@ -82,11 +82,11 @@ pub behind_is : (front bytes : List ℕ) (r : Option (Bor (List ℕ))) → Match
 behind_is front bytes None h = sym (behind_none front bytes h)
 behind_is front bytes (Some x) h = sym (ap (behind front) h ∙ behind_again front x.now)
 
--- what a name's children are written as
+-- the text of a name's children
 abbrev pub children_text : Name → List ℕ
 children_text ks = flat_map (λ child. codes "." ++ decimal child) ks
 
--- neither a digit nor a dot stands at the front, but something
+-- the text isn't empty, and begins with neither a digit nor a dot, but a lesser byte
 abbrev pub ends_name : List ℕ → Bool
 ends_name [] = false
 ends_name (b ∷ _) = ltb b 46
@@ -161,7 +161,7 @@ children_takes (suc room) bytes ks rest e =
           (children_takes room a.0.1 b.0.0 b.0.1 b.1) b.2
     ]
 
--- a name is read of its text, where no more of it can follow
+-- a name is read back from its text, if no more of it can follow
 pub name_again : (n : Name) (rest : List ℕ) → is_name n ≡ true → ends_name rest ≡ true → name_at (name_text n ++ rest) ≡ Some (n, rest)
 unfolding name_at
 name_again n rest h e =
@@ -179,7 +179,7 @@ name_takes bytes n rest e =
 
 -- Children read one after the other.
 
--- these children, and then those that the rest gives
+-- these children, and then those of the rest
 abbrev pub with_front : Name → Option (Name × List ℕ) → Option (Name × List ℕ)
 with_front front others = others >>= λ x. Some (front ++ x.0, x.1)
 
@@ -190,7 +190,7 @@ regroup front k (Some x) = ap (λ (n : Name). Some (n, x.1)) (sym (append_assoc 
 front_none : (front : Name) (others : Option (Name × List ℕ)) → others ≡ None → with_front front others ≡ None
 front_none front others e = ap (with_front front) e
 
--- what is known while children are read one after the other
+-- the state while children are read one after the other
 pub record ChildrenSoFar (front : Name) (bytes : List ℕ) (total : Option (Name × List ℕ)) : Type 0 where
   pub few : length front ≤ DEPTH
   pub read : with_front front (children_at (DEPTH - length front) bytes) ≡ total
@@ -217,7 +217,7 @@ shorter bytes number k after dot one =
     let b = ap length (front_is 1 255 number k after (omega arith) one).parts in
     omega (arith, length-append (decimal k) after)
 
--- a ninth child, or no child behind the dot
+-- a ninth child, or no child after the dot
 pub too_many : (front : Name) (bytes number : List ℕ) (total : Option (Name × List ℕ)) → length front ≡ DEPTH → behind (codes ".") bytes ≡ Some number
     → with_front front (children_at (DEPTH - length front) bytes) ≡ total → None ≡ total
 unfolding children_at
@@ -235,7 +235,7 @@ no_child front bytes number total few room dot none so_far =
     let step : children_at (DEPTH - length front) bytes ≡ None = rw (n, dot, none) refl in
     sym (ap (with_front front) step) ∙ so_far
 
--- no dot comes
+-- no dot follows
 no_more : (room : ℕ) (bytes : List ℕ) → behind (codes ".") bytes ≡ None → children_at room bytes ≡ Some ([], bytes)
 unfolding children_at
 no_more zero bytes e = rw e refl

@@ -1,4 +1,4 @@
--- The line at the front of a text: what is read there is what was written, and what was written is read again.
+-- The line at the front of a text: reading gives what was written, and only that.
 use Rattle.std.proofs.Common.{◌≡◌, ◌<◌, ◌-◌, ℕ, true, ltb, List, [], ◌∷◌, ◌++◌, Option, Some, None, refl, sym, ap, ◌∙◌, subst, arith, append_assoc, inl, inr}
 use Rattle.std.proofs.Common.{◌⊎◌}
 use Rattle.std.specs.Prelude.{codes}
@@ -163,7 +163,7 @@ wake_takes model bytes move rest e =
     } in
     subst (λ (m : Move). TakesMove model bytes m rest) z.1 made
 
--- what a drain's line names behind the thread
+-- the cell in a drain's line, after the thread
 abbrev cell_text : Option ℕ → List ℕ
 cell_text None = []
 cell_text (Some cell) = 32 ∷ decimal cell
@@ -211,7 +211,7 @@ drain_takes model bytes move rest e =
     } in
     subst (λ (m : Move). TakesMove model bytes m rest) z.1 made
 
--- what is read as a move's line is that move's line
+-- bytes read as a move begin with that move's line
 pub move_takes : (model : Model) (bytes : List ℕ) (move : Move) (rest : List ℕ) → move_at model bytes ≡ Some (move, rest) → TakesMove model bytes move rest
 unfolding move_at
 move_takes model bytes move rest e =

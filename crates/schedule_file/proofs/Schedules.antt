@@ -62,7 +62,7 @@ some_or_none : {A : Type 0} (o : Option A) → (o ≡ None) ⊎ ((x : A) × (o �
 some_or_none None = inl refl
 some_or_none (Some x) = inr (x, refl)
 
--- the same header stands before the same rest
+-- if two texts that begin with headers are the same, so are their headers and their rests
 pub same_header : (model other : Model) (rest last : List ℕ) → header model ++ rest ≡ header other ++ last → (model ≡ other) × (rest ≡ last)
 same_header model other rest last e =
     let pair = same_Some _ _ (sym (header_again model rest) ∙ (ap header_at e ∙ header_again other last)) in
@@ -74,12 +74,13 @@ same_line model move other rest last h k e =
     let pair = same_Some _ _ (sym (move_again model move rest h) ∙ (ap (move_at model) e ∙ move_again model other last k)) in
     (ap (λ (x : Move × List ℕ). x.0) pair, ap (λ (x : Move × List ℕ). x.1) pair)
 
--- A text is read so far: a header, these moves, of which so many may come, and a rest.
+-- The part of a text read so far: a header, these moves, as many as a schedule may have, and a
+-- rest.
 pub record SoFar (text : List ℕ) (model : Model) (moves : List Move) (rest : List ℕ) : Type 0 where
   pub have_text : HaveText model moves
   pub split : text ≡ schedule_text model moves ++ rest
 
--- No further move comes, though one might.
+-- No further move follows, though one might.
 abbrev pub Stops : ℕ → Model → List ℕ → Type 0
 Stops count model rest = count + 1 < most_lines → BeginsNoMove model rest
 
@@ -114,7 +115,7 @@ record SameReading (model other : Model) (moves others : List Move) (rest last :
   moves_are : moves ≡ others
   rests : rest ≡ last
 
--- a text is read in one way
+-- a text is read in only one way
 same_reading : (text : List ℕ) (model other : Model) (moves others : List Move) (rest last : List ℕ) → SoFar text model moves rest
     → SoFar text other others last → Stops (length moves) model rest → Stops (length others) other last
     → SameReading model other moves others rest last

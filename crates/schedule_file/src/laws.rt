@@ -11,7 +11,7 @@ pub fn schedules_are_one()
         → schedule_text model moves ≡ schedule_text other others → (model ≡ other) × (moves ≡ others) }
 {}
 
-/// A text that is no schedule breaks the format at exactly one line, and a schedule's text at none.
+/// A text that isn't a schedule breaks the format at exactly one line, a schedule's text at none.
 pub fn faults_are_one()
     ensures some { (text : List ℕ)
         → ((model : OneModel) (moves : List OneMove) → HaveText model moves → text ≡ schedule_text model moves → ⊥)

@@ -100,7 +100,7 @@ fn drain_at(alloc: Global, model: Model, text: &[u8]) -> Result<Option<(Move, &[
     Ok(Some((Move::Drain(name, cell), rest)))
 }
 
-/// The cell that a drain's line names behind the thread, if this model's drains name one, and the
+/// The cell that a drain's line names after the thread, if this model's drains name one, and the
 /// rest.
 #[tactic(auto, unfolding(crate::specs::helpers::Reading::cell_at))]
 fn cell_at(model: Model, text: &[u8]) -> Option<(Option<u32>, &[u8])>

@@ -1,4 +1,4 @@
--- How many of a list pass.
+-- The number of elements of a list that pass.
 use Rattle.std.proofs.Common.{◌≡◌, inl, inr, ℕ, suc, ◌+◌, ◌*◌, ◌≤◌, Bool, true, false, cond, List, [], ◌∷◌, ◌++◌, length}
 use Rattle.std.proofs.Common.{Option, Some, None, refl, ap, arith}
 use Rattle.std.specs.Prelude.{is_some, slice_get}
@@ -6,11 +6,11 @@ use Rattle.std.specs.List.{count_by, sum_by, filter_map, cons_option}
 use Rattle.std.proofs.lemmas.List.Sums.{sum_by-cons, sum_by-append, sum_by-le-sum_by}
 use Rattle.run_history.proofs.of_pending.In.{In}
 
--- what a test adds
+-- 1 if a test passes, else 0
 abbrev pub tally : Bool → ℕ
 tally b = cond b 1 0
 
--- what passes one test passes the other
+-- a test that implies another counts at most as much
 pub one_passes : (a b : Bool) → (a ≡ true → b ≡ true) → tally a ≤ tally b
 one_passes true b more = let e = ap tally (more refl) in omega (arith, e)
 one_passes false b more = omega arith
@@ -25,7 +25,7 @@ module _ {X : Type 0} where
   pub count-more : (p q : X → Bool) (xs : List X) → ((x : X) → p x ≡ true → q x ≡ true) → count_by p xs ≤ count_by q xs
   count-more p q xs more = sum_by-le-sum_by (λ x. tally (p x)) (λ x. tally (q x)) xs (λ x. one_passes (p x) (q x) (more x))
 
-  -- one of them passes the second alone
+  -- an element passes only the second test
   pub count-one_more : (p q : X → Bool) (older : List X) (x : X) (newer : List X) → ((y : X) → p y ≡ true → q y ≡ true) → p x ≡ false → q x ≡ true
       → count_by p (older ++ x ∷ newer) + 1 ≤ count_by q (older ++ x ∷ newer)
   count-one_more p q older x newer more was is =
@@ -39,7 +39,7 @@ module _ {X : Type 0} where
       let f = ap tally is in
       omega (arith, front, back, a, b, c, d, e, f)
 
-  -- one that passes is counted
+  -- an element that passes is counted
   pub count-in : (p : X → Bool) (x : X) (xs : List X) → In x xs → p x ≡ true → 1 ≤ count_by p xs
   count-in p x [] i is = absurd i
   count-in p x (y ∷ xs) (inl e) is =
@@ -49,7 +49,7 @@ module _ {X : Type 0} where
       omega (arith, a, b, c)
   count-in p x (y ∷ xs) (inr i) is = let a = count-cons p y xs in let b = count-in p x xs i is in omega (arith, a, b)
 
-  -- what a map gives of those that pass
+  -- the values that a map gives for elements that pass
   pub count-given : {Y : Type 0} (p : X → Bool) (f : X → Option Y) (xs : List X) → ((x : X) → p x ≡ true → is_some (f x) ≡ true)
       → count_by p xs ≤ length (filter_map f xs)
   count-given p f [] gives = omega arith
@@ -64,7 +64,7 @@ module _ {X : Type 0} where
       one None ys = omega arith
       one (Some y) ys = omega arith
 
-  -- each of the terms is at most a number
+  -- a sum of terms that are at most `m`
   pub sum-few : (f : X → ℕ) (m : ℕ) (xs : List X) → ((k : ℕ) (x : X) → slice_get xs k ≡ Some x → f x ≤ m) → sum_by f xs ≤ length xs * m
   sum-few f m [] few = omega arith
   sum-few f m (x ∷ xs) few =
@@ -73,7 +73,7 @@ module _ {X : Type 0} where
       let rest = sum-few f m xs (λ k. few (suc k)) in
       omega (arith, all, first, rest)
 
-  -- and at most its term in another sum
+  -- a sum of terms that are at most those of another sum
   pub sum-less : (f g : X → ℕ) (xs : List X) → ((k : ℕ) (x : X) → slice_get xs k ≡ Some x → f x ≤ g x) → sum_by f xs ≤ sum_by g xs
   sum-less f g [] less = omega arith
   sum-less f g (x ∷ xs) less =
@@ -83,7 +83,7 @@ module _ {X : Type 0} where
       let rest = sum-less f g xs (λ k. less (suc k)) in
       omega (arith, a, b, first, rest)
 
--- Each that passes is counted under one of the names at least.
+-- Each element that passes is counted under at least one of the names.
 
 module _ {X Y : Type 0} (of : Y → X → Bool) where
   one_more : (x : X) (xs : List X) (ys : List Y)

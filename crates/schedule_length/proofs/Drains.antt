@@ -1,4 +1,4 @@
--- The signals and drains of a thread are no more than its events: each drain is that of a store of its own.
+-- A thread has at most as many signals and drains as events: each drain is of a store of its own.
 use Rattle.std.proofs.Common.{◌≡◌, ◌≢◌, ◌∙◌, inl, inr, ℕ, ◌+◌, ◌≤◌, ℤ, Bool, true, false, ◌&&◌, ◌||◌, List, [], ◌∷◌, ◌++◌, length}
 use Rattle.std.proofs.Common.{Option, Some, None, refl, sym, ap, ap₂, subst, arith, append-nil, append_assoc}
 use Rattle.std.specs.Prelude.{is_some, if◌then◌else◌}
@@ -19,7 +19,7 @@ use Rattle.run_follows.specs.Follow.{AllFollow}
 use Rattle.path_laws.specs.Deeds.{event_by}
 use Rattle.schedule_length.proofs.Counts.{tally, one_passes, count-more, count-one_more, count-given}
 
--- what passes a test is there
+-- a value under a test that passes exists
 passed : {Y : Type 0} (b : Bool) (y : Y) → b ≡ true → is_some (if b then Some y else None) ≡ true
 passed true y is = refl
 passed false y is = absurd (false≢true is)
@@ -31,14 +31,14 @@ module _ (n : Name) where
   is_long_of (Did q k r took other) = false
   is_long_of (Drained q k c v) = same n q
 
-  -- a signal of the thread, or a store of it that has drained
+  -- a signal of the thread, or one of its stores that has drained
   abbrev is_met : List Deed → Deed → Bool
   is_met h (Did q k (WakeOne c) took other) = same n q
   is_met h (Did q k (Write c v) took other) = same n q && has_drained h n k
   is_met h (Did q k r took other) = false
   is_met h (Drained q k c v) = false
 
-  -- these are events
+  -- signals and drained stores are events
   met_is_event : (h : List Deed) (d : Deed) → is_met h d ≡ true → is_some (event_by n d) ≡ true
   met_is_event h (Did q k (WakeOne c) took other) is = passed (same n q) _ is
   met_is_event h (Did q k (Write c v) took other) is = passed (same n q) _ (and_parts (same n q) (has_drained h n k) is).0
@@ -46,7 +46,7 @@ module _ (n : Name) where
   met_is_event h (Did q k r took other) is = absurd (false≢true is)
   met_is_event h (Drained q k c v) is = absurd (false≢true is)
 
-  -- what has drained stays so
+  -- a store that has drained stays drained
   drained_more : (h : List Deed) (d : Deed) (k : ℕ) → has_drained h n k ≡ true → has_drained (h ++ d ∷ []) n k ≡ true
   drained_more h d k is = list_any-append (drains n k) h (d ∷ []) ∙ ap (λ b. b || (drains n k d || false)) is
 
@@ -58,11 +58,11 @@ module _ (n : Name) where
   met_more h d (Did q k r took other) is = is
   met_more h d (Drained q k c v) is = is
 
-  -- no more are long than are met
+  -- there are at most as many signals and drains as signals and drained stores
   abbrev IsMet : List Deed → Type 0
   IsMet h = count_by is_long_of h ≤ count_by (is_met h) h
 
-  -- a step that is long is met
+  -- a step that is a signal is counted on both sides
   step_met : (h : List Deed) (q : Name) (k : ℕ) (r : Request) (took : ℤ) (other : Option Name)
       → is_long_of (Did q k r took other) ≡ true → is_met h (Did q k r took other) ≡ true
   step_met h q k (WakeOne c) took other is = is
@@ -125,7 +125,7 @@ module _ (n : Name) where
     along g [] is met = subst IsMet (sym (is ∙ append-nil g)) met
     along g (d ∷ rest) is met = along (g ++ d ∷ []) rest (is ∙ sym (append_assoc g (d ∷ []) rest)) (push g d rest is met)
 
-    -- so they are no more than the events
+    -- there are at most as many signals and drains as events
     pub long_are_events : count_by is_long_of h ≤ length (filter_map (event_by n) h)
     long_are_events =
         let met = along [] h refl (omega arith) in

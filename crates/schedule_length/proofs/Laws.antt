@@ -1,4 +1,4 @@
--- What reproduces a log within the limits has a short text.
+-- Moves that reproduce a log within the limits have a short text.
 use Rattle.std.proofs.Common.{◌≡◌, ◌^◌, ◌≤◌, true, ◌&&◌, List, length, map, arith}
 use Rattle.std.specs.Prelude.{nat_le, nat_lt, sum}
 use Rattle.std.specs.List.{All, list_all}
@@ -42,7 +42,7 @@ short machine log form moves small text r =
 pub room : most_bytes ≤ SCHEDULE_BYTES
 room = omega arith
 
--- so a schedule may have it
+-- a schedule may have these moves
 pub short_enough : {B : Type 0} (ops : BufferOps B) (model : Model) (bound : Binding) (code : Code) (log : Log) (form : Model) (moves : List Move)
     → Laws ops model bound → IsLawful code → IsSmall code log → HaveText form moves → Reproduces ops code log moves
     → length (schedule_text form moves) ≤ SCHEDULE_BYTES
@@ -50,7 +50,7 @@ short_enough ops model bound code log form moves laws lawful small text r =
     let few = short (record { ops = ops; model = model; bound = bound; laws = laws; code = code; lawful = lawful }) log form moves small text r in
     omega (arith, few, room)
 
--- a log that has a text counts steps in two bytes
+-- a log with a text counts its steps in two bytes
 pub steps_of_text : (log : Log) → is_of_format log ≡ true → All (λ t. t.path.steps ≤ STEPS) log.threads
 steps_of_text log is =
     All-weaker (λ t. is_thread t ≡ true) (λ t. t.path.steps ≤ STEPS) few log.threads

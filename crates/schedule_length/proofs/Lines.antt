@@ -1,4 +1,4 @@
--- How long the lines of moves are.
+-- The length of the lines of moves.
 use Rattle.std.proofs.Common.{◌≡◌, ℕ, ◌+◌, ◌*◌, ◌<◌, ◌≤◌, Bool, true, false, cond, List, [], ◌∷◌, ◌++◌, length, Some, None}
 use Rattle.std.proofs.Common.{refl, arith, length-append}
 use Rattle.std.specs.Prelude.{codes, nat_le, nat_lt}
@@ -86,7 +86,7 @@ line_length Sc (Drain n cell) is = absurd (false≢true is)
 line_length Tso (Drain n (Some cell)) is = absurd (false≢true is)
 line_length Pso (Drain n None) is = absurd (false≢true is)
 
--- so a line counts as that of a run or of another move
+-- a line counts as that of a run or of another move
 counts_as : (m : Move) → cond (is_run m) run_bytes line_bytes ≡ cond (is_run m) 1 0 * run_bytes + cond (is_seldom m) 1 0 * line_bytes
 counts_as (Run n) = refl
 counts_as (Wake n waiter) = refl
@@ -110,7 +110,7 @@ header_length Sc = omega arith
 header_length Tso = omega arith
 header_length Pso = omega arith
 
--- a schedule has a header, and a line for each of these
+-- a schedule has a header and a line for each move
 pub text_length : (model : Model) (ms : List Move) → list_all (is_move model) ms ≡ true
     → length (schedule_text model ms) ≤ header_bytes + (count_by is_run ms * run_bytes + count_by is_seldom ms * line_bytes)
 text_length model ms is =

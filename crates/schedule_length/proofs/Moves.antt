@@ -1,4 +1,4 @@
--- The deeds of moves, by how many of them there are.
+-- The deeds of moves, by their numbers.
 use Rattle.std.proofs.Common.{◌≡◌, ◌∙◌, ◌+◌, ◌≤◌, Bool, true, false, List, [], ◌∷◌, ◌++◌, Some, ap, arith}
 use Rattle.std.specs.List.{count_by}
 use Rattle.std.specs.Option.{option_map_or}
@@ -28,7 +28,7 @@ is_long (Did n k r took other) = false
 is_long (Drained n k c v) = true
 
 module _ {B : Type 0} (ops : BufferOps B) (code : Code) where
-  -- a move that is counted does a deed that is
+  -- a counted move does a counted deed
   abbrev AreCounted : (Move → Bool) → (Deed → Bool) → Type 0
   AreCounted p q = (s u : State B) (h : List Deed) (m : Move) → Went ops code s u m → tally (p m) ≤ count_by q (deed_of ops code s h m)
 

@@ -36,7 +36,7 @@ use Rattle.schedule_length.proofs.Counts.{count-in, count-spread, sum-few, sum-l
 use Rattle.schedule_length.proofs.Drains.{is_long_of, long_are_events}
 use Rattle.schedule_length.proofs.Moves.{is_step, is_long}
 
--- no more events are before a step than there are
+-- at most all events come before a step
 few_before : (k : ℕ) (events : List Event) → length (events_before k events) ≤ length events
 few_before k events =
     let all = length-map (filter (λ (e : Event). nat_lt e.step k) events) done_as in
@@ -60,7 +60,7 @@ module _ {B : Type 0} (machine : Machine B) (log : Log) (small : IsSmall machine
   steps_told : (q : Name) → steps_at (fin.get r.state.threads q) ≡ steps_in h q
   steps_told q = told.tells.deeds.buffers.threads.steps q
 
-  -- a thread that has done a step is one of the log's
+  -- a thread that has done a step is one of the log
   named : (q : Name) → 1 ≤ steps_in h q → (path : Path) × (path_under q log.threads ≡ Some path)
   named q some = by (fin.get r.state.threads q) refl
     where
@@ -72,7 +72,7 @@ module _ {B : Type 0} (machine : Machine B) (log : Log) (small : IsSmall machine
       → (path : Path) × (path_under q log.threads ≡ Some path)
   its_step q k a v o i = named q (count-in (is_step_of q) (Did q k a v o) h i (same_self q q refl))
 
-  -- and is counted there
+  -- the deed is counted for that thread
   counted : (of : Name → Deed → Bool) (q : Name) (d : Deed) → ((n : Name) → n ≡ q → of n d ≡ true)
       → (path : Path) × (path_under q log.threads ≡ Some path) → 1 ≤ count_by (λ (t : ThreadPath). of t.name d) log.threads
   counted of q d is there =
@@ -101,7 +101,7 @@ module _ {B : Type 0} (machine : Machine B) (log : Log) (small : IsSmall machine
   a_long (Did q k a v o) i is = absurd (false≢true is)
   a_long (Drained q k c v) i is = counted is_long_of q (Drained q k c v) (λ n same. same_self n q same) (a_drain q k c v i)
 
-  -- a thread of the log is there, and has gone its path
+  -- a thread of the log exists, and has gone its path
   module _ (j : ℕ) (p : ThreadPath) (at : slice_get log.threads j ≡ Some p) where
     record IsThere : Type 0 where
       thread : Thread B
@@ -130,20 +130,20 @@ module _ {B : Type 0} (machine : Machine B) (log : Log) (small : IsSmall machine
     few_events =
         let i = is_there in
         let on = beginnings_on ops code log moves [] r.state (subst (Reproduces ops code log) (sym (append-nil moves)) r) r.leads in
-        let fits = reproduced_fits code ops model bound laws lawful log moves r in
+        let fits = reproduced_fits machine log moves r in
         let are = ap length (deeds_are_events ops code log moves r.state p i.thread lawful fits r.leads on i.here) in
         let long = long_are_events p.name ops.buffered bound code h told.follow in
         let few = few_before i.thread.local.steps (walk_of code log p).events in
         omega (arith, are, long, few)
 
-  -- so there are few steps
+  -- there are few steps
   pub steps_are_few : count_by is_step h ≤ length log.threads * STEPS
   steps_are_few =
       let all = count-spread (λ (t : ThreadPath). is_step_of t.name) is_step h log.threads a_step in
       let few = sum-few (λ (t : ThreadPath). steps_in h t.name) STEPS log.threads few_steps in
       omega (arith, all, few)
 
-  -- and no more signals and drains than the paths have events
+  -- there are at most as many signals and drains as events on the paths
   pub long_are_few : count_by is_long h ≤ sum_by (λ (t : ThreadPath). length (walk_of code log t).events) log.threads
   long_are_few =
       let all = count-spread (λ (t : ThreadPath). is_long_of t.name) is_long h log.threads a_long in

@@ -1,4 +1,4 @@
--- A log's threads and a run's, taken together in the order of their names.
+-- The threads of a log and of a run, merged in the order of their names.
 use Rattle.std.proofs.Common.{◌≡◌, ◌<◌, ◌≤◌, ◌+◌, ℕ, zero, suc, Bool, true, false, cond, ltb, T, List, [], ◌∷◌, length, map, drop, get_or, Option, Some, None, refl, sym, ap, ◌∙◌, subst, arith, inl, inr, bytes_eq}
 use Rattle.std.specs.Prelude.{option_map}
 use Rattle.std.specs.Cmp.{booleans_Decides}
@@ -31,7 +31,7 @@ less_T Less h = refl
 less_T Equal h = absurd h
 less_T Greater h = absurd h
 
--- A path is told by a test.
+-- A test decides whether two paths are the same.
 
 same_path : (q p : Path) → q.outcomes ≡ p.outcomes → q.steps ≡ p.steps → q ≡ p
 same_path q p outcomes steps = λ i. record { outcomes = outcomes i; steps = steps i }
@@ -55,7 +55,7 @@ path_not (Some q) p h e =
     let no : true ≡ false = sym both ∙ h in
     cc
 
--- Logged threads that rise.
+-- Logged threads with rising names.
 
 abbrev rise : List ThreadPath → Bool
 rise ts = rises_from None ts
@@ -80,7 +80,7 @@ equal_name : (m n : Name) → is_eq (by_name m n) ≡ true → m ≡ n
 equal_name m n h = same_name m n (equal_of (by_name m n) h)
 
 module _ {B : Type 0} where
-  -- the path of a name among entries
+  -- the path under a name among entries
   abbrev pub look : Entries B → Name → Option Path
   look es n = option_map path_of (find by_name n es)
 
@@ -104,7 +104,7 @@ module _ {B : Type 0} where
   there_rest p [] h = refl
   there_rest p (q ∷ es) h = there_below p.0 q es (second_T _ _ h) (less_T _ (first_T _ _ (first_T _ _ h)))
 
-  -- the least name whose paths differ
+  -- the least name with different paths
   pub record IsFirst (es : Entries B) (ts : List ThreadPath) (n : Name) : Type 0 where
     pub differs : ¬ (look es n ≡ path_under n ts)
     pub least : (m : Name) → by_name m n ≡ Less → look es m ≡ path_under m ts
@@ -120,7 +120,7 @@ module _ {B : Type 0} where
     least = λ m less. ap (option_map path_of) (fin.get-entries s.threads m) ∙ f.least m less;
   }
 
-  -- Heads of the same name.
+  -- Two first entries with the same name.
 
   at_head : (m : Name) (p : Name × Thread B) (es : Entries B) (t : ThreadPath) (ts : List ThreadPath) → t.name ≡ p.0 → is_eq (by_name m p.0) ≡ true
       → (look (p ∷ es) m ≡ Some (path_of p.1)) × (path_under m (t ∷ ts) ≡ Some t.path)
@@ -158,7 +158,7 @@ module _ {B : Type 0} where
     least = λ m less. goes_on p es t ts e same m (f.least m less);
   }
 
-  -- Heads that differ.
+  -- Two first entries with different names.
 
   head_there : (p : Name × Thread B) (es : Entries B) → look (p ∷ es) p.0 ≡ Some (path_of p.1)
   head_there p es = ap (λ (o : Ordering). option_map path_of (cond (is_eq o) (Some p.1) (find by_name p.0 es))) (itself p.0)
@@ -216,9 +216,9 @@ module _ {B : Type 0} where
       above_at (q ∷ es) zero p k h lt e = subst (λ (r : Name × Thread B). by_name k r.0 ≡ Less) e (less_T _ (first_T _ _ h))
       above_at (q ∷ es) (suc i) p k h lt e = above_at es i p k (second_T _ _ h) (omega arith) e
 
-  -- The loop over what both have.
+  -- The loop over names that both have.
 
-  -- what holds of the rest of both holds of the whole
+  -- what holds for the rest of both holds for the whole
   abbrev pub LeadsTo : State B → List ThreadPath → ℕ → Type 0
   LeadsTo s ts i = (o : Option Name) → FirstOf (drop i (fin.entries s.threads)) (drop i ts) o → FirstOf (fin.entries s.threads) ts o
 
@@ -299,7 +299,7 @@ module _ {B : Type 0} where
         leads (Some m) (moved at.0 at.1 (Some m)
         (other_of m (by_name t.name n) (is_path (path_in s t.name) t.path) refl refl e at.0 at.1 at.2))
 
-  -- What only one of them has.
+  -- Names that only one of them has.
 
   pub only_logged : (s : State B) (ts : List ThreadPath) (i : ℕ) (t : ThreadPath) → length (fin.entries s.threads) ≤ i → i < length ts
       → get_or ts i t ≡ t → rise ts ≡ true → LeadsTo s ts i → FirstOf (fin.entries s.threads) ts (Some t.name)

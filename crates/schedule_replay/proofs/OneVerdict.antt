@@ -48,7 +48,7 @@ module _ {B : Type 0} (ops : BufferOps B) where
     made_first None ms s e = cc
     made_first (Some u) ms s e = (u, refl, e)
 
-    -- two first moves that aren't enabled are one
+    -- two first moves that aren't enabled are the same
     one_stop : (from : State B) (b c : List Move) (m n : Move) (x y : List Move) (s t : State B) (q r : Why) → b ++ m ∷ x ≡ c ++ n ∷ y
         → run_from ops code from b ≡ Some s → run_from ops code from c ≡ Some t → why ops code s m ≡ Some q
         → why ops code t n ≡ Some r → (length b ≡ length c) × (q ≡ r)
@@ -85,7 +85,7 @@ module _ {B : Type 0} (ops : BufferOps B) where
         ∙ stays_none _ stop.after (not_made stop.state stop.move r stop.stops) in
         cc (leads, nowhere)
 
-  -- of two names one is below the other, or they are one
+  -- two names are the same, or one is below the other
   ordered : (m n : Name) (o : Ordering) → slice_cmp nat_cmp m n ≡ o → (slice_cmp nat_cmp m n ≡ Less → ⊥) → (slice_cmp nat_cmp n m ≡ Less → ⊥) → m ≡ n
   ordered m n Less e no_less no_greater = absurd (no_less e)
   ordered m n Equal e no_less no_greater = exact_bytes m n e
@@ -95,7 +95,7 @@ module _ {B : Type 0} (ops : BufferOps B) where
   one_first s log m n f g = ordered m n _ refl (λ lt. f.differs (g.least m lt)) (λ lt. g.differs (f.least n lt))
 
   module _ (code : Code) (s : State B) (log : Log) where
-    -- where the run ends as the log says no other end is had
+    -- a run that ends as the log says ends in no other way
     fails : (o : Option ThreadPath) → IsSomeAnd o (λ t. s.failed ≡ Some t.name) → s.failed ≡ None → ⊥
     fails None h none = h
     fails (Some t) h none = cc
@@ -147,7 +147,7 @@ module _ {B : Type 0} (ops : BufferOps B) where
     one_judgement (verdict.Stops _ _) w f g = absurd f
     one_judgement v (verdict.Stops _ _) f g = absurd g
 
-  -- what a verdict says, where the moves lead to a state
+  -- what a verdict says, given the state to which the moves lead
   pub record Led (code : Code) (log : Log) (moves : List Move) (v : Verdict) : Type 0 where
     pub state : State B
     pub leads : run ops code moves ≡ Some state

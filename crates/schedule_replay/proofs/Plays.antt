@@ -43,13 +43,13 @@ module _ {B : Type 0} (ops : BufferOps B) (code : Code) (moves : List Move) (i :
     stops = e;
   }
 
-  -- and lead on by one that is
+  -- an enabled move leads on
   pub leads_on : (u : State B) → step ops code s m ≡ Some u → run ops code (take (i + 1) moves) ≡ Some u
   leads_on u e =
       ap (run ops code) (take_more moves i m lt ∙ ap (λ x. take i moves ++ x ∷ []) (sym here))
       ∙ run_from-step ops code (opening ops code) s u (take i moves) m leads e
 
-  -- and so they don't reproduce
+  -- moves that stop don't reproduce the log
   pub not_reproduced : (r : Why) → why ops code s m ≡ Some r → (log : Log) → Reproduces ops code log moves → verdict.Stops (i + 1) r ≡ verdict.Reproduces
   not_reproduced r e log reproduces = one_verdict ops code log moves (verdict.Stops (i + 1) r) verdict.Reproduces (stops_here r e) reproduces
 
@@ -57,7 +57,7 @@ module _ {B : Type 0} (ops : BufferOps B) (code : Code) (moves : List Move) (i :
   counts few = counters_below_last ops code (take i moves) s leads (omega (arith, few, taken moves i lt))
 
 module _ {B : Type 0} (ops : BufferOps B) (code : Code) (log : Log) where
-  -- another end is judged so
+  -- a verdict on another end
   pub judged_so : (s : State B) (v : Verdict) → IsVerdictAt ops code s log v → IsJudged ops code s log v
   judged_so s verdict.Reproduces h = absurd h
   judged_so s v h = h
@@ -68,12 +68,12 @@ module _ {B : Type 0} (ops : BufferOps B) (code : Code) (log : Log) where
   verdict_of moves s leads (verdict.Stops _ _) judged = absurd judged
   verdict_of moves s leads v judged = (s, leads, judged)
 
-  -- moves that reproduce are judged so
+  -- moves that reproduce the log get this verdict
   pub only_reproduced : (moves : List Move) (s : State B) → run ops code moves ≡ Some s → Reproduces ops code log moves → (v : Verdict)
       → IsJudged ops code s log v → v ≡ verdict.Reproduces
   only_reproduced moves s leads reproduces v judged = one_verdict ops code log moves v verdict.Reproduces (verdict_of moves s leads v judged) reproduces
 
--- all of the moves were made
+-- all moves were made
 pub all_made : {B : Type 0} (ops : BufferOps B) (code : Code) (moves : List Move) (i : ℕ) (s : State B) → length moves ≤ i
     → run ops code (take i moves) ≡ Some s → run ops code moves ≡ Some s
 all_made ops code moves i s le leads = ap (run ops code) (sym (take_all i moves le)) ∙ leads

@@ -1,4 +1,4 @@
--- A state at which nothing can go on, or something can.
+-- A state in which no move is enabled, or some move is.
 use Rattle.std.proofs.Common.{◌≡◌, ◌∙◌, inl, Bool, true, false, List, length, map, None, IsSome, sym}
 use Rattle.std.specs.Prelude.{◌==◌}
 use Rattle.std.specs.Bool.{MatchBool}
@@ -16,7 +16,7 @@ use Rattle.tc_machine.proofs.Exits.{some_is_left}
 use Rattle.tc_machine.proofs.Listing.{some_is_enabled, none_is_enabled}
 use Rattle.schedule_replay.specs.Verdicts.{GoesOn}
 
--- where some thread is left, by whether a move is listed
+-- if some thread hasn't exited, the state is stuck or goes on, by whether a move is listed
 pub stuck_or_goes_on : {B : Type 0} (ops : BufferOps B) (code : Code) (s : State B) (choices : List Choice)
     → map move_of choices ≡ enabled_moves ops code s → ((m : Move) → IsSome (step ops code s m) → Contains (map move_of choices) m)
     → s.failed ≡ None → all_have_exited s ≡ false → (b : Bool) → b ≡ (length choices == 0) → MatchBool b (IsStuck ops code s) (GoesOn ops code s)

@@ -1,4 +1,4 @@
--- Where no short run fails, no run fails.
+-- If no short run fails, no run fails.
 use Rattle.std.proofs.Common.{◌≡◌, ◌∙◌, ℕ, zero, suc, ◌+◌, ◌<◌, ◌≤◌, ◌==◌, true, List, ◌∷◌, ◌++◌, length}
 use Rattle.std.proofs.Common.{Option, Some, None, refl, sym, ap, subst, arith, true≢false}
 use Rattle.std.specs.Prelude.{option_map}
@@ -39,7 +39,7 @@ use Rattle.short_runs.specs.Short.{HasOutcomesUpTo, IsShort}
 module _ {B : Type 0} (machine : Machine B) (live : Liveness) (closed : IsClosed (machine.code) live) where
   open machine use {ops, model, bound, laws, code, lawful}
 
-  -- what threads have in a state they have in its history
+  -- a bound on outcomes in a state holds in its history
   up_to_told : (k : ℕ) (s : State B) (h : List Deed) → Tells ops model bound laws code s h → HasInState k s → HasOutcomesUpTo code k h
   up_to_told k s h tells few n p is = by (fin.get s.threads n) refl (sym (ap (option_map path_by) (tells.locals n)) ∙ is)
     where
@@ -47,12 +47,12 @@ module _ {B : Type 0} (machine : Machine B) (live : Liveness) (closed : IsClosed
       by None there e = absurd (none-some p e)
       by (Some x) there e = subst (λ q. length q.outcomes ≤ k) (same_Some (path_by x.local) p e) (few n x there)
 
-  -- and what they have in a history they have in its state
+  -- a bound on outcomes in a history holds in its state
   up_to_state : (k : ℕ) (s : State B) (h : List Deed) → Tells ops model bound laws code s h → HasOutcomesUpTo code k h → HasInState k s
   up_to_state k s h tells few n t there =
       few n (path_by t.local) (ap (option_map path_by) (tells.locals n ∙ ap (option_map (λ (x : Thread B). x.local)) there))
 
-  -- a history that fails, and is shorter than so many deeds
+  -- a history that fails, with fewer than `m` deeds
   record Fails (f : Name) (P : List Deed → Type 0) (m : ℕ) : Type 0 where
     deeds : List Deed
     run : AllFollow ops.buffered bound code deeds
@@ -60,20 +60,20 @@ module _ {B : Type 0} (machine : Machine B) (live : Liveness) (closed : IsClosed
     is : P deeds
     few : length deeds < m
 
-  -- a part of a history has no more outcomes than it
+  -- a part of a history has at most as many outcomes
   part_up_to : (k : ℕ) (g h : List Deed) → IsPart code g h → HasOutcomesUpTo code k h → HasOutcomesUpTo code k g
   part_up_to k g h part few n p there =
       let b = part n p there in
       let more = few n b.path b.there in
       omega (arith, more, ap length b.outcomes, length-append p.outcomes b.later)
 
-  -- a history has no more without a turn
+  -- without a turn a history has at most as many outcomes
   turn_up_to : (k : ℕ) (n : Name) (v w : State B) (g h : List Deed) → Tells ops model bound laws code v g → Tells ops model bound laws code w h
       → IsSameBut live n v w → HasOutcomesUpTo code k h → HasOutcomesUpTo code k g
   turn_up_to k n v w g h left whole same few =
       up_to_told k v g left (up_to_same ops code lawful live closed k n v w same (up_to_state k w h whole few))
 
-  -- the run without a pure turn of its deeds, and the states that both lead to
+  -- the run without a pure turn, and the states to which both lead
   record TurnOut (n : Name) (h : List Deed) : Type 0 where
     moves : List Move
     left : State B
@@ -125,11 +125,11 @@ module _ {B : Type 0} (machine : Machine B) (live : Liveness) (closed : IsClosed
         );
       }
 
-  -- P is kept where steps are left out
+  -- removing steps keeps `P`
   module _ (f : Name) (P : List Deed → Type 0) (parts : (g h : List Deed) → IsPart code g h → P h → P g)
       (turns : (n : Name) (v w : State B) (g h : List Deed) → Tells ops model bound laws code v g → Tells ops model bound laws code w h
       → IsSameBut live n v w → P h → P g) (h : List Deed) (all : AllFollow ops.buffered bound code h) (fails : failed_in h ≡ Some f) (p : P h) where
-    -- without a step that nothing needs it is shorter
+    -- without a step that nothing needs the history is shorter
     without_step : (older newer : List Deed) (d : Deed) → h ≡ older ++ d ∷ newer → comes_out d newer ≡ true → Fails f P (length h)
     without_step older newer (Drained n j c v) is out = absurd (true≢false (sym out))
     without_step older newer (Did n j r v o) is out =
@@ -146,7 +146,7 @@ module _ {B : Type 0} (machine : Machine B) (live : Liveness) (closed : IsClosed
           few = omega (arith, ap length is, length-append older (Did n j r v o ∷ newer), length-append older newer);
         }
 
-    -- without a pure turn it is shorter
+    -- without a pure turn the history is shorter
     without_turn : (older turn newer : List Deed) (n : Name) → h ≡ older ++ turn ++ newer → IsPureTurnIn code live n older turn → Fails f P (length h)
     without_turn older turn newer n is turned =
         let x = turn_out h all older turn newer n is turned in
@@ -182,7 +182,7 @@ module _ {B : Type 0} (machine : Machine B) (live : Liveness) (closed : IsClosed
   none_at_all f none h all fails =
       none_below f (λ g. Unit {0}) (λ g i part u. tt) (λ n v w g i left whole same u. tt) (λ g short u. none g short) (length h + 1) h (omega arith) all fails tt
 
-  -- and so it is with deadlocks, of which only turns are left out
+  -- the same for deadlocks, from which only turns are removed
   module _ (P : List Deed → Type 0)
       (turns : (n : Name) (v w : State B) (g h : List Deed) → Tells ops model bound laws code v g → Tells ops model bound laws code w h
       → IsSameBut live n v w → P h → P g)

@@ -1,4 +1,4 @@
--- A pure turn in a history is one of the moves of its deeds.
+-- A pure turn in a history is a pure turn of its moves.
 use Rattle.std.proofs.Common.{◌≡◌, ◌∙◌, ℕ, ℤ, Bool, true, false, ◌||◌, List, [], ◌∷◌, ◌++◌, Option, Some, None, refl, sym, ap, ap₂, subst, true≢false, append_assoc}
 use Rattle.std.specs.Prelude.{option_map, option_and_then}
 use Rattle.std.specs.List.{list_any}
@@ -32,7 +32,7 @@ use Rattle.pure_turns.specs.Turn.{is_pure, asks, IsPureTurn, StepsArePure}
 use Rattle.pure_turns.specs.Turn as turns
 use Rattle.short_runs.specs.Turns.{is_pure_step, IsPureTurnIn}
 
--- a deed is a step of a thread where its move is
+-- a deed is a step of a thread if its move is
 step_as : (bound : Binding) (n : Name) (d : Deed) → turns.is_step_of n (move_for bound d) ≡ is_step_of n d
 step_as bound n (Drained q k c v) = refl
 step_as bound n (Did q k (WakeOne c) v (Some u)) = refl
@@ -44,7 +44,7 @@ steps_as : (bound : Binding) (n : Name) (ds : List Deed) → list_any (turns.is_
 steps_as bound n [] = refl
 steps_as bound n (d ∷ ds) = ap₂ (λ a b. a || b) (step_as bound n d) (steps_as bound n ds)
 
--- the deed of a move among those of some deeds
+-- the deed of a move among some deeds
 record Split (bound : Binding) (ds : List Deed) (older : List Move) (m : Move) : Type 0 where
   before : List Deed
   deed : Deed
@@ -76,7 +76,7 @@ split_at bound (d ∷ ds) (x ∷ older) newer m is =
 module _ {B : Type 0} (machine : Machine B) where
   open machine use {ops, model, bound, laws, code, lawful}
 
-  -- a step that is pure by its deed is pure in the state
+  -- a step that is pure by its deed is pure in its state
   pure_in : (s : State B) (h : List Deed) (a : Tells ops model bound laws code s h) (n : Name) (held : List Bool) (r : Request) (v : ℤ) → AsksOf code r
       → v ≡ taken_in ops.buffered code h n r → is_pure_step held r v ≡ true → is_pure s held r ≡ true
   pure_in s h a n held (Exchange c w) v within took pure = subst (λ x. int_eq w x ≡ true) (took ∙ sym (a.memory.values c within)) pure
@@ -104,7 +104,7 @@ module _ {B : Type 0} (machine : Machine B) where
       (held : List Bool)
       (pure : (before after : List Deed) (k : ℕ) (r : Request) (v : ℤ) (o : Option Name) → turn ≡ before ++ Did n k r v o ∷ after
       → is_pure_step held r v ≡ true) where
-    -- a deed of the turn that is a step of the thread is pure in the state
+    -- a step of the thread in the turn is pure in its state
     pure_at : (before after : List Deed) (d : Deed) (u : State B) → turn ≡ before ++ d ∷ after → run_from ops code a.state (moves_for bound before) ≡ Some u
         → is_step_of n d ≡ true → option_map_or (is_pure u held) (asks ops code u n) false ≡ true
     pure_at before after (Drained q k c v) u is leads by = absurd (true≢false (sym by))

@@ -21,14 +21,14 @@ use Rattle.tc_base.specs.declared.request.Request.TheVariants.{Read, Write, Exch
 use Rattle.tc_code.specs.declared.instr.Instr.{Instr}
 use Rattle.tc_code.specs.Code.{Code}
 use Rattle.tc_code.specs.Run.{run}
-use Rattle.tc_code.specs.Step.{perform, woken, opening}
+use Rattle.tc_code.specs.Step.{perform, state_after_wake, opening}
 use Rattle.tc_code.specs.Step as machine
 use Rattle.run_laws.proofs.Basics.{by_bool}
 use Rattle.run_laws.proofs.Names.{same_self, is_same, same_or_apart, same_other}
 use Rattle.store_buffers.specs.Pending.{Pending, Store, Bar as barred, Binding, waits, has_bar, form_of}
 use Rattle.store_buffers.specs.Laws.{Laws}
 use Rattle.run_history.specs.History.{Deed, Did, Drained, Issue, same, issue_of, drains, has_drained, pending_issues, pending}
-use Rattle.run_history.specs.History.{did, woke, drained, taken, created_by, history}
+use Rattle.run_history.specs.History.{did, woke, drained, value_taken, created_by, history}
 use Rattle.run_history.specs.Told.{reaches}
 use Rattle.run_history.proofs.Lists.{filter_map-push}
 use Rattle.run_history.proofs.Threads.{number_is}
@@ -70,7 +70,7 @@ filter-swap : {X : Type 0} (p q : X → Bool) (xs : List X) → filter q (filter
 filter-swap p q xs =
     sym (filter-twice p q (λ x. p x && q x) xs (λ x. refl)) ∙ filter-twice q p (λ x. p x && q x) xs (λ x. swapped (p x) (q x))
 
--- What a thread has issued.
+-- The issues of a thread.
 
 undrained : List Deed → Name → Issue → Bool
 undrained h q i = not (has_drained h q i.number)
@@ -106,7 +106,7 @@ stores_of q is = filter_map (stored_of q) is
 abbrev pub is_of : Name → Stored → Bool
 is_of q w = same q w.thread
 
--- the stores of a thread that wait are those that it issued and that are pending
+-- the waiting stores of a thread are its pending issues
 abbrev pub WaitsAs : Bool → List Deed → Name → List Stored → Type 0
 WaitsAs buffered h q ws = filter (is_of q) ws ≡ stores_of q (pending_issues buffered h q)
 
@@ -154,7 +154,7 @@ waits-step buffered h q n k r v o ws none is =
     ∙ sym (filter_map-append (stored_of q) (filter (λ i. not (drains q i.number (Did n k r v o))) (pending_issues buffered h q)) (filter now more))
     ∙ ap (stores_of q) (sym (pending-push buffered h (Did n k r v o) q))
 
--- a bar is no store
+-- a bar isn't a store
 bars_store_nothing : (q : Name) (k : ℕ) (b : Bool) (test : Issue → Bool)
     → stores_of q (filter test (cons_option (if b then Some (record { number = k; what = barred }) else None) [])) ≡ []
 bars_store_nothing q k true test = by_bool (λ c. stores_of q (cond c (record { number = k; what = barred } ∷ []) []) ≡ []) (test (record {
@@ -226,7 +226,7 @@ module _ {B : Type 0} (ops : BufferOps B) (model : Model) (bound : Binding) (law
       by_bool (λ b. written s.memory (if b then None else Some (record { cell = c; value = v }))
       ≡ (if b
       then machine.with_thread s n (record { local = machine.local_after t.local i (pos 0); buffer = ops.issue t.buffer c v })
-      else record (machine.did ops s n t i) { memory = slice_set s.memory c v }).memory) ops.buffered refl refl
+      else record (machine.state_after_step ops s n t i) { memory = slice_set s.memory c v }).memory) ops.buffered refl refl
   performed_memory s n t i (Read c) = refl
   performed_memory s n t i r = refl
 
@@ -251,16 +251,16 @@ module _ {B : Type 0} (ops : BufferOps B) (model : Model) (bound : Binding) (law
     ran = λ s h n t i r reached going here at asks allowed p.
         seen_by s (perform ops code s n t i r) h (did ops code s n t r) p (performed_memory s n t i r)
         ((keeps_buffers ops model bound laws code).ran s h n t i r reached going here at asks allowed p.buffers)
-        (λ q. waits-did ops.buffered h q n t.local.steps r (taken ops code s t r) (created_by ops code n t.local r) (seen_in ops.buffered code h).waiting
+        (λ q. waits-did ops.buffered h q n t.local.steps r (value_taken ops code s t r) (created_by ops code n t.local r) (seen_in ops.buffered code h).waiting
         (fresh s h n t here p) (p.waits q));
     waked = λ s h n w t c reached going here at empty waits p.
-        seen_by s (woken ops s n w t c) h (woke ops code n w t (WakeOne c)) p refl
+        seen_by s (state_after_wake ops s n w t c) h (woke ops code n w t (WakeOne c)) p refl
         ((keeps_buffers ops model bound laws code).waked s h n w t c reached going here at empty waits p.buffers)
         (λ q. waits-did ops.buffered h q n t.local.steps (WakeOne c) (pos 0) (Some w) (seen_in ops.buffered code h).waiting
         (fresh s h n t here p) (p.waits q));
     flushed = λ s h n t form reached going here may p.
         let d = drained ops code h n (ops.drain t.buffer form).entry in
-        seen_by s (machine.drained ops s n t form) h d p refl
+        seen_by s (machine.state_after_drain ops s n t form) h d p refl
         ((keeps_buffers ops model bound laws code).flushed s h n t form reached going here may p.buffers)
         (λ q. waits-drained ops.buffered h q n _ _ _ (seen_in ops.buffered code h).waiting (p.waits q));
   }
@@ -272,18 +272,18 @@ module _ {B : Type 0} (ops : BufferOps B) (model : Model) (bound : Binding) (law
   pub seen_is : (ms : List Move) (s : State B) → run ops code ms ≡ Some s → SeenIs s (history ops code ms)
   seen_is ms s leads = holds_after ops code SeenIs keeps_seen opening_seen ms s leads
 
-  -- so deeds determine the value that a request takes
+  -- the deeds determine the value that a request takes
   pub taken_is : (s : State B) (h : List Deed) (t : Thread B) (r : Request) → SeenIs s h
-      → taken ops code s t r ≡ taken_by ops (seen_in ops.buffered code h).memory t r
+      → value_taken ops code s t r ≡ taken_by ops (seen_in ops.buffered code h).memory t r
   taken_is s h t r p = by r ∙ ap (λ memory. taken_by ops memory t r) (sym p.memory)
     where
-      by : (r : Request) → taken ops code s t r ≡ taken_by ops s.memory t r
+      by : (r : Request) → value_taken ops code s t r ≡ taken_by ops s.memory t r
       by (Read c) = refl
       by (Exchange c v) = refl
       by (CompareExchange c e v) = refl
       by r = refl
 
--- Which of a thread's stores drains.
+-- Which store of a thread drains.
 
 form_none : (b : Bool) (c : ℕ) → (if b then None else Some c) ≡ None → b ≡ true
 form_none true c e = refl
@@ -312,7 +312,7 @@ first_own : (n : Name) (form : Option ℕ) (ws : List Stored) → first_by n for
 first_own n form [] = refl
 first_own n form (w ∷ ws) = first_own_by n form w ws _ refl (first_own n form ws)
 
--- a store for which no other needs to wait doesn't drain by the form of a newer one
+-- a store that needn't wait doesn't drain in the form of a newer one
 module _ (bound : Binding) (same_cell : (barred : Bool) → bound true barred ≡ true) (bars : bound false true ≡ true) where
   bound_all : bound false false ≡ true → (cell bar : Bool) → bound cell bar ≡ false → ⊥
   bound_all all true bar free = false≢true (sym free ∙ same_cell bar)
@@ -359,7 +359,7 @@ module _ (bound : Binding) (same_cell : (barred : Bool) → bound true barred �
       ∙ ap (λ b. if b then Some w else first_by n form (stores_of n newer)) (by_itself form e.cell is)
 
 module _ {B : Type 0} (ops : BufferOps B) (model : Model) (bound : Binding) (laws : Laws ops model bound) (code : Code) where
-  -- the first of a thread's stores that drains by a form is the one that does
+  -- the first of a thread's stores that drains in a form is the one that does
   pub first_drains : (s : State B) (h : List Deed) (n : Name) (t : Thread B) (form : Option ℕ) → SeenIs ops model bound laws code s h
       → fin.get s.threads n ≡ Some t → ops.may_drain t.buffer form ≡ true
       → IsSomeAnd (first_by n form (seen_in ops.buffered code h).waiting)
@@ -377,5 +377,5 @@ module _ {B : Type 0} (ops : BufferOps B) (model : Model) (bound : Binding) (law
       ∙ not_yet bound laws.same_cell laws.barred n form some.store.cell split.older (split.at ∷ split.newer) some.drains.by_form free
       ∙ first_is bound laws.same_cell laws.barred n form split.at some.store split.newer some.drains.by_form split.what in
       subst (λ o. IsSomeAnd o (λ w. drained ops code h n (ops.drain t.buffer form).entry ≡ Drained w.thread w.number w.cell w.value)) (sym first)
-      (deed_is ops model bound laws code s (machine.drained ops s n t form) h n t form here refl some.older some.store some.newer some.drains.is_free out
+      (deed_is ops model bound laws code s (machine.state_after_drain ops s n t form) h n t form here refl some.older some.store some.newer some.drains.is_free out
       p.buffers split)

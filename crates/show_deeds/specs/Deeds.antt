@@ -1,4 +1,4 @@
--- Deeds as values, and as histories have them.
+-- Deeds as plain values, and as histories hold them.
 use Rattle.tc_base.specs.Names.{Name}
 use Rattle.run_history.specs.History as plain
 use Rattle.show_deeds.specs.declared.deed.Deed.{Deed}

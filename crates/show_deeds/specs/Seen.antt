@@ -1,4 +1,4 @@
--- Memory after deeds, and the stores that wait in buffers.
+-- Memory after some deeds, and the stores that wait in buffers.
 use Rattle.std.specs.Prelude.{ℕ, ◌==◌, ℤ, pos, Bool, true, not, ◌&&◌, List, [], ◌∷◌, ◌++◌, Option, Some, None}
 use Rattle.std.specs.Prelude.{slice_set, slice_index_or, unwrap_or, fold, bytes_eq, if◌then◌else◌}
 use Rattle.std.specs.List.{filter}
@@ -26,11 +26,12 @@ abbrev pub written : List ℤ → Option Entry → List ℤ
 written memory None = memory
 written memory (Some e) = slice_set memory e.cell e.value
 
--- whether it isn't the store of a thread's step with that number
+-- whether a stored entry is not the store of this step of the thread
 abbrev pub is_other : Name → ℕ → Stored → Bool
 is_other n k s = not (bytes_eq s.thread n && s.number == k)
 
--- the stores that wait after a deed: one that it issues is added, one that drains is taken out
+-- the stores that wait after a deed: a store that it issues is added, and one that drains is
+-- removed
 abbrev pub waiting_after : Bool → List Stored → Deed → List Stored
 waiting_after buffered ws (Did n k (Write c v) took other) =
     if buffered then ws ++ record { thread = n; number = k; cell = c; value = v } ∷ [] else ws
@@ -43,12 +44,12 @@ seen_after buffered s d = record { memory = written s.memory (reaches buffered d
 abbrev pub seen_in : Bool → Code → List Deed → Seen
 seen_in buffered code h = fold (seen_after buffered) (at_start code) h
 
--- whether a store to a cell drains by a form
+-- whether a store to this cell drains in this form
 abbrev pub is_by : Option ℕ → ℕ → Bool
 is_by None c = true
 is_by (Some only) c = c == only
 
--- the first of a thread's stores that drains by a form
+-- the first of a thread's stores that drains in this form
 abbrev pub first_by : Name → Option ℕ → List Stored → Option Stored
 first_by n form [] = None
 first_by n form (w ∷ ws) = if bytes_eq w.thread n && is_by form w.cell then Some w else first_by n form ws

@@ -13,13 +13,13 @@ ghost use Rattle.store_buffers.specs.Pending.{Binding};
 ghost use Rattle.run_history.specs.History.{Drained, drained, history};
 ghost use Rattle.show_deeds.specs.Seen.{seen_in, first_by};
 
-/// Memory is what the deeds of the history make of it.
+/// Memory is as the deeds of the history leave it.
 pub fn memory_is_seen<B>()
     ensures { (ops : BufferOps B) (model : Model) (bound : Binding) (code : Code) (moves : List Move) (s : State B)
         → Laws ops model bound → run ops code moves ≡ Some s → (seen_in ops.buffered code (history ops code moves)).memory ≡ s.memory }
 {}
 
-/// A drain takes the first of a thread's stores that wait which drains by its form.
+/// A drain takes the first of a thread's waiting stores that drains in its form.
 pub fn first_drains<B>()
     ensures { (ops : BufferOps B) (model : Model) (bound : Binding) (code : Code) (moves : List Move) (s : State B) (n : Name) (t : Thread B)
         (form : Option ℕ) → Laws ops model bound → run ops code moves ≡ Some s → fin.get s.threads n ≡ Some t → ops.may_drain t.buffer form ≡ true

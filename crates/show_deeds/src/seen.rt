@@ -1,4 +1,4 @@
-//! Memory and the stores that wait, after deeds.
+//! Memory and the stores that wait, after some deeds.
 ghost use Rattle.std.specs.Prelude.{◌≡◌, [], IfOk, OnOk, OnErr, option_map, pos, slice_index_or, slice_set};
 ghost use Rattle.std.specs.List.{filter};
 ghost use Rattle.show_deeds.specs.Deeds.{plain_deed};
@@ -14,7 +14,7 @@ use tc_base::{Request, ThreadName};
 use tc_code::Code;
 use tc_threads::Thread;
 
-/// Memory after deeds, and the stores that wait in buffers, oldest first.
+/// Memory after some deeds, and the stores that wait in buffers, oldest first.
 #[derive(Drop)]
 pub struct Seen {
     memory: Vec<i32>,
@@ -30,7 +30,7 @@ impl Model for Seen {
 }
 
 impl Seen {
-    /// Before any deed.
+    /// The state before any deed.
     pub fn at_start(alloc: Global, code: &Code) -> Result<Seen, AllocError>
         ensures { IfOk result (λ s. s ≡ spec.at_start code.now) }
     {
@@ -94,7 +94,7 @@ impl Seen {
         None
     }
 
-    /// Takes in a deed, given whether there are buffers.
+    /// Records a deed, given whether there are buffers.
     pub fn take(&mut self, buffered: bool, deed: &Deed) -> Result<(), AllocError>
         ensures ok { OnOk result (self.new ≡ seen_after buffered self.old (plain_deed deed.now)) }
         ensures err { OnErr result (self.new ≡ self.old) }
@@ -109,7 +109,7 @@ impl Seen {
         }
     }
 
-    /// Takes in a step.
+    /// Records a step.
     fn take_step(&mut self, buffered: bool, step: &Step) -> Result<(), AllocError>
         ensures ok { OnOk result (self.new ≡ seen_after buffered self.old (plain_deed (deed.Did step.now))) }
         ensures err { OnErr result (self.new ≡ self.old) }
@@ -138,7 +138,7 @@ impl Seen {
         Ok(())
     }
 
-    /// A cell of memory takes a value.
+    /// Sets the value of a cell in memory.
     fn put(&mut self, cell: u32, value: i32)
         ensures { self.new ≡ record self.old { memory = slice_set self.old.memory cell value } }
     {
@@ -147,7 +147,7 @@ impl Seen {
         }
     }
 
-    /// Takes out the store of a thread's step with that number, which waits no longer.
+    /// Removes the store of this step of the thread, which waits no longer.
     fn remove(&mut self, thread: &ThreadName, number: u32)
         ensures { self.new ≡ record self.old { waiting = filter (is_other thread.now number) self.old.waiting } }
     {
@@ -155,21 +155,21 @@ impl Seen {
     }
 }
 
-/// Takes out the store of a thread's step with that number.
+/// Removes the store of this step of the thread from a list.
 fn keep_others(waiting: &mut Vec<Stored>, thread: &ThreadName, number: u32)
     ensures { waiting.new.items ≡ filter (is_other thread.now number) waiting.old.items }
 {
     waiting.retain(|other| is_other(other, thread, number));
 }
 
-/// Whether it isn't the store of a thread's step with that number.
+/// Whether a stored entry is not the store of this step of the thread.
 fn is_other(stored: &Stored, thread: &ThreadName, number: u32) -> bool
     ensures { result ≡ is_other thread.now number stored.now }
 {
     !(stored.thread == *thread && stored.number == number)
 }
 
-/// Whether a store to a cell drains by a form.
+/// Whether a store to this cell drains in this form.
 fn is_by(form: Option<u32>, cell: u32) -> bool
     ensures { result ≡ spec.is_by form cell }
 {

@@ -11,10 +11,10 @@ use show_rows::{End, Told};
 use show_words::{Counts, Program, counts_of, end_words, folded_words, row_words};
 use std::alloc::{AllocError, Global};
 
-/// The page of a schedule's moves: a lane for each thread, time downwards, an arrow from the store
-/// to each load that took its value and from each store's issue to its drain, the program with the
-/// line of each thread, and memory, buffers, mutexes and threads after the selected move. `name` is
-/// the program's name in the title.
+/// The page of a schedule's moves. It has a lane for each thread, with time downwards, and an arrow
+/// from the store to each load that took its value and from each store's issue to its drain. It
+/// also has the program with the line of each thread, and memory, buffers, mutexes and threads
+/// after the selected move. `name` is the program's name in the title.
 pub fn schedule_page(
     alloc: Global,
     name: &str,

@@ -22,7 +22,7 @@ use Rattle.run_laws.proofs.Basics.{some_value}
 use Rattle.run_laws.proofs.Steps.{Went, step_went}
 use Rattle.store_buffers.specs.Pending.{Binding}
 use Rattle.store_buffers.specs.Laws.{Laws}
-use Rattle.run_history.specs.History.{Deed, Did, Drained, history, deed_of, did, woke, drained, taken, created_by, by_instr}
+use Rattle.run_history.specs.History.{Deed, Did, Drained, history, deed_of, did, woke, drained, value_taken, created_by, by_instr}
 use Rattle.run_history.specs.Locals.{locals_in}
 use Rattle.run_history.proofs.Frame.{holds_after}
 use Rattle.run_history.proofs.Locals.{LocalsAre, keeps_locals, opening_locals}
@@ -40,7 +40,7 @@ use Rattle.show_rows.specs.declared.telling.Telling.{Telling}
 use Rattle.show_rows.specs.helpers.SoFar.{IsSoFar}
 
 module _ {B : Type 0} (ops : BufferOps B) (code : Code) (s : State B) where
-  -- how an enabled move goes
+  -- an enabled move has its kind
   pub goes : (m : Move) → IsSome (step ops code s m) → (u : State B) × Went ops code s u m
   goes m enabled = let one = some_value (step ops code s m) enabled in (one.0, step_went ops code s one.0 m one.1)
 
@@ -72,7 +72,7 @@ doer_first (deed.Did s) = refl
 doer_first (deed.Drained s) = refl
 
 module _ {B : Type 0} (ops : BufferOps B) (code : Code) (s : State B) (h : List Deed) (d : AnyDeed) where
-  -- what is known of a thread's name is known of the deed's
+  -- a thread whose name is known is the thread of the deed
   there_by : (n : Name) (t : Thread B) (ds : List Deed) → fin.get s.threads n ≡ Some t → ds ≡ plain_deed d ∷ [] → first_doer ds ≡ n
       → fin.get s.threads (doer d) ≡ Some t
   there_by n t ds there does first = ap (fin.get s.threads) (sym (doer_first d) ∙ sym (ap first_doer does) ∙ first) ∙ there
@@ -99,10 +99,10 @@ module _ {B : Type 0} (ops : BufferOps B) (model : Model) (bound : Binding) (law
   seen_so = subst (SeenIs ops model bound laws code s) (sym so.told) (seen_is ops model bound laws code so.made s so.leads)
 
   -- the value that a request takes
-  pub taken_so : (thread : Thread B) (r : Request) → taken ops code s thread r ≡ taken_by ops t.seen.memory thread r
+  pub taken_so : (thread : Thread B) (r : Request) → value_taken ops code s thread r ≡ taken_by ops t.seen.memory thread r
   taken_so thread r = taken_is ops model bound laws code s told thread r seen_so ∙ ap (λ (x : Seen). taken_by ops x.memory thread r) (sym so.sees)
 
-  -- which store drains
+  -- the store that drains
   pub drains_so : (n : Name) (thread : Thread B) (form : Option ℕ) → fin.get s.threads n ≡ Some thread → ops.may_drain thread.buffer form ≡ true
       → IsSomeAnd (first_by n form t.seen.waiting) (λ w. drained ops code told n (ops.drain thread.buffer form).entry ≡ Drained w.thread w.number w.cell w.value)
   drains_so n thread form there may =
@@ -130,20 +130,20 @@ module _ {B : Type 0} (ops : BufferOps B) (model : Model) (bound : Binding) (law
   pub reached : IsReached ops code s
   reached = record { moves = so.made; leads = so.leads }
 
-  -- a run move makes a step of these parts
+  -- a run move makes a step with these parts
   pub run_gives : (n : Name) (thread : Thread B) (i : Instr) → fin.get s.threads n ≡ Some thread → instr_of code thread.local ≡ Some i
       → (m : Name) (k : ℕ) (r : Request) (v : ℤ) (o : Option Name) → m ≡ n → k ≡ thread.local.steps → r ≡ request thread.local i
       → v ≡ taken_by ops t.seen.memory thread r → o ≡ created_by ops code n thread.local r
       → deed_of ops code s told (move.Run n) ≡ Did m k r v o ∷ []
   run_gives n thread i there at m k r v o em ek er ev eo =
       run_does ops code s told n thread there i at
-      ∙ ap (λ (x : Request). Did n thread.local.steps x (taken ops code s thread x) (created_by ops code n thread.local x) ∷ []) (sym er)
+      ∙ ap (λ (x : Request). Did n thread.local.steps x (value_taken ops code s thread x) (created_by ops code n thread.local x) ∷ []) (sym er)
       ∙ ap (λ x. Did n thread.local.steps r x (created_by ops code n thread.local r) ∷ []) (taken_so thread r ∙ sym ev)
       ∙ ap (λ x. Did n thread.local.steps r v x ∷ []) (sym eo)
       ∙ ap (λ x. Did n x r v o ∷ []) (sym ek)
       ∙ ap (λ (x : Name). Did x k r v o ∷ []) (sym em)
 
-  -- a thread has what its function may name
+  -- a thread has everything that its function may name
   pub whole_so : IsLawful code → (n : Name) (thread : Thread B) → fin.get s.threads n ≡ Some thread → IsWholeThread code thread.local
   whole_so lawful n thread there = (reached_is_whole ops code s lawful reached).threads n thread there
 

@@ -26,13 +26,13 @@ abbrev pub WasAt : Code → List Deed → Row → Type 0
 WasAt code h r =
     IsSomeAnd (fin.get (locals_in code h) (doer r.deed)) (λ t. (t.function ≡ r.function) × (t.instruction ≡ r.instruction) × (t.slots ≡ r.slots.items))
 
--- the same of each row, by the deeds before it
+-- the same for each row, given the deeds before it
 abbrev pub WereAt : Code → List Deed → List Row → Type 0
 WereAt code h [] = Unit {0}
 WereAt code h (r ∷ rs) = WasAt code h r × WereAt code (h ++ plain_deed r.deed ∷ []) rs
 
 module _ {B : Type 0} (ops : BufferOps B) (code : Code) where
-  -- some move could go on
+  -- some move is enabled
   abbrev pub MayGoOn : State B → Type 0
   MayGoOn s = (s.failed ≡ None) × ((m : Move) × IsSome (step ops code s m))
 

@@ -30,7 +30,7 @@ pub(crate) struct Telling {
 }
 
 impl Telling {
-    /// Before any move.
+    /// The state before any move.
     pub(crate) fn new(alloc: Global, code: &Code) -> Result<Telling, AllocError>
         ensures rows { IfOk result (λ t. t.rows.items ≡ []) }
         ensures seen { IfOk result (λ t. t.seen ≡ at_start code.now) }
@@ -49,7 +49,7 @@ impl Telling {
         rows
     }
 
-    /// Takes in a row, given whether there are buffers.
+    /// Records a row, given whether there are buffers.
     pub(crate) fn take(&mut self, buffered: bool, row: Row) -> Result<(), AllocError>
         ensures rows { OnOk result (self.new.rows.items ≡ self.old.rows.items ++ row ∷ []) }
         ensures seen { OnOk result (self.new.seen ≡ seen_after buffered self.old.seen (plain_deed row.deed)) }

@@ -9,11 +9,11 @@ use tc_base::{Request, ThreadName};
 /// What a thread waits for.
 #[derive(Drop)]
 pub enum Waits {
-    /// For a mutex, with the thread that holds it.
+    /// A mutex, and the thread that holds it.
     Mutex(u32, ThreadName),
-    /// For a signal on a condition.
+    /// A signal on a condition.
     Signal(u32),
-    /// For the end of a child.
+    /// The end of a child.
     Exit(ThreadName),
 }
 

@@ -20,7 +20,7 @@ pub(crate) struct Woken {
 }
 
 impl Wakes {
-    /// Before any row.
+    /// The state before any row.
     pub(crate) fn new(alloc: Global) -> Wakes {
         Wakes {
             sleepers: BTreeMap::new(alloc),
@@ -33,7 +33,7 @@ impl Wakes {
         self.sleepers.contains_key(name)
     }
 
-    /// Takes in the deed of the row at a place.
+    /// Records the deed of the row at a place.
     pub(crate) fn take(
         &mut self,
         alloc: Global,
@@ -46,7 +46,7 @@ impl Wakes {
         }
     }
 
-    /// Takes in a step.
+    /// Records a step.
     fn take_step(&mut self, alloc: Global, place: usize, step: &Step) -> Result<Woken, AllocError> {
         let mut woken = Woken::nobody(alloc);
         match step.asks {
@@ -77,7 +77,7 @@ impl Wakes {
 }
 
 impl Woken {
-    /// Nobody.
+    /// No thread sleeps or is woken.
     fn nobody(alloc: Global) -> Woken {
         Woken {
             wakes: Vec::new(alloc),

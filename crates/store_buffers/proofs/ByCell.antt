@@ -1,4 +1,4 @@
--- A `BTreeMap` by cell, seen as a segment.
+-- A `BTreeMap` by cell, as a segment.
 use Rattle.std.proofs.Common.{
   ◌≡◌,
   ◌==◌,
@@ -91,7 +91,7 @@ get-segment_of es c = get-from_entries nat_cmp_total es c ∙ find-at_cell es c
 pub get_of_entries : (es : Entries) (s : Segment) (c : ℕ) → segment_of es ≡ s → fin.get s c ≡ at_cell es c
 get_of_entries es s c e = ap (λ t. fin.get t c) (sym e) ∙ get-segment_of es c
 
--- entries that differ at one cell make the segment with other values there
+-- changing the entries at one cell changes the segment there
 pub segment_of_update : (es fs : Entries) (c : ℕ) (vs : List ℤ)
     → ((d : ℕ) → at_cell fs d ≡ cond (is_at (nat_cmp c) d) (some_values vs) (at_cell es d)) → segment_of fs ≡ with_values (segment_of es) c vs
 segment_of_update es fs c vs h = same_map nat_cmp_total nat_cmp-IsAntisymmetric _ _ (λ d.
@@ -112,7 +112,7 @@ back_there : {A : Type 0} (b : Bool) (f : ℕ → A) (c d : ℕ) → (d == c) �
 back_there true f c d e = ap f (sym (eqb-true d c e))
 back_there false f c d e = refl
 
--- what is there already is put in without a change
+-- putting in the values that are there changes nothing
 pub with_values-same : (s : Segment) (c : ℕ) → IsTidy s → with_values s c (values_to s c) ≡ s
 with_values-same s c t = same_values _ s (tidy-with_values s c _ t) t (λ d. values-with_values s c (values_to s c) d
     ∙ back_there (d == c) (values_to s) c d refl)
@@ -129,7 +129,7 @@ no_entry-none (e ∷ es) t =
     ∙ ap (λ b. cond b (Some e.1) (at_cell es e.0)) (unsigned_tied e.0 e.0 ∙ nat_eq_equiv.refl e.0)))
     ∙ sym (eqb-suc-zero (length es))
 
--- a test of a number for 0
+-- a test of whether a number is 0
 pub tested : (b : Bool) (n : ℕ) → IsTrue b ↔ (n ≡ 0) → b ≡ (n == 0)
 tested b n h = grind (arith, nat_tests, h)
 
@@ -163,13 +163,13 @@ entry_of : (vs : List ℤ) → is_nil vs ≡ false → some_values vs ≡ Some v
 entry_of [] e = absurd (false≢true (sym e))
 entry_of (v ∷ vs) e = refl
 
--- values that are put in at a cell
+-- values put in at a cell
 pub put_values : (es fs : Entries) (s : Segment) (c : ℕ) (vs : List ℤ) → segment_of es ≡ s → is_nil vs ≡ false
     → ((d : ℕ) → at_cell fs d ≡ cond (is_at (nat_cmp c) d) (Some vs) (at_cell es d)) → segment_of fs ≡ with_values s c vs
 put_values es fs s c vs is some h = segment_of_update es fs c vs
     (λ d. h d ∙ ap (λ o. cond (is_at (nat_cmp c) d) o (at_cell es d)) (sym (entry_of vs some))) ∙ ap (λ t. with_values t c vs) is
 
--- and taken out
+-- values taken out at a cell
 pub out_values : (es fs : Entries) (s : Segment) (c : ℕ) → segment_of es ≡ s
     → ((d : ℕ) → at_cell fs d ≡ cond (is_at (nat_cmp c) d) None (at_cell es d)) → segment_of fs ≡ with_values s c []
 out_values es fs s c is h = segment_of_update es fs c [] h ∙ ap (λ t. with_values t c []) is
@@ -196,7 +196,7 @@ put_front : (c : ℕ) (vs : List ℤ) (es : Entries) → AllByRecursion (λ d. n
 put_front c vs [] h = refl
 put_front c vs (e ∷ es) h = rw h.0 refl
 
--- entries in order are those of the segment that they make
+-- entries in order are those of their segment
 entries-segment_of : (es : Entries) → IsStrictlySortedBy nat_cmp (keys_of es) → entries (segment_of es) ≡ es
 entries-segment_of [] h = nil_from_length _ (sym (len-entries fin.empty) ∙ len-empty nat_cmp (List ℤ))
 entries-segment_of (e ∷ es) h =
@@ -204,6 +204,6 @@ entries-segment_of (e ∷ es) h =
     ∙ ap (put nat_cmp e.0 e.1) (entries-segment_of es (sorted_tail _ e.0 (keys_of es) h))
     ∙ put_front e.0 e.1 es (sorted_head _ e.0 (keys_of es) h)
 
--- and so are their cells
+-- the cells of entries in order are those of their segment
 pub keys-segment_of : (es : Entries) → IsStrictlySortedBy nat_cmp (keys_of es) → fin.keys (segment_of es) ≡ keys_of es
 keys-segment_of es h = ap keys_of (entries-segment_of es h)

@@ -1,4 +1,4 @@
--- The forms by which a buffer may drain.
+-- The forms in which a buffer may drain.
 use Rattle.std.proofs.Common.{
   ◌≡◌,
   ℕ,
@@ -48,7 +48,7 @@ without_stores : (form : Option ℕ) (b : List Entry) → is_nil b ≡ true → 
 without_stores None b e = ap not e
 without_stores (Some c) b e = refl
 
--- an empty queue has none
+-- an empty queue has no form
 pub empty_forms : (b : List Entry) → is_nil b ≡ true → AreForms fifo_buffer b []
 empty_forms b e = no_forms fifo_buffer b (λ form. without_stores form b e)
 
@@ -56,7 +56,7 @@ one : (form : Option ℕ) (b : List Entry) → is_nil b ≡ false → list_any (
 one None b e = sym (ap not e)
 one (Some c) b e = refl
 
--- and another the form without a cell
+-- any other queue has only the form without a cell
 pub queue_forms : (b : List Entry) → is_nil b ≡ false → AreForms fifo_buffer b (None ∷ [])
 unfolding IsStrictlySortedBy
 queue_forms b e = record { rise = (tt, tt); exact = λ form. one form b e }
@@ -98,7 +98,7 @@ same_forms : (now : List Segment) (s : Segment) → ((c : ℕ) → first_values 
 same_forms now s front None = refl
 same_forms now s front (Some c) = ap (λ vs. not (is_nil vs)) (first_values-alone s c ∙ sym (front c))
 
--- and those of all segments where it is the first that isn't empty
+-- if the first values to each cell are those of one segment, its forms are those of the buffer
 pub forms_in_front : (now : List Segment) (s : Segment) (forms : List (Option ℕ)) → ((c : ℕ) → first_values now c ≡ values_to s c)
     → AreForms cell_buffer (s ∷ []) forms → AreForms cell_buffer now forms
 forms_in_front now s forms front f = record { rise = f.rise; exact = λ form. f.exact form ∙ same_forms now s front form }

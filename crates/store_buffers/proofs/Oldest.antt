@@ -11,7 +11,7 @@ use Rattle.store_buffers.specs.Pending.{Pending, Store, Bar, stores, has_bar, Bi
 use Rattle.store_buffers.specs.Laws.{Laws}
 use Rattle.store_buffers.specs.helpers.Lists.{stores-append, first_store, waits_for_none}
 
--- two stores of one form are bound
+-- two stores with the same form are bound
 bound_by_form : (bound : Binding) → ((b : Bool) → bound true b ≡ true) → bound false true ≡ true
     → (c d : ℕ) (b same : Bool) → (d == c) ≡ same → bound same b ≡ false → option_eq nat_eq (form_of bound d) (form_of bound c) ≡ false
 bound_by_form bound one barred c d b true e free = absurd (false≢true (sym free ∙ one b))
@@ -49,7 +49,7 @@ oldest ops model bound ps older newer form e laws d =
     ∙ subst (λ f. stores_by bound f (older ++ Store e ∷ newer) ≡ e ∷ stores_by bound f newer) d.by_form
     (oldest_by bound laws.same_cell laws.barred older newer e d.is_free)
 
--- the oldest store may always drain: where nothing may, none is pending
+-- the oldest store may always drain: if none may, none is pending
 pub nothing_drains : {B : Type 0} (ops : BufferOps B) (model : Model) (bound : Binding) (b : B) (ps : List Pending) → Laws ops model bound → Stands ops b ps
     → ((form : Option ℕ) → ops.may_drain b form ≡ false) → stores ps ≡ []
 nothing_drains ops model bound b ps laws stands none =

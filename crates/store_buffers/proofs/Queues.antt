@@ -1,4 +1,4 @@
--- A queue of stores by their cells.
+-- A queue of stores, by cell.
 use Rattle.std.proofs.Common.{◌≡◌, ◌==◌, cond, Some, None, List, [], ◌∷◌, ◌++◌, drop, ℕ, ℤ, refl, sym, ap, ◌∙◌}
 use Rattle.std.specs.FinMap as fin
 use Rattle.std.specs.List.{last_or}
@@ -21,7 +21,7 @@ tidy : (es : List Entry) → IsTidy (stores_by_cell es)
 tidy [] = tidy-empty
 tidy (e ∷ es) = tidy-with_first e.cell e.value (stores_by_cell es) (tidy es)
 
--- one store more at the end
+-- one more store at the end
 pub by_cell-end : (es : List Entry) (c : ℕ) (v : ℤ)
     → with_values (stores_by_cell es) c (values_to (stores_by_cell es) c ++ v ∷ []) ≡ stores_by_cell (es ++ record { cell = c; value = v } ∷ [])
 by_cell-end [] c v = ap (with_values fin.empty c) (ap (λ us. us ++ v ∷ []) (values-empty c) ∙ sym (ap (λ us. v ∷ us) (values-empty c)))
@@ -34,7 +34,7 @@ by_cell-newest [] c = ap (last_or None) (values-empty c)
 by_cell-newest (e ∷ es) c = forward_behind (stores_by_cell es) None e.cell e.value c _ refl
     ∙ ap (λ o. option_or o (cond (e.cell == c) (Some e.value) None)) (by_cell-newest es c)
 
--- without the oldest of them
+-- the queue without its oldest store
 pub by_cell-rest : (e : Entry) (es : List Entry)
     → with_values (stores_by_cell (e ∷ es)) e.cell (drop 1 (values_to (stores_by_cell (e ∷ es)) e.cell)) ≡ stores_by_cell es
 by_cell-rest e es = ap (λ vs. with_values (stores_by_cell (e ∷ es)) e.cell (drop 1 vs)) (values-with_first-same e.cell e.value (stores_by_cell es))

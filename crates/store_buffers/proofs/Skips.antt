@@ -1,4 +1,4 @@
--- Segments behind empty ones, and a last one.
+-- Segments after empty ones, and the last one.
 use Rattle.std.proofs.Common.{
   ◌≡◌,
   ◌+◌,
@@ -52,7 +52,7 @@ use Rattle.store_buffers.specs.helpers.Segments.{values-empty, no_store-empty, h
 use Rattle.store_buffers.specs.helpers.Segments.{first_values-store, first_values-past, drop_first-store, drop_first-past}
 use Rattle.store_buffers.specs.helpers.Seen.{after_empty, begins_empty, values_in_first, drop_in_first}
 
--- a store goes into the last
+-- a store goes into the last segment
 pub issue-last : (ss : List Segment) (s : Segment) (c : ℕ) (v : ℤ) → issue_last (ss ++ s ∷ []) c v ≡ ss ++ with_values s c (values_to s c ++ v ∷ []) ∷ []
 issue-last [] s c v = refl
 issue-last (t ∷ []) s c v = refl
@@ -81,7 +81,7 @@ drop_first-after (suc n) ss c =
     drop_first-past (after_empty n ss) c
     ∙ ap (λ us. fin.empty ∷ us) (drop_first-after n ss c)
 
--- an empty segment is one more of them
+-- one more empty segment in front
 pub one_more : (n : ℕ) (ss : List Segment) → after_empty (n + 1) ss ≡ after_empty n (fin.empty ∷ ss)
 one_more n ss = ap (λ k. after_empty k ss) (add-one n) ∙ one_behind n ss
   where
@@ -97,11 +97,11 @@ no_values : (s : Segment) (c : ℕ) (b : Bool) → has_no_store s ≡ b → cond
 no_values s c true e = sym (ap (λ t. values_to t c) (empty_is s e) ∙ values-empty c)
 no_values s c false e = refl
 
--- one segment alone counts whether or not it has a store
+-- a single segment counts with or without a store
 pub first_values-alone : (s : Segment) (c : ℕ) → first_values (s ∷ []) c ≡ values_to s c
 first_values-alone s c = no_values s c _ refl
 
--- what a store, a load, a drain and a bar make of them
+-- the segments after a store, a load, a drain and a bar
 pub issued : (n : ℕ) (older : List Segment) (s t : Segment) (now : List Segment) (c : ℕ) (v w : ℤ) → after_empty n (older ++ s ∷ []) ≡ now → w ≡ v
     → t ≡ with_values s c (values_to s c ++ w ∷ []) → after_empty n (older ++ t ∷ []) ≡ issue_last now c v
 issued n older s t now c v w is same put =
@@ -160,12 +160,12 @@ nil_by_len (x ∷ xs) false n len is = refl
 pub length-after : (n : ℕ) (ss : List Segment) → length (after_empty n ss) ≡ n + length ss
 length-after n ss = length-append (replicate n fin.empty) ss ∙ ap (λ k. k + length ss) (length-replicate n fin.empty)
 
--- how many segments there are
+-- the number of segments
 pub segment_count : (n : ℕ) (older : List Segment) (s : Segment) (now : List Segment) → after_empty n (older ++ s ∷ []) ≡ now
     → length now ≡ n + (length older + 1)
 segment_count n older s now is = ap length (sym is) ∙ length-after n (older ++ s ∷ []) ∙ ap (λ k. n + k) (length-append older (s ∷ []))
 
--- a bar behind empty segments alone is one more of them
+-- a bar after only empty segments adds one more
 pub barred_empty : (n : ℕ) (older : List Segment) (s : Segment) (now : List Segment) → after_empty n (older ++ s ∷ []) ≡ now
     → begins_empty older ≡ false → list_all has_no_store now ≡ true → after_empty (n + 1) (older ++ s ∷ []) ≡ now ++ fin.empty ∷ []
 barred_empty n [] s now is begins e =
@@ -177,13 +177,13 @@ barred_empty n [] s now is begins e =
     ∙ ap (λ ss. ss ++ fin.empty ∷ []) is
 barred_empty n (t ∷ older) s now is begins e = absurd (false≢true (sym (all_empty n (t ∷ older) s now is begins) ∙ e))
 
--- segments that aren't all empty begin with a store once the last is among the older ones
+-- segments that aren't all empty begin with a store once the last one is among the older ones
 pub begins_after : (n : ℕ) (older : List Segment) (s : Segment) (now : List Segment) → after_empty n (older ++ s ∷ []) ≡ now
     → begins_empty older ≡ false → list_all has_no_store now ≡ false → begins_empty (older ++ s ∷ []) ≡ false
 begins_after n [] s now is begins e = sym (all_empty n [] s now is refl) ∙ e
 begins_after n (t ∷ older) s now is begins e = begins
 
--- with no older segment the last counts
+-- with no older segment the last one counts
 pub alone_front : (older : List Segment) (s : Segment) (c : ℕ) → older ≡ [] → first_values (older ++ s ∷ []) c ≡ values_to s c
 alone_front older s c none = ap (λ ss. first_values (ss ++ s ∷ []) c) none ∙ first_values-alone s c
 
@@ -208,7 +208,7 @@ pub skipped_len : (ss ts : List Segment) → begins_empty ss ≡ true → ts ≡
 skipped_len [] ts begins is = absurd (false≢true begins)
 skipped_len (s ∷ ss) ts begins is = ap (λ us. length us + 1) is ∙ add-one (length ss)
 
--- a drain from the last segment, which is alone
+-- a drain from the last segment, if there is no other
 pub drained_last : (n : ℕ) (older : List Segment) (s t : Segment) (now : List Segment) (c : ℕ) → after_empty n (older ++ s ∷ []) ≡ now → older ≡ []
     → is_nil (first_values now c) ≡ false → t ≡ with_values s c (drop 1 (values_to s c)) → after_empty n (older ++ t ∷ []) ≡ drop_first now c
 drained_last n older s t now c is none some put =
@@ -219,7 +219,7 @@ drained_last n older s t now c is none some put =
     ∙ sym (ap (λ ss. drop_first ss c) (sym alone) ∙ drop_first-after n (s ∷ []) c
     ∙ ap (after_empty n) (drop_first-store s [] c (has_store s c (sym (ap is_nil values) ∙ some))))
 
--- and one from the first of those before it
+-- a drain from the first of the older segments
 pub drained_older : (n m : ℕ) (older popped new : List Segment) (s : Segment) (now : List Segment) (c : ℕ) → after_empty n (older ++ s ∷ []) ≡ now
     → begins_empty older ≡ false → 0 < length older → popped ≡ drop_in_first older c → after_empty m new ≡ after_empty n popped
     → after_empty m (new ++ s ∷ []) ≡ drop_first now c

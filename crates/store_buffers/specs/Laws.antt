@@ -40,7 +40,7 @@ module _ {B : Type 0} (ops : BufferOps B) where
     -- stores to one cell are bound, and a bar binds: so are stores with a bar between them
     pub same_cell : (barred : Bool) → bound true barred ≡ true
     pub barred : bound false true ≡ true
-    -- a buffer is empty exactly if the list that it stands for has no store
+    -- a buffer is empty exactly if the list that it represents has no store
     pub empty_law : (b : B) (ps : List Pending) → Stands ops b ps → ops.is_empty b ≡ is_nil (stores ps)
     -- a buffer forwards the newest store to the cell
     pub forward_stands : (b : B) (ps : List Pending) (c : ℕ) → Stands ops b ps → ops.forward b c ≡ newest (stores ps) c

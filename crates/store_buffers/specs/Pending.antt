@@ -55,8 +55,8 @@ module _ {B : Type 0} (ops : BufferOps B) where
   put b (Store e) = ops.issue b e.cell e.value
   put b Bar = ops.bar b
 
-  -- a buffer stands for a list if adding that list's stores and bars, in order, to the empty buffer
-  -- makes this buffer; without buffers, the list has no stores
+  -- a buffer represents a list if adding that list's stores and bars, in order, to the empty buffer
+  -- gives this buffer; without buffers, the list has no stores
   pub record Stands (b : B) (ps : List Pending) : Type 0 where
     pub made : b ≡ fold put ops.empty ps
     pub issued : ops.buffered ≡ false → stores ps ≡ []

@@ -17,18 +17,18 @@ pub fn models_have_their_buffers()
     ensures pso { ⟦<PsoModel as MemoryModel>⟧.ops ≡ buffer_of model.Pso }
 {}
 
-/// A buffer without stores stands for the empty list.
+/// A buffer without stores represents the empty list.
 pub fn empty_stands<B>()
     ensures { (ops : BufferOps B) → Stands ops ops.empty [] }
 {}
 
-/// After a store is issued, the buffer stands for the list with that store last.
+/// After a store is issued, the buffer represents the list with that store last.
 pub fn issue_stands<B>()
     ensures { (ops : BufferOps B) (b : B) (ps : List Pending) (c : ℕ) (v : ℤ)
         → ops.buffered ≡ true → Stands ops b ps → Stands ops (ops.issue b c v) (ps ++ Store (record { cell = c; value = v }) ∷ []) }
 {}
 
-/// After a bar, the buffer stands for the list with a bar last.
+/// After a bar, the buffer represents the list with a bar last.
 pub fn bar_stands<B>()
     ensures { (ops : BufferOps B) (b : B) (ps : List Pending)
         → Stands ops b ps → Stands ops (ops.bar b) (ps ++ Bar ∷ []) }

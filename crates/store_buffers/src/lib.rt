@@ -1,7 +1,7 @@
 //! The store buffers of the three memory models, and the trait over which other code is generic.
 //!
 //! A generic caller uses [`MemoryModel`]: its calls compute the operations `ops` on a buffer's
-//! meaning, and the laws say how such a buffer stands for a list of pending stores and bars, oldest
+//! meaning, and the laws say how such a buffer represents a list of pending stores and bars, oldest
 //! first.
 #![tactic(auto)]
 

@@ -1,4 +1,4 @@
--- What the clauses with at most so many switches mean.
+-- What the clauses with a bound on switches mean.
 use Rattle.std.proofs.Common.{◌≡◌, ◌≢◌, ◌∙◌, inl, inr, ℕ, zero, suc, ◌+◌, ◌<◌, ◌≤◌, nat_lt, Bool, true, false, ◌||◌, List, [], ◌∷◌, map, length, Option, Some, None, refl, sym, ap, subst, arith}
 use Rattle.std.specs.Bool.{IsTrue}
 use Rattle.std.specs.Prelude.{if◌then◌else◌, option_map}
@@ -46,7 +46,7 @@ use Rattle.bit_order.proofs.Meaning.{values-say-worlds}
 use Rattle.bit_blast.specs.Blasted.{BlastMeans, IsApart, IsPosed, impossible, layout_of}
 use Rattle.bit_blast.specs.Contended.{contended}
 use Rattle.bit_blast.specs.Laws.{BodyIsTold}
-use Rattle.bit_blast.specs.Whole.{whole}
+use Rattle.bit_blast.specs.Whole.{all_clauses}
 use Rattle.bit_blast.specs.Whole as blast
 use Rattle.bit_blast.proofs.Completed.{completed_events, contended_within, same_part}
 use Rattle.bit_blast.proofs.Posed.{blast_means, formula_in}
@@ -70,12 +70,12 @@ use Rattle.plan_runs.proofs.Runs.{plan_reproduces}
 use Rattle.clap_solve.specs.Solved.{IsWithin}
 use Rattle.clap_solve.proofs.Meaning as solve
 use Rattle.clap_solve.proofs.Ordered.{completed_lawful}
-use Rattle.switch_clauses.specs.Clauses.{asked_of_all, switch_clauses, switched_by}
+use Rattle.switch_clauses.specs.Clauses.{asked_of_all, switch_clauses, clauses_with_levels}
 use Rattle.switch_clauses.proofs.Same.{same_few}
 use Rattle.switch_clauses.proofs.Whole as stands
 use Rattle.path_laws.specs.Setting.{Setting, setting_of}
 
--- a range has its numbers
+-- a range contains its numbers
 range_has : (a n e : ℕ) → a ≤ e → e < a + n → Contains (range_with_len a n) e
 range_has a zero e low high = absurd (omega (arith, low, high))
 range_has a (suc n) e low high =
@@ -84,7 +84,7 @@ range_has a (suc n) e low high =
       | inr other ↦ Contains-append_right (a ∷ []) (range_with_len (a + 1) n) e (range_has (a + 1) n e (omega (arith, low, other)) (omega (arith, high)))
     ]
 
--- what was asked stays asked
+-- a question stays in an order that grows
 still_asked : (o p : Order) (q : Pair) → Grows o p → IsTrue (list_any (same_pair q) o.pairs) → IsTrue (list_any (same_pair q) p.pairs)
 still_asked o p q g asked =
     ap (list_any (same_pair q)) g.pairs.1 ∙ list_any-append (same_pair q) o.pairs g.pairs.0 ∙ ap (λ b. b || list_any (same_pair q) g.pairs.0) asked
@@ -99,7 +99,7 @@ module _ (buffered : Bool) (bound : Binding) (code : Code) (log : Log) (lawful :
   abbrev every : List ℕ
   every = range_with_len 0 s.order.events
 
-  -- the order, asked of every two
+  -- the order that asks about every two events
   abbrev oa : Order
   oa = asked_of_all s.order
 
@@ -183,7 +183,7 @@ module _ (buffered : Bool) (bound : Binding) (code : Code) (log : Log) (lawful :
     within = within_y;
   }
 
-  -- the event that fails is one
+  -- the event that fails is an event of the order
   failing_within : (last : ℕ) → failing_of ps ≡ Some last → last < y.order.events
   failing_within last is = by (find (λ (e : Of Event). is_failure e.it.kind) (all_events ps)) refl is
     where
@@ -198,7 +198,7 @@ module _ (buffered : Bool) (bound : Binding) (code : Code) (log : Log) (lawful :
           omega (arith, less, events_y, same_Some (number_of ps e.thread e.it.step) last number)
 
   abbrev f : Formula
-  f = whole y s.nodes s.formula
+  f = all_clauses y s.nodes s.formula
 
   pub levels_ready : IsReady y (threads_of ps) (failing_of ps) f
   levels_ready = record {
@@ -215,14 +215,15 @@ module _ (buffered : Bool) (bound : Binding) (code : Code) (log : Log) (lawful :
     level_means : LevelsMean y (threads_of ps) (failing_of ps) most f
     level_means = levels_mean y (threads_of ps) (failing_of ps) most f levels_ready
 
-    -- what satisfies the clauses says a world in which the formula is true, of at most so many switches
+    -- values that satisfy the clauses give a world with at most `most` switches in which the
+    -- formula is true
     pub record IsSaid (v : Valuation) : Type 0 where
       pub possible : IsPossible buffered bound code log
       pub world : possible.world ≡ world_of y v
       pub small : All (λ p. p < 256) possible.world.positions
       pub few : world_switches ps possible.world ≤ most
 
-    said : ps.dead ≡ false → (v : Valuation) → IsTrue (satisfies v (switched_by ps s most).clauses) → IsSaid v
+    said : ps.dead ≡ false → (v : Valuation) → IsTrue (satisfies v (clauses_with_levels ps s most).clauses) → IsSaid v
     said lives v all =
         let own = first_part v f.clauses (level_clauses y (threads_of ps) (failing_of ps) (suc f.vars) most) all in
         let m = stands.model y s.nodes s.formula ready v own in
@@ -245,7 +246,7 @@ module _ (buffered : Bool) (bound : Binding) (code : Code) (log : Log) (lawful :
         }
 
     abbrev Satisfied : Valuation → Bool → Type 0
-    Satisfied v dead = IsTrue (satisfies v (if dead then impossible.clauses else switched_by ps s most).clauses)
+    Satisfied v dead = IsTrue (satisfies v (if dead then impossible.clauses else clauses_with_levels ps s most).clauses)
 
     pub says : (v : Valuation) → IsTrue (satisfies v (switch_clauses buffered bound code log most).clauses) → IsSaid v
     says v satisfied = by ps.dead refl satisfied
@@ -254,9 +255,9 @@ module _ (buffered : Bool) (bound : Binding) (code : Code) (log : Log) (lawful :
         by true is never = absurd (false≢true never)
         by false is all = said is v all
 
-    -- and each such world is said so
+    -- each such world comes from such values
     pub is_said : (p : IsPossible buffered bound code log) → IsWorldFor (record { order = s.order; loads = s.symbolic.loads }) p.world
-        → world_switches ps p.world ≤ most → (v : Valuation) × IsTrue (satisfies v (switched_by ps s most).clauses)
+        → world_switches ps p.world ≤ most → (v : Valuation) × IsTrue (satisfies v (clauses_with_levels ps s most).clauses)
     is_said p is few =
         let world_for : IsWorldFor (record { order = oa; loads = s.symbolic.loads }) p.world = record {
           world = is.world;

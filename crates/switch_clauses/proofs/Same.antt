@@ -1,4 +1,4 @@
--- Worlds of one order have the same switches at most.
+-- Worlds with the same order have the same number of switches at most.
 use Rattle.std.proofs.Common.{◌≡◌, ◌∙◌, ℕ, ◌+◌, ◌<◌, ◌≤◌, nat_lt, Bool, true, false, List, length, Option, Some, None, refl, sym, arith}
 use Rattle.std.specs.List.{All}
 use Rattle.std.proofs.lemmas.Bool.{ltb-true}
@@ -11,7 +11,7 @@ module _ (threads : List ℕ) (failing : Option ℕ) (most : ℕ) (w x : World) 
     (long : length threads ≡ length w.positions) (long_too : length threads ≡ length x.positions)
     (there : (last : ℕ) → failing ≡ Some last → last < length threads) (small : All (λ p. p < 256) w.positions)
     (same : (e g : ℕ) → e < length threads → g < length threads → is_before w e g ≡ is_before x e g) where
-  -- what counts in the one counts in the other
+  -- an event that counts in one world counts in the other
   counts_by : (o : Option ℕ) → failing ≡ o → (g : ℕ) → g < length threads → position x g < end_at o x → position w g < end_at o w
   counts_by None none g less counts = All-get_or (λ p. p < 256) w.positions g 0 (omega (arith, less, long)) small
   counts_by (Some last) some g less counts = by (nat_lt (position w last) (position w g)) refl

@@ -1,4 +1,4 @@
--- The clauses of a formula stand on those of its order.
+-- The clauses of a formula extend those of its order.
 use Rattle.std.proofs.Common.{◌≡◌, ◌∙◌, ℕ, ◌<◌, ◌≤◌, true, List, [], ◌∷◌, ℤ, map, refl, arith}
 use Rattle.std.specs.List.{All, list_all, range_with_len}
 use Rattle.std.proofs.lemmas.Bool.{and_from, le-leb}
@@ -22,7 +22,7 @@ use Rattle.bit_ops.specs.Laws.{IsOperand}
 use Rattle.bit_terms.specs.Laws.{HaveInts}
 use Rattle.bit_terms.proofs.Meaning.{terms-mean}
 use Rattle.bit_blast.specs.Laws.{AreRoots}
-use Rattle.bit_blast.specs.Whole.{IsReady, load_words, rooted, termed, whole}
+use Rattle.bit_blast.specs.Whole.{IsReady, load_words, clauses_with_roots, clauses_with_terms, all_clauses}
 use Rattle.bit_blast.proofs.Prefixes.{first_part}
 use Rattle.bit_blast.proofs.WholeLaws.{all_range, all_roots, first_true}
 
@@ -47,29 +47,29 @@ module _ (y : Layout) (nodes : List Node) (formula : List Conjunct) (h : IsReady
       (λ k below. record { literals = literals.load_there k (omega (arith, below)); width = literals.load_wide k }))
 
   abbrev g : Formula
-  g = (termed y nodes).formula
+  g = (clauses_with_terms y nodes).formula
 
   grown : IsExtended (ordered y) g
   grown =
-      let terms : HaveInts nodes (load_words y) (ordered y) (termed y nodes) = terms-mean nodes (load_words y) (ordered y) some h.ints loads in
+      let terms : HaveInts nodes (load_words y) (ordered y) (clauses_with_terms y nodes) = terms-mean nodes (load_words y) (ordered y) some h.ints loads in
       gates-extend (ordered y) g some terms.grown
 
-  roots : AreRoots nodes (world_of y) g (rooted y nodes formula) formula
+  roots : AreRoots nodes (world_of y) g (clauses_with_roots y nodes formula) formula
   roots = all_roots y nodes formula h
 
-  pub over : IsOver (whole y nodes formula)
+  pub over : IsOver (all_clauses y nodes formula)
   over =
-      list_all-append (is_within (whole y nodes formula).vars) (rooted y nodes formula).state.clauses (map (λ l. l ∷ []) (rooted y nodes formula).word)
-      ∙ and_from _ _ (roots.over (grown.over (order.over (base-over y)))) (units_within (whole y nodes formula).vars (rooted y nodes formula).word roots.literals)
+      list_all-append (is_within (all_clauses y nodes formula).vars) (clauses_with_roots y nodes formula).state.clauses (map (λ l. l ∷ []) (clauses_with_roots y nodes formula).word)
+      ∙ and_from _ _ (roots.over (grown.over (order.over (base-over y)))) (units_within (all_clauses y nodes formula).vars (clauses_with_roots y nodes formula).word roots.literals)
 
-  pub more : (ordered y).vars ≤ (whole y nodes formula).vars
+  pub more : (ordered y).vars ≤ (all_clauses y nodes formula).vars
   more = omega (arith, grown.more, roots.more)
 
-  first : (v : Valuation) → satisfies v (whole y nodes formula).clauses ≡ true → satisfies v (rooted y nodes formula).state.clauses ≡ true
-  first v all = first_part v (rooted y nodes formula).state.clauses (map (λ l. l ∷ []) (rooted y nodes formula).word) all
+  first : (v : Valuation) → satisfies v (all_clauses y nodes formula).clauses ≡ true → satisfies v (clauses_with_roots y nodes formula).state.clauses ≡ true
+  first v all = first_part v (clauses_with_roots y nodes formula).state.clauses (map (λ l. l ∷ []) (clauses_with_roots y nodes formula).word) all
 
-  pub before : (v : Valuation) → IsModel v (whole y nodes formula) → IsModel v (ordered y)
+  pub before : (v : Valuation) → IsModel v (all_clauses y nodes formula) → IsModel v (ordered y)
   before v m = grown.before v (roots.before v (record { one = m.one; all = first v m.all }))
 
-  pub model : (v : Valuation) → satisfies v (whole y nodes formula).clauses ≡ true → IsModel v (whole y nodes formula)
+  pub model : (v : Valuation) → satisfies v (all_clauses y nodes formula).clauses ≡ true → IsModel v (all_clauses y nodes formula)
   model v all = record { one = first_true y nodes formula h v (first v all); all = all }

@@ -9,7 +9,7 @@ use Rattle.order_formula.specs.Orders.{Order}
 use Rattle.cnf_core.specs.Clauses.{Formula}
 use Rattle.bit_order.specs.Comparators.{completed}
 use Rattle.bit_blast.specs.Blasted.{Blasted, blast, impossible}
-use Rattle.switch_order.specs.Levels.{levelled}
+use Rattle.switch_order.specs.Levels.{with_levels}
 use Rattle.switch_runs.specs.Worlds.{failing_of, threads_of}
 use Rattle.clap_system.specs.Systems.{System, system_of}
 
@@ -18,14 +18,14 @@ abbrev pub asked_of_all : Order → Order
 asked_of_all o = completed o (range_with_len 0 o.events)
 
 -- a system as clauses over such an order
-abbrev pub asked_by : System → Blasted
-asked_by s = blast s.nodes s.formula (asked_of_all s.order) s.symbolic.loads
+abbrev pub clauses_over_all_pairs : System → Blasted
+clauses_over_all_pairs s = blast s.nodes s.formula (asked_of_all s.order) s.symbolic.loads
 
 -- the same with levels up to `most`
-abbrev pub switched_by : Paths → System → ℕ → Formula
-switched_by paths s most = levelled (asked_by s).layout (threads_of paths) (failing_of paths) most (asked_by s).clauses
+abbrev pub clauses_with_levels : Paths → System → ℕ → Formula
+clauses_with_levels paths s most = with_levels (clauses_over_all_pairs s).layout (threads_of paths) (failing_of paths) most (clauses_over_all_pairs s).clauses
 
 -- the clauses of the log's system, or an impossible formula if the paths are dead
 abbrev pub switch_clauses : Bool → Binding → Code → Log → ℕ → Formula
 switch_clauses buffered bound code log most =
-    if (paths_of code log).dead then impossible.clauses else switched_by (paths_of code log) (system_of buffered bound code log) most
+    if (paths_of code log).dead then impossible.clauses else clauses_with_levels (paths_of code log) (system_of buffered bound code log) most

@@ -29,7 +29,7 @@ pub fn switch_clauses_are_runs<B>()
         ↔ ((moves : List Move) × Reproduces ops code log moves × (switches ops code moves ≤ most)) }
 {}
 
-/// If a derivation is closed on these clauses, whoever made it, all moves that reproduce the log
+/// If a derivation, from any tool, is closed on these clauses, all moves that reproduce the log
 /// have more switches.
 pub fn closed_is_more_switches<B>()
     ensures { (ops : BufferOps B) (model : Model) (bound : Binding) (code : Code) (log : Log) (most : ℕ) (lines : List Line) (moves : List Move)

@@ -23,7 +23,7 @@ level_some start most e (suc j) one few =
     ap (λ b. cond b (pos (start + (e * most + j))) (constant false)) (lt-ltb j most (omega (arith, few)))
     ∙ ap (λ i. pos (start + (e * most + i))) (let e : j ≡ suc j - 1 = omega arith in e)
 
--- an event counts by a literal of the first variables
+-- the literal that an event counts is over the first variables
 pub counts_within : (y : Layout) (threads : List ℕ) (failing : Option ℕ) (event vars : ℕ) → 1 ≤ vars → AreBeforesWithin vars y
     → var_of (counts_literal y threads failing event) ≤ vars
 counts_within y threads None event vars one within = omega (arith, one)

@@ -1,4 +1,4 @@
--- The greatest number up to one that passes a test, and tests that follow from others.
+-- The greatest number up to a bound that passes a test, and tests implied by others.
 use Rattle.std.proofs.Common.{◌≡◌, ◌∙◌, inl, inr, ℕ, zero, suc, ◌≤◌, Bool, true, false, not, ◌||◌, cond, refl, sym, ap, arith}
 use Rattle.std.proofs.lemmas.Bool.{cases_eq, false≢true}
 

@@ -1,4 +1,5 @@
--- What satisfies a formula with levels says a world of at most so many switches, and the other way round.
+-- Values that satisfy a formula with levels give a world with at most that many switches, and the
+-- other way round.
 use Rattle.std.proofs.Common.{◌≡◌, ◌≢◌, ◌∙◌, ℕ, zero, suc, ◌+◌, ◌-◌, ◌*◌, ◌/◌, ◌%◌, ◌<◌, ◌≤◌, ◌==◌, nat_le, nat_lt, Bool, true, false, not, ◌||◌, cond, List, [], ◌∷◌, ℤ, pos, neg_ℤ, length, get_or, Option, refl, sym, ap, ap₂, arith}
 use Rattle.std.specs.List.{flat_map, list_all, range_with_len}
 use Rattle.std.proofs.lemmas.Bool.{and_from, and_parts, eq-eqb, eqb-true, false≢true, le-leb, lt-leb, lt-ltb, ltb-true, true≢false}
@@ -19,7 +20,7 @@ use Rattle.order_switches.specs.Levels.{AreLevels, Counts}
 use Rattle.order_switches.specs.Switches.{end_at, switches}
 use Rattle.order_switches.proofs.Levels as levels
 use Rattle.switch_order.specs.Laws.{IsReady, LevelsMean}
-use Rattle.switch_order.specs.Levels.{counts_literal, level_clauses, level_literal, levelled, rise, rises, rises_from}
+use Rattle.switch_order.specs.Levels.{counts_literal, level_clauses, level_literal, with_levels, rise, rises, rises_from}
 use Rattle.switch_order.proofs.Greatest.{greatest, greatest_least, greatest_most, greatest_passes, then_true, true_then}
 use Rattle.switch_order.proofs.Literals as literals
 
@@ -31,7 +32,7 @@ module _ (y : Layout) (threads : List ℕ) (failing : Option ℕ) (most : ℕ) (
   start = suc f.vars
 
   abbrev g : Formula
-  g = levelled y threads failing most f
+  g = with_levels y threads failing most f
 
   abbrev before_l : (first second : ℕ) → ℤ
   before_l = before_literal y
@@ -58,7 +59,7 @@ module _ (y : Layout) (threads : List ℕ) (failing : Option ℕ) (most : ℕ) (
       (ap (λ a. a || (literal_true v (level_l d (suc j)) || false))
       (literal_true-neg v (level_l e j) (literals.level_there y threads failing most f ready e j there).0)))
 
-  -- all clauses of levels are true exactly where each of them is
+  -- all clauses of levels are true exactly if each of them is
   rise_of : (v : Valuation) → satisfies v (level_clauses y threads failing start most) ≡ true → (e d j : ℕ) → e < n → d < n → thread e ≢ thread d → j ≤ most
       → satisfies v (rise y threads failing start most e d j) ≡ true
   rise_of v all e d j there there_too apart low =
@@ -109,7 +110,7 @@ module _ (y : Layout) (threads : List ℕ) (failing : Option ℕ) (most : ℕ) (
   long : (v : Valuation) → length threads ≡ length (world_of y v).positions
   long v = ready.every ∙ sym (literals.world_is_for y threads failing most f ready v).positions
 
-  -- the greatest levels that are true are levels of the world
+  -- the greatest true levels are levels of the world
   few : (v : Valuation) → IsModel v g → switches threads failing (world_of y v) ≤ most
   few v m = levels.few threads failing w most (literals.world_is_for y threads failing most f ready v).world (long v) level (record {
     rise = rise_so;

@@ -1,4 +1,4 @@
--- The literals of levels, and what those say that an event counts.
+-- The literals of levels, and the literals that an event counts.
 use Rattle.std.proofs.Common.{◌≡◌, ◌≢◌, ◌∙◌, inl, inr, ℕ, zero, suc, ◌+◌, ◌*◌, ◌<◌, ◌≤◌, ◌==◌, nat_lt, Bool, true, false, cond, List, [], ◌∷◌, ℤ, pos, neg_ℤ, length, get_or, Option, Some, None, refl, sym, ap, subst, arith}
 use Rattle.std.specs.List.{All, IsDistinct}
 use Rattle.std.proofs.lemmas.Bool.{cases_order, eq-eqb, eqb-true, lt-ltb, ltb-true, true≢false}
@@ -20,7 +20,7 @@ use Rattle.order_switches.specs.Switches.{end_at}
 use Rattle.switch_order.specs.Laws.{IsReady}
 use Rattle.switch_order.specs.Levels.{counts_by, counts_literal, level_literal}
 
--- different places of numbers that are all different have different numbers
+-- different places of distinct numbers have different numbers
 pub differ_at : (xs : List ℕ) (i j : ℕ) → IsDistinct (λ p q. p == q) xs → i < length xs → j < length xs → i ≢ j → get_or xs i 0 ≢ get_or xs j 0
 differ_at xs i j distinct one other apart same =
     elim (cases_order i j) [
@@ -97,7 +97,7 @@ module _ (y : Layout) (threads : List ℕ) (failing : Option ℕ) (most : ℕ) (
   pub counts_there : (g : ℕ) → IsOf all (counts_literal y threads failing g)
   counts_there g = more_of (counts_literal y threads failing g) (counts_of g)
 
-  -- the literals of the clause that tells of a rise
+  -- the literals of the clause of a rise
   pub rise_there : (e g j : ℕ) → e < n → g < n
       → All (IsOf all)
       (neg_ℤ (before_literal y e g) ∷ neg_ℤ (counts_literal y threads failing g) ∷ neg_ℤ (level_literal start most e j) ∷ level_literal start most g (suc j) ∷ [])

@@ -9,7 +9,7 @@ use Rattle.bit_order.specs.Comparators.{ordered}
 use Rattle.bit_order.specs.Laws.{PairIsAsked}
 use Rattle.bit_order.specs.Layouts.{Layout}
 use Rattle.bit_order.specs.Readings.{world_of}
-use Rattle.switch_order.specs.Levels.{levelled}
+use Rattle.switch_order.specs.Levels.{with_levels}
 
 -- a formula over an order that asks about all pairs of events, their threads, and the failing event
 pub record IsReady (y : Layout) (threads : List ℕ) (failing : Option ℕ) (f : Formula) : Type 0 where
@@ -23,7 +23,7 @@ pub record IsReady (y : Layout) (threads : List ℕ) (failing : Option ℕ) (f :
 
 -- the models of a formula with levels are its models whose worlds have at most `most` switches
 pub record LevelsMean (y : Layout) (threads : List ℕ) (failing : Option ℕ) (most : ℕ) (f : Formula) : Type 0 where
-  pub before : (w : Valuation) → IsModel w (levelled y threads failing most f) → IsModel w f
-  pub few : (w : Valuation) → IsModel w (levelled y threads failing most f) → switches threads failing (world_of y w) ≤ most
+  pub before : (w : Valuation) → IsModel w (with_levels y threads failing most f) → IsModel w f
+  pub few : (w : Valuation) → IsModel w (with_levels y threads failing most f) → switches threads failing (world_of y w) ≤ most
   pub extends : (v : Valuation) → IsOver f → IsModel v f → switches threads failing (world_of y v) ≤ most
-      → (w : Valuation) × IsModel w (levelled y threads failing most f) × Agree f.vars v w
+      → (w : Valuation) × IsModel w (with_levels y threads failing most f) × Agree f.vars v w

@@ -43,5 +43,5 @@ module _ (y : Layout) (threads : List ℕ) (failing : Option ℕ) where
     level_clauses = flat_map rises_from (range_with_len 0 y.order.events)
 
   -- a formula with levels of at most `most` added
-  abbrev pub levelled : ℕ → Formula → Formula
-  levelled most f = record { vars = f.vars + y.order.events * most; clauses = f.clauses ++ level_clauses (suc f.vars) most }
+  abbrev pub with_levels : ℕ → Formula → Formula
+  with_levels most f = record { vars = f.vars + y.order.events * most; clauses = f.clauses ++ level_clauses (suc f.vars) most }

@@ -7,7 +7,7 @@ ghost use Rattle.bit_gates.specs.Folded.{HasRoom};
 ghost use Rattle.bit_order.specs.Clauses.{with_clause};
 ghost use Rattle.bit_order.specs.Comparators.{ordered};
 ghost use Rattle.order_formula.specs.Orders.{IsOrder};
-ghost use Rattle.switch_order.specs.Levels.{counts_literal, level_literal, levelled, rises_from};
+ghost use Rattle.switch_order.specs.Levels.{counts_literal, level_literal, with_levels, rises_from};
 ghost use Rattle.switch_order.specs.Sizes.{size_of};
 ghost use Rattle.switch_order.specs.helpers.Within.{AreBeforesWithin, rise_of};
 
@@ -32,7 +32,7 @@ pub fn add_levels(
     requires order { IsOrder layout.now.order }
     requires ordered { (ordered layout.now).vars ≤ cnf.old.vars }
     requires room { HasRoom (size_of layout.now.order.events most) cnf.old }
-    ensures { OnOk result (cnf.new ≡ levelled layout.now threads.now failing most cnf.old) }
+    ensures { OnOk result (cnf.new ≡ with_levels layout.now threads.now failing most cnf.old) }
 {
     let start = cnf.vars() + 1;
     let events = layout.order().events();

@@ -1,4 +1,4 @@
-//! At most so many switches between threads, as clauses.
+//! At most a given number of switches between threads, as clauses.
 //!
 //! Each event has a level, in unary: a variable for each number from 1 on, true if the level is at
 //! least that. The level rises from an event to each later one of another thread. So each two
@@ -15,8 +15,8 @@ ghost use Rattle.switch_order.specs.Laws.{IsReady, LevelsMean};
 
 pub use adding::add_levels;
 
-/// The models of a formula with levels up to a number are models of the formula whose worlds have
-/// at most that many switches, and each such model extends to one with levels.
+/// A model of a formula with levels up to a number is a model of the formula, and its world has at
+/// most that many switches. Each such model extends to one with levels.
 pub fn levels_mean()
     ensures { (y : PlainLayout) (threads : List ℕ) (failing : Option ℕ) (most : ℕ) (f : Formula) → IsReady y threads failing f
         → LevelsMean y threads failing most f }

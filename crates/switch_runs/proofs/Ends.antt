@@ -1,4 +1,5 @@
--- Which events take place in a history that reproduces a log: those up to the end of its world.
+-- The events that take place in a history that reproduces a log are those up to the end of its
+-- world.
 use Rattle.std.proofs.Common.{◌≡◌, ◌≢◌, ◌∙◌, inl, inr, ℕ, ◌<◌, ◌≤◌, ℤ, Bool, true, false, ◌&&◌, List, [], ◌∷◌, ◌++◌, length, Option, Some, None, refl, sym, ap, ap₂, subst, arith}
 use Rattle.std.specs.Prelude.{option_map, slice_get, IsSomeAnd}
 use Rattle.std.specs.List.{All, Contains, cons_option, filter_map, find, last_or}
@@ -23,7 +24,7 @@ use Rattle.path_walk.specs.declared.event.EventKind.{EventKind}
 use Rattle.path_walk.specs.declared.event.EventKind.TheVariants as kind
 use Rattle.path_laws.specs.Setting.{Setting}
 use Rattle.path_laws.specs.Deeds.{kind_of}
-use Rattle.path_laws.specs.history.Along.{IsAlongPaths, IsThread}
+use Rattle.path_laws.specs.history.Along.{IsThread, HistoryAlong}
 use Rattle.path_laws.specs.events.Done.{IsDoneIn}
 use Rattle.path_laws.proofs.of_events.Lists.{contains_in, in_contains}
 use Rattle.order_formula.specs.Worlds.{World, IsWorld}
@@ -55,6 +56,7 @@ use Rattle.world_plan.proofs.Places.{among_all, same_event}
 use Rattle.plan_runs.proofs.End.{failure_is, failure_of}
 use Rattle.plan_runs.proofs.of_memory.Issued.{step_named}
 use Rattle.run_lawful.proofs.of_own.Requests.{store_writes}
+use Rattle.path_laws.proofs.of_history.Logged.{history_again}
 
 abbrev asked_of : Deed → Option EventKind
 asked_of (Did n k r v o) = kind_of r o
@@ -77,8 +79,8 @@ module _ {B : Type 0} (setting : Setting B) (moves : List Move) (again : Reprodu
   abbrev b : Bool
   b = ops.buffered
 
-  abbrev go : IsAlongPaths b bound code log h
-  go = run.along setting moves again
+  abbrev all : HistoryAlong setting
+  all = history_again setting moves again
 
   abbrev a : AreSeen b ps h
   a = run.seen setting moves again
@@ -90,7 +92,7 @@ module _ {B : Type 0} (setting : Setting B) (moves : List Move) (again : Reprodu
   step_of_thread : (n : Name) (k : ℕ) (r : Request) (took : ℤ) (other : Option Name) → In (Did n k r took other) h → IsNameOfThread code log n
   step_of_thread n k r took other i =
       let s = in_split (Did n k r took other) h i in
-      step_named setting (run.fits setting moves again) h go s.older s.newer n k r took other s.there
+      step_named setting all s.older s.newer n k r took other s.there
 
   -- each visible deed is of a thread of the paths
   pub named : (d : Deed) (s : Sight) → In d h → sight_of b d ≡ Some s → (t : ℕ) × (q : Walk) × (slice_get ps.threads t ≡ Some q) × (q.name ≡ s.thread)
@@ -98,7 +100,7 @@ module _ {B : Type 0} (setting : Setting B) (moves : List Move) (again : Reprodu
     where
       of_step : (k : ℕ) (r : Request) (took : ℤ) (other : Option Name) → In (Did s.thread k r took other) h
           → (t : ℕ) × (q : Walk) × (slice_get ps.threads t ≡ Some q) × (q.name ≡ s.thread)
-      of_step k r took other j = let n = step_of_thread s.thread k r took other j in (n.place, n.walk, n.there, n.name)
+      of_step k r took other j = let n = step_of_thread s.thread k r took other j in (n.index, n.walk, n.there, n.name_is)
 
       by : SeenBy b s.thread s.step d → (t : ℕ) × (q : Walk) × (slice_get ps.threads t ≡ Some q) × (q.name ≡ s.thread)
       by (Done r took other asked same asks kept) = of_step s.step r took other (subst (λ e. In e h) same i)
@@ -117,18 +119,18 @@ module _ {B : Type 0} (setting : Setting B) (moves : List Move) (again : Reprodu
         shows = shows_drain b ps t x.step q d.cell d.value there;
       }
 
-  -- where no event fails no step has failed
+  -- if no event fails, no step has failed
   module _ (none : find (λ (e : Of Event). is_failure e.it.kind) (all_events ps) ≡ None) where
     no_failure : (d : Deed) → In d h → fails d ≡ None
     no_failure (Did n k Fail took other) i =
         let m = step_of_thread n k Fail took other i in
         let s = in_split (Did n k Fail took other) h i in
         let done : IsDoneIn h m.walk.name k kind.Fail =
-        subst (λ o. IsDoneIn h o k kind.Fail) (sym m.name)
+        subst (λ o. IsDoneIn h o k kind.Fail) (sym m.name_is)
         (record { older = s.older; newer = s.newer; request = Fail; took = took; other = other; there = s.there; asks = refl }) in
-        let x = done_event setting (run.fits setting moves again) h go m.place m.walk m.there k kind.Fail done in
-        let f = in_find (λ (e : Of Event). is_failure e.it.kind) (all_events ps) (record { thread = m.place; it = x.0 })
-        (among_all ps m.place m.walk x.0 m.there (contains_in x.0 m.walk.events x.1)) (failure_of x.0.kind x.3) in
+        let x = done_event setting all m.thread k kind.Fail done in
+        let f = in_find (λ (e : Of Event). is_failure e.it.kind) (all_events ps) (record { thread = m.index; it = x.0 })
+        (among_all ps m.index m.walk x.0 m.there (contains_in x.0 m.walk.events x.1)) (failure_of x.0.kind x.3) in
         absurd (none-some f.0 (sym none ∙ f.1))
     no_failure (Did n k r took other) i = refl
     no_failure (Drained n k c v) i = refl
@@ -136,7 +138,7 @@ module _ {B : Type 0} (setting : Setting B) (moves : List Move) (again : Reprodu
     no_thread : failed_in h ≡ None
     no_thread = ap (last_or None) (none_found fails h no_failure)
 
-    -- so it is a deadlock, and no store waits
+    -- in a deadlock no store waits
     all_drained : AllDrained b h
     all_drained = by log.failing again.ends
       where
@@ -163,7 +165,7 @@ module _ {B : Type 0} (setting : Setting B) (moves : List Move) (again : Reprodu
           issued = d.there ∙ ap (λ r. d.older ++ Did q.name x.step r d.took d.other ∷ d.newer) s.2;
         })
 
-  -- In a world that has the events in their order.
+  -- In a world with the same order of events.
   module _ (w : World) (world : IsWorld w) (events : length w.positions ≡ length (all_events ps)) (small : All (λ p. p < 256) w.positions)
       (ordered : AreInOrder b ps w h) where
     abbrev place : (t k : ℕ) → ℕ
@@ -204,7 +206,7 @@ module _ {B : Type 0} (setting : Setting B) (moves : List Move) (again : Reprodu
             let there_gone : In gone x.older =
             subst (λ g. In gone g) (sym (at ∙ ap (λ s. df.older ++ Did hf.0.name f.step s df.took df.other ∷ between) is_fail))
             (in_at df.older gone between) in
-            absurd (none_fails x.older hf.0.name (in_mapped fails gone hf.0.name x.older there_gone refl) (go.follow x.older x.newer x.deed x.there).0)
+            absurd (none_fails x.older hf.0.name (in_mapped fails gone hf.0.name x.older there_gone refl) (all.along.follow x.older x.newer x.deed x.there).0)
 
     abbrev found : Option (Of Event)
     found = find (λ (e : Of Event). is_failure e.it.kind) (all_events ps)
@@ -220,7 +222,7 @@ module _ {B : Type 0} (setting : Setting B) (moves : List Move) (again : Reprodu
         let q = event_numbered ps a.whole i.0 e i.1 in
         (q, failure_is e.it.kind f.1)
 
-    -- what takes place is before the end
+    -- each event that takes place is before the end
     pub within : (t k : ℕ) → TakesPlace b ps h t k → place t k < end
     within t k x = by found refl
       where
@@ -230,7 +232,7 @@ module _ {B : Type 0} (setting : Setting B) (moves : List Move) (again : Reprodu
             (omega (arith, has_number ps t k (a.events t k x), events)) small
         by (Some e) at = let f = fails_at e at in let last = fail_last e.thread e.it f.0 f.1 t k x in omega (arith, last)
 
-    -- and the other way round, where the stores before the event that fails have drained
+    -- each event before the end takes place, if the stores before the failing event have drained
     module _ (before_fail : (t u : ℕ) (q : Walk) (x f : Event) → IsThread code log t q → Contains q.events x → (b && is_store x.kind) ≡ true
         → HasEvent ps u f → f.kind ≡ kind.Fail → IsBefore ps w t x.step u f.step → has_drained h q.name x.step ≡ true) where
       event_takes : (t : ℕ) (q : Walk) (x : Event) → IsThread code log t q → Contains q.events x → place t x.step < end → TakesPlace b ps h t x.step

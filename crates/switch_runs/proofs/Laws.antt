@@ -1,4 +1,4 @@
--- The two laws, of the world of a run, and of the run of a world.
+-- The two laws: of the world of a run, and of the run of a world.
 use Rattle.std.proofs.Common.{◌≡◌, ◌∙◌, ℕ, ◌<◌, ◌≤◌, Bool, true, ◌&&◌, List, ◌∷◌, ◌++◌, map, length, Option, None, append_assoc, refl, sym, ap, subst, arith}
 use Rattle.std.specs.List.{All, Contains}
 use Rattle.std.proofs.Math.Bool.{and-false}
@@ -72,7 +72,7 @@ module _ {B : Type 0} (setting : Setting B) (nodes : List Node) (moves : List Mo
   ordered : IsOrderOf b ps h w
   ordered = is_order b ps symbolic h a
 
-  -- a store that waits takes place by its drain alone
+  -- a store that waits takes place only by its drain
   drains_so : (t : ℕ) (q : Walk) (x : Event) → IsThread code log t q → Contains q.events x → (b && is_store x.kind) ≡ true → TakesPlace b ps h t x.step
       → has_drained h q.name x.step ≡ true
   drains_so t q x there i waits p = by (shown_by b ps t x.step q p.deed there p.shows)

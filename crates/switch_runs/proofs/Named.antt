@@ -1,4 +1,4 @@
--- Neighbours that differ, by other names.
+-- Changes between neighbours, under other names.
 use Rattle.std.proofs.Common.{◌≡◌, ◌+◌, Bool, cond, List, [], ◌∷◌, map, Option, Some, None, refl, ap, ap₂}
 use Rattle.std.specs.Prelude.{option_map}
 use Rattle.std.specs.List.{All, cons_option, filter_map}
@@ -17,7 +17,7 @@ module _ {X Y : Type 0} (eq : X → X → Bool) (same : Y → Y → Bool) (name 
   named_changes [] vs = refl
   named_changes (x ∷ xs) vs = named_after x xs (All-head V x xs vs) (All-tail V x xs vs)
 
--- names of what is found
+-- the names of the values found
 pub named_found : {P X Y : Type 0} (f : P → Option X) (name : X → Y) (ps : List P)
     → filter_map (λ p. option_map name (f p)) ps ≡ map name (filter_map f ps)
 named_found f name [] = refl

@@ -37,7 +37,7 @@ module _ (paths : Paths) (w : World) (is : IsWorld w) (events : length w.positio
   pub long : length (threads_of paths) ≡ length w.positions
   long = length-map (all_events paths) (λ e. e.thread) ∙ sym events
 
-  -- an event has the thread that it is of
+  -- the thread at the position of an event is its own
   pub thread_is : (t k : ℕ) → HasStep paths t k → thread_at (threads_of paths) w (place_of paths w t k) ≡ Some t
   thread_is t k s =
       let n = number_of paths t k in
@@ -63,7 +63,7 @@ module _ (paths : Paths) (w : World) (is : IsWorld w) (events : length w.positio
     pub step_of : (d : Deed) (t k : ℕ) → In d h → At d t k → HasStep paths t k
     step_of d t k i shows = let s = in_split d h i in a.events t k (record { older = s.older; deed = d; newer = s.newer; there = s.there; shows = shows })
 
-    -- an event of a position that takes place by one of some deeds
+    -- an event at a position that takes place by one of some deeds
     pub record TakesPlaceIn (rest : List Deed) (p : ℕ) : Type 0 where
       pub deed : Deed
       pub thread : ℕ
@@ -72,7 +72,7 @@ module _ (paths : Paths) (w : World) (is : IsWorld w) (events : length w.positio
       pub shows : At deed thread step
       pub at : place thread step ≡ p
 
-    -- the positions of what takes place by some deeds, in order
+    -- the positions of the events that take place by some deeds, in order
     pub record SeenIn (rest : List Deed) : Type 0 where
       pub positions : List ℕ
       pub names : map thread_of (filter_map (sight_of buffered) rest) ≡ filter_map (name_at paths w) positions
@@ -83,7 +83,7 @@ module _ (paths : Paths) (w : World) (is : IsWorld w) (events : length w.positio
     further : (d : Deed) (rest : List Deed) (p : ℕ) → TakesPlaceIn rest p → TakesPlaceIn (d ∷ rest) p
     further d rest p t = record { deed = t.deed; thread = t.thread; step = t.step; among = inr t.among; shows = t.shows; at = t.at }
 
-    -- after a deed that shows nothing
+    -- the same after a deed that shows nothing
     hidden : (d : Deed) (rest : List Deed) → sight_of buffered d ≡ None → SeenIn rest → SeenIn (d ∷ rest)
     hidden d rest none s = record {
       positions = s.positions;
@@ -98,7 +98,7 @@ module _ (paths : Paths) (w : World) (is : IsWorld w) (events : length w.positio
             absurd (none-some (record { thread = shows.walk.name; step = k }) (sym none ∙ ap (sight_of buffered) same ∙ shows.sight))
         has e t k (inr i) shows = s.has e t k i shows
 
-    -- after one that shows an event
+    -- the same after a deed that shows an event
     shown : (older : List Deed) (d : Deed) (rest : List Deed) (x : Sight) → h ≡ older ++ d ∷ rest → sight_of buffered d ≡ Some x → SeenIn rest → SeenIn (d ∷ rest)
     shown older d rest x there sees s = record {
       positions = p ∷ s.positions;

@@ -1,10 +1,10 @@
--- What stands at the numbers of a range, and at those of a list that rises.
+-- The values at the numbers of a range, and at those of a rising list.
 use Rattle.std.proofs.Common.{◌≡◌, ◌∙◌, inl, inr, ℕ, zero, suc, ◌+◌, ◌<◌, ◌≤◌, List, [], ◌∷◌, Option, Some, None, refl, sym, ap, ap₂, subst, arith}
 use Rattle.std.specs.List.{cons_option, filter_map, range_with_len}
 use Rattle.std.proofs.lemmas.Bool.{cases_order}
 use Rattle.run_history.proofs.of_pending.In.{In}
 
--- each is past the one before, and the first is at least a
+-- the numbers rise, and the first is at least `a`
 abbrev pub Rises : ℕ → List ℕ → Type 0
 Rises a [] = Unit {0}
 Rises a (p ∷ ps) = (a ≤ p) × Rises (p + 1) ps
@@ -24,7 +24,7 @@ module _ {X : Type 0} (f : ℕ → Option X) where
   abbrev Has : (a n : ℕ) → List ℕ → Type 0
   Has a n ps = (p : ℕ) (x : X) → a ≤ p → p < a + n → f p ≡ Some x → In p ps
 
-  -- they are the same where the list has all numbers of the range at which something stands
+  -- they are the same if the list has all numbers of the range that have a value
   pub same_range : (a n : ℕ) (ps : List ℕ) → Rises a ps → Below a n ps → Has a n ps → Same a n ps
   same_range a zero [] rises below has = refl
   same_range a zero (p ∷ ps) rises below has = absurd (let less = below p (inl refl) in omega (arith, less, rises.0))

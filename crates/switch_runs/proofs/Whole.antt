@@ -1,4 +1,4 @@
--- The switches of moves that reproduce a log are those of a world that has the events in their order.
+-- The switches of moves that reproduce a log are those of a world with the same order of events.
 use Rattle.std.proofs.Common.{◌≡◌, ◌∙◌, ℕ, ◌+◌, ◌<◌, ◌≤◌, ◌==◌, Bool, true, false, ◌&&◌, List, [], ◌∷◌, map, length, Option, Some, None, refl, sym, ap, subst, arith}
 use Rattle.std.specs.Prelude.{option_map, slice_get}
 use Rattle.std.specs.List.{All, Contains, cons_option, filter_map, range_with_len}
@@ -64,7 +64,7 @@ module _ {B : Type 0} (setting : Setting B) (moves : List Move) (again : Reprodu
   name_there : (t : ℕ) (q : Walk) → slice_get ps.threads t ≡ Some q → name_of ps t ≡ q.name
   name_there t q there = ap (λ o. option_map_or (λ (v : Walk). v.name) o main) there
 
-  -- they have different names
+  -- threads of the paths have different names
   told : (t u : ℕ) → IsOf t → IsOf u → same (name_of ps t) (name_of ps u) ≡ (t == u)
   told t u one other = by (t == u) refl
     where
@@ -88,7 +88,7 @@ module _ {B : Type 0} (setting : Setting B) (moves : List Move) (again : Reprodu
     abbrev f : ℕ → Option ℕ
     f = thread_at (threads_of ps) w
 
-    -- the event at a position where a thread is told
+    -- the event at a position, given the thread at that position
     record IsEventAt (p t : ℕ) : Type 0 where
       event : Of Event
       walk : Walk
@@ -137,7 +137,7 @@ module _ {B : Type 0} (setting : Setting B) (moves : List Move) (again : Reprodu
             among : {t k : ℕ} (x : TakesPlace b ps h t k) → In x.deed h
             among x = subst (In x.deed) (sym x.there) (in_at x.older x.deed x.newer)
 
-    -- so both have the same threads in order
+    -- both have the same threads in the same order
     pub same_threads : visible_threads ops code moves ≡ map (name_of ps) (threads_in_order (threads_of ps) (failing_of ps) w)
     same_threads =
         seen.names

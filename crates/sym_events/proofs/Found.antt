@@ -13,7 +13,7 @@ use Rattle.tc_code.specs.Code.{Code, instr_at, line_at}
 use Rattle.tc_code.specs.declared.instr.Instr.{Instr}
 use Rattle.tc_code.specs.declared.instr.Instr.TheVariants.{Load, LoadAt, Store, StoreAt, Inside, Holds, Ready, Assert, Nonzero, InRange, Swap, Cas, Exit}
 use Rattle.path_walk.specs.Steps.{is_site, step_at, steps_at}
-use Rattle.path_walk.specs.Marks.{Marks, marked, marked_from}
+use Rattle.path_walk.specs.Marks.{Marks, marks_after_instr, marked_from}
 use Rattle.path_walk.specs.Events.{asks, kind_with, events_of}
 use Rattle.path_walk.specs.declared.event.Event.{Event}
 use Rattle.path_walk.specs.declared.event.EventKind.{EventKind}
@@ -23,7 +23,7 @@ use Rattle.sym_exec.specs.declared.symbolic.Access.{Access}
 use Rattle.sym_exec.specs.declared.symbolic.Cell.{Cell}
 use Rattle.lawful_order.specs.Whole.{kind_of}
 
--- an event that is one of a cell: its step, and its kind
+-- an access event: its step and its kind
 pub record CellEvent : Type 0 where
   pub step : ℕ
   pub kind : EventKind
@@ -31,29 +31,29 @@ pub record CellEvent : Type 0 where
 abbrev pub cell_event : ℕ → EventKind → CellEvent
 cell_event step kind = record { step = step; kind = kind }
 
--- an event of a step and a kind as one, if it is one
+-- an event of a step and a kind as an access event, if it is one
 abbrev pub cell_event_at : ℕ → EventKind → Option CellEvent
 cell_event_at step kind.Load = Some (cell_event step kind.Load)
 cell_event_at step kind.Store = Some (cell_event step kind.Store)
 cell_event_at step kind.Exchange = Some (cell_event step kind.Exchange)
 cell_event_at step _ = None
 
--- those among events
+-- the access events among some events
 abbrev pub cell_events : List Event → List CellEvent
 cell_events events = filter_map (λ (e : Event). cell_event_at e.step e.kind) events
 
--- what event an access is
+-- the event of an access
 abbrev pub event_by : Access → CellEvent
 event_by a = cell_event a.step (kind_of a.takes a.writes)
 
--- the load that an access is, if it is one, has a number below this
+-- if the access is a load, its number is below this
 abbrev pub TakesBelow : ℕ → Access → Type 0
 TakesBelow n a = (k : ℕ) → a.takes ≡ Some k → k < n
 
 pub takes_more : (m n : ℕ) → m ≤ n → (a : Access) → TakesBelow m a → TakesBelow n a
 takes_more m n up a below = λ k e. let less = below k e in omega (arith, up, less)
 
--- an execution goes on as another, and finds accesses that are these events
+-- an execution extends another, and finds accesses for these events
 pub record Finds (d e : Doing) (events : List CellEvent) : Type 0 where
   pub found : List Access
   pub accesses : e.accesses ≡ d.accesses ++ found
@@ -101,7 +101,7 @@ finds_both d e g xs ys a b = record {
       a.taken) b.taken;
 }
 
--- the event of a cell that an instruction is in a step, if it is one
+-- the access event of an instruction in a step, if it is one
 abbrev pub does : Marks → ℕ → Instr → Option CellEvent
 does m step i = option_and_then (cell_event_at step) (asks m i)
 
@@ -115,7 +115,7 @@ instr_finds line wanted d m (Swap k c e) = load_found d (after_instr line wanted
 instr_finds line wanted d m (Cas k c e new) = load_found d (after_instr line wanted d (Cas k c e new)) _ _ refl refl
 instr_finds line wanted d m i = nothing_found d (after_instr line wanted d i) refl refl
 
--- the step that fails is at a site, which asks nothing
+-- the failing step is at a site, which accesses no cell
 site_asks : (m : Marks) (i : Instr) → is_site i ≡ true → asks m i ≡ None
 site_asks m (Inside len i) site = refl
 site_asks m (Holds k) site = refl
@@ -130,7 +130,7 @@ does_with : (m : Marks) (step : ℕ) (i : Instr) (fails : Bool) → (fails ≡ t
 does_with m step i true site = sym (ap (option_and_then (cell_event_at step)) (site_asks m i (site refl)))
 does_with m step i false site = refl
 
--- with one event more, if there is one
+-- the access events with one event more, if that is one
 cell_events_cons : (step line bars : ℕ) (o : Option EventKind) (events : List Event)
     → cell_events (cons_option (option_map (λ k. record { step = step; line = line; kind = k; bars = bars }) o) events)
     ≡ option_to_list (option_and_then (cell_event_at step) o) ++ cell_events events
@@ -147,7 +147,7 @@ module _ (code : Code) (f : ℕ) where
   AreThere [] = Unit {0}
   AreThere (place ∷ places) = ((i : Instr) × (instr_at code f place ≡ Some i)) × AreThere places
 
-  -- the last one is a site
+  -- the last place is that of a site
   abbrev pub EndsAtSite : List ℕ → Type 0
   EndsAtSite [] = Unit {0}
   EndsAtSite (place ∷ places) = (length places ≡ 0 → is_site (step_at code f place).instr ≡ true) × EndsAtSite places
@@ -166,7 +166,7 @@ module _ (code : Code) (f : ℕ) where
           ap (λ (x : Doing). x.steps) is,
         )
 
-    -- all steps of a thread whose last one fails or doesn't
+    -- all steps of a thread, whose last one fails or doesn't
     pub along_finds : (places : List ℕ) (d : Doing) (m : Marks) (last : Bool) (step : ℕ) → d.steps ≡ step → AreThere places
         → (last ≡ true → EndsAtSite places)
         → Finds d (after_all code f outcomes fails d places) (cell_events (events_of code f (marked_from last step m (steps_at code f places))))
@@ -181,8 +181,8 @@ module _ (code : Code) (f : ℕ) where
         let h = and_parts last (length (steps_at code f places) == 0) h in
         let none : length places ≡ 0 = sym (length-map places (step_at code f)) ∙ (Decides-eqb (length (steps_at code f places)) 0).0 h.1 in
         ap is_site (sym is) ∙ (site h.0).0 none in
-        let rest = along_finds places e (marked m (step_at code f place).instr) last (step + 1) (one.1 ∙ ap (λ n. n + 1) at) there.1 (λ h. (site h).1) in
-        let later = events_of code f (marked_from last (step + 1) (marked m (step_at code f place).instr) (steps_at code f places)) in
+        let rest = along_finds places e (marks_after_instr m (step_at code f place).instr) last (step + 1) (one.1 ∙ ap (λ n. n + 1) at) there.1 (λ h. (site h).1) in
+        let later = events_of code f (marked_from last (step + 1) (marks_after_instr m (step_at code f place).instr) (steps_at code f places)) in
         let first : option_to_list (option_and_then (cell_event_at step) (kind_with m (step_at code f place).instr stops)) ≡ option_to_list (does m d.steps i) =
         ap (λ j. option_to_list (option_and_then (cell_event_at step) (kind_with m j stops))) is ∙ ap option_to_list (does_with m step i stops at_site)
         ∙ ap (λ n. option_to_list (does m n i)) (sym at) in

@@ -1,4 +1,4 @@
--- The terms that accesses and tests name are made before them.
+-- The terms that accesses and tests name exist before them.
 use Rattle.std.proofs.Common.{◌≡◌, ℕ, ◌+◌, ◌<◌, ◌≤◌, ℤ, pos, Bool, List, [], ◌∷◌, ◌++◌, length, fold}
 use Rattle.std.proofs.Common.{Option, Some, None, refl, arith}
 use Rattle.std.specs.Prelude.{nat_lt, slice_get, unwrap_or}
@@ -18,8 +18,8 @@ use Rattle.tc_code.specs.declared.instr.Instr.TheVariants.{Load, LoadAt, Store, 
 use Rattle.path_walk.specs.Paths.{Walk, Paths}
 use Rattle.sym_terms.specs.declared.node.Node.{Node}
 use Rattle.sym_terms.specs.declared.node.Node.TheVariants.{Constant, Symbol, Unary, Binary}
-use Rattle.sym_exec.specs.Making.{Made, Grows, made, last_index, range_test, replaced_term}
-use Rattle.sym_exec.specs.Thread.{HandsOf, Doing, HasTerms, term_in, making, symbol_in, after_instr, wanted_of, after_step, after_all}
+use Rattle.sym_exec.specs.Making.{Made, Grows, term_of_node, last_index, range_test, replaced_term}
+use Rattle.sym_exec.specs.Thread.{HandsOf, Doing, HasTerms, term_in, with_term, symbol_in, after_instr, wanted_of, after_step, after_all}
 use Rattle.sym_exec.specs.Executed.{Course, Executed, arguments_for, fails_at, thread_started, thread_done, with_thread, nothing, executed}
 use Rattle.sym_exec.specs.declared.symbolic.Access.{Access}
 use Rattle.sym_exec.specs.declared.symbolic.Test.{Test}
@@ -61,25 +61,25 @@ one_test d e x up are within =
     let were = all_later d.nodes e.nodes d.accesses d.tests up are in
     record { accesses = were.accesses; tests = All-push (TestIsOf (length e.nodes)) d.tests x were.tests within }
 
--- what a compare-and-exchange writes is made
+-- the term that a compare-and-exchange writes exists
 replaced_within : (nodes : List Node) (v e f : ℕ) → let w = replaced_term nodes v e f in w.term < length w.nodes
 replaced_within nodes v e f =
-    let change = made nodes (Binary Xor v f) in
-    let same = made change.nodes (Binary Eq v e) in
-    let mask = made same.nodes (Unary Neg same.term) in
-    let masked = made mask.nodes (Binary And change.term mask.term) in
+    let change = term_of_node nodes (Binary Xor v f) in
+    let same = term_of_node change.nodes (Binary Eq v e) in
+    let mask = term_of_node same.nodes (Unary Neg same.term) in
+    let masked = term_of_node mask.nodes (Binary And change.term mask.term) in
     made_within masked.nodes (Binary Xor v masked.term)
 
--- so is the test of a range
+-- the term of a range test exists
 range_within : (x : Made) (last : ℤ) → let w = range_test x last in w.term < length w.nodes
 range_within x last =
-    let zero = made x.nodes (Constant (pos 0)) in
-    let low = made zero.nodes (Binary Le zero.term x.term) in
-    let top = made low.nodes (Constant last) in
-    let high = made top.nodes (Binary Le x.term top.term) in
+    let zero = term_of_node x.nodes (Constant (pos 0)) in
+    let low = term_of_node zero.nodes (Binary Le zero.term x.term) in
+    let top = term_of_node low.nodes (Constant last) in
+    let high = term_of_node top.nodes (Binary Le x.term top.term) in
     made_within high.nodes (Binary And low.term high.term)
 
--- what an instruction adds names terms that are there then
+-- an instruction adds accesses and tests whose terms exist then
 instr_of_terms : (line : ℕ) (wanted : Bool) (d : Doing) (i : Instr) → HasTerms d → IsTrue (names_within (length d.slots) i)
     → AreOfTerms d.nodes d.accesses d.tests
     → AreOfTerms (after_instr line wanted d i).nodes (after_instr line wanted d i).accesses (after_instr line wanted d i).tests
@@ -97,7 +97,7 @@ instr_of_terms line wanted d (Store c e) s named are =
     (expr_within d.nodes d.slots e s.slots named)
 instr_of_terms line wanted d (StoreAt first len i e) s named are =
     let x = term_in d i in
-    let y = term_in (making d x) e in
+    let y = term_in (with_term d x) e in
     let named_slots = and_parts (names_slots (length d.slots) i) (names_slots (length d.slots) e) named in
     let index : x.term < length x.nodes = expr_within d.nodes d.slots i s.slots named_slots.0 in
     one_access d (after_instr line wanted d (StoreAt first len i e)) _ (instr_goes line wanted d (StoreAt first len i e) s named).grows are
@@ -111,8 +111,8 @@ instr_of_terms line wanted d (Swap k c e) s named are =
     (stays_within x.nodes g.nodes x.term (grows_made x.nodes (Symbol d.loads)) (expr_within d.nodes d.slots e s.slots named_slots.1))
 instr_of_terms line wanted d (Cas k c e new) s named are =
     let x = term_in d e in
-    let y = term_in (making d x) new in
-    let v = symbol_in (making d y) in
+    let y = term_in (with_term d x) new in
+    let v = symbol_in (with_term d y) in
     one_access d (after_instr line wanted d (Cas k c e new)) _ (instr_goes line wanted d (Cas k c e new) s named).grows are tt
     (replaced_within v.nodes v.term x.term y.term)
 instr_of_terms line wanted d (Inside len i) s named are =
@@ -136,12 +136,12 @@ instr_of_terms line wanted d i s named are =
 
 module _ (code : Code) (lawful : IsLawful code) where
   module _ (f : ℕ) (outcomes : List Bool) (fails : Option ℕ) where
-    -- a step that does an instruction, if one is there
+    -- a step that does the instruction, if there is one
     abbrev stepped : Doing → ℕ → Option Instr → Doing
     stepped d place o = option_map_or (λ i.
         record (after_instr (unwrap_or (line_at code f place) 0) (wanted_of outcomes fails d i) d i) { steps = d.steps + 1 }) o d
 
-    -- those of an execution are of its nodes
+    -- the accesses and tests of an execution name terms of its nodes
     abbrev IsOfTerms : Doing → Type 0
     IsOfTerms d = AreOfTerms d.nodes d.accesses d.tests
 
@@ -165,7 +165,7 @@ module _ (code : Code) (lawful : IsLawful code) where
   abbrev CourseIsOf : List Node → Course → Type 0
   CourseIsOf nodes c = AreOfTerms nodes c.accesses c.tests
 
-  -- of all threads so far, and the terms that they hand over are there too
+  -- the accesses and tests of all threads so far, and the terms handed over, name existing nodes
   record AreOf (x : Executed) : Type 0 where
     handed : helpers.HaveTerms x
     courses : All (CourseIsOf x.nodes) x.symbolic.threads

@@ -12,7 +12,7 @@ use Rattle.run_log.specs.Logs.{Log}
 use Rattle.tc_base.specs.Paths.{Path, ThreadPath, path_under}
 use Rattle.tc_base.proofs.Names.{same_refl}
 use Rattle.tc_code.specs.Code.{Code}
-use Rattle.path_walk.specs.Steps.{is_failing, is_site, step_at, steps_at, ends_at_site, places_from, places_of, ended}
+use Rattle.path_walk.specs.Steps.{is_failing, is_site, step_at, steps_at, ends_at_site, places_from, places_of, places_if_well_ended}
 use Rattle.path_walk.specs.Fits.{ending_of, places_in, function_of, Fits}
 use Rattle.path_walk.specs.Marks.{marked_steps}
 use Rattle.path_walk.specs.Events.{events_of}
@@ -53,7 +53,7 @@ module _ (code : Code) (f : ℕ) where
             (ap (λ n. option_map_or (λ k. is_site (step_at code f k).instr) (slice_get (place ∷ next ∷ places) n) false) (sym e) ∙ ends),
       )
 
-  ended_well : (ending : Ending) (path : Path) (r : Result (List ℕ) Misfit) (places : List ℕ) → ended code f ending path r ≡ Ok places
+  ended_well : (ending : Ending) (path : Path) (r : Result (List ℕ) Misfit) (places : List ℕ) → places_if_well_ended code f ending path r ≡ Ok places
       → is_failing ending ≡ true → EndsAtSite code f places
   ended_well Fails path (Ok found) places fits fails = by (ends_at_site code f found) refl fits
     where
@@ -68,7 +68,7 @@ is_ok : {X E : Type 0} (r : Result X E) (d : X) → result_err r ≡ None → r 
 is_ok (Ok x) d none = refl
 is_ok (Err e) d none = absurd (none-some e (sym none))
 
--- a thread's name has a path
+-- the name of a thread has a path
 abbrev IsUnder : List ThreadPath → ThreadPath → Type 0
 IsUnder ts t = (p : Path) × (path_under t.name ts ≡ Some p)
 

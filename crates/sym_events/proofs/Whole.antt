@@ -7,7 +7,7 @@ use Rattle.std.proofs.lemmas.List.{length-map, map-append}
 use Rattle.std.proofs.lemmas.List.Elements.{All-nil, All-head, All-tail, All-weaker, All-push, All-contains}
 use Rattle.std.proofs.lemmas.Option.{none-some, same_Some, slice_get-map}
 use Rattle.tc_code.specs.Code.{Code}
-use Rattle.path_walk.specs.Marks.{unmarked}
+use Rattle.path_walk.specs.Marks.{marks_at_start}
 use Rattle.path_walk.specs.Paths.{Walk, Paths, ArePaths}
 use Rattle.path_walk.specs.declared.event.Event.{Event}
 use Rattle.path_walk.specs.declared.event.EventKind.{EventKind}
@@ -38,7 +38,7 @@ CourseBelow n c = All (TakesBelow n) c.accesses
 courses_more : (m n : ℕ) → m ≤ n → (c : Course) → CourseBelow m c → CourseBelow n c
 courses_more m n up c below = All-weaker (TakesBelow m) (TakesBelow n) (takes_more m n up) c.accesses below
 
--- the accesses of the threads are the events of cells of these walks, and their loads are counted
+-- the accesses of the threads are the access events of these walks, and their loads are counted
 record IsFound (x : Executed) (ws : List Walk) : Type 0 where
   are : map events_by x.symbolic.threads ≡ map events_in ws
   below : All (CourseBelow x.symbolic.loads) x.symbolic.threads
@@ -48,7 +48,7 @@ module _ (code : Code) (paths : Paths) where
   with_thread_found x ws w walked so =
       let d = thread_started code x w in
       let e = thread_done code paths x w in
-      let one = along_finds code w.function w.outcomes (fails_at paths (length x.symbolic.threads) w) w.places d (unmarked code w.function) walked.last 0 refl
+      let one = along_finds code w.function w.outcomes (fails_at paths (length x.symbolic.threads) w) w.places d (marks_at_start code w.function) walked.last 0 refl
       walked.there walked.site in
       let c : Course = record { name = w.name; tests = e.tests; accesses = e.accesses; creates = e.creates } in
       let own : events_by c ≡ events_in w = ap (map event_by) one.accesses ∙ one.are ∙ ap cell_events (sym walked.events) in
@@ -68,7 +68,7 @@ module _ (code : Code) (paths : Paths) where
 
 -- ---- one thread
 
--- an event of one of three kinds is one of a cell, and no other is
+-- loads, stores and exchanges are access events, and no other kinds are
 is_cell_event : (step : ℕ) (k : EventKind) → (k ≡ kind.Load) ⊎ ((k ≡ kind.Store) ⊎ (k ≡ kind.Exchange)) → cell_event_at step k ≡ Some (cell_event step k)
 is_cell_event step k (inl load) = subst (λ j. cell_event_at step j ≡ Some (cell_event step j)) (sym load) refl
 is_cell_event step k (inr (inl store)) = subst (λ j. cell_event_at step j ≡ Some (cell_event step j)) (sym store) refl
@@ -90,7 +90,7 @@ CellEventsRise xs = (j k : ℕ) (x y : CellEvent) → slice_get xs j ≡ Some x 
 others_rise : (e : Event) (es : List Event) → EventsRise (e ∷ es) → EventsRise es
 others_rise e es rise = λ j k x y at to less. rise (suc j) (suc k) x y at to (omega (arith, less))
 
--- an event of a cell among the later ones is later
+-- an access event among the later events has a later step
 event_is_later : (e : Event) (es : List Event) (k : ℕ) (y : CellEvent) → EventsRise (e ∷ es) → slice_get (cell_events es) k ≡ Some y → e.step < y.step
 event_is_later e es k y rise at =
     let one = of_filter_map (λ (x : Event). cell_event_at x.step x.kind) y es (at_in (cell_events es) k y at) in
@@ -114,7 +114,7 @@ cell_events_rise (e ∷ es) rise = by (cell_event_at e.step e.kind) refl (cell_e
         let same = ap (λ (x : CellEvent). x.step) (its_event e.step e.kind d is) in
         first_rises d (cell_events es) (λ k y at. let later = event_is_later e es k y rise at in omega (arith, later, same)) others
 
--- what stands beside an element of a list whose images are the same
+-- if two lists have the same images, each element has one with the same image at its place
 beside : {X Y Z : Type 0} (f : X → Z) (g : Y → Z) (xs : List X) (ys : List Y) → map f xs ≡ map g ys → (k : ℕ) (x : X) → slice_get xs k ≡ Some x
     → (y : Y) × (slice_get ys k ≡ Some y) × (f x ≡ g y)
 beside {X} {Y} f g xs ys same k x at = by (slice_get ys k) refl

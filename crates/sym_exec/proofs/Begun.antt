@@ -18,7 +18,7 @@ use Rattle.sym_terms.specs.Terms.{AreTerms}
 use Rattle.sym_terms.specs.Values.{value_of}
 use Rattle.sym_terms.specs.declared.node.Node.{Node}
 use Rattle.sym_terms.specs.declared.node.Node.TheVariants.{Constant}
-use Rattle.sym_exec.specs.Making.{Grows, made}
+use Rattle.sym_exec.specs.Making.{Grows, term_of_node}
 use Rattle.sym_exec.specs.Thread.{AreOf, started}
 use Rattle.sym_exec.specs.Alone.{slots_by, StandsFor}
 use Rattle.sym_exec.specs.Runs.{begun, begun_with, Suits, ThreadTells}
@@ -37,7 +37,7 @@ pub start_slots : (ints : ℕ) (terms : List ℕ) (first : ℕ) (nodes : List No
     → arguments ++ replicate (ints - length arguments) (pos 0) ≡ slots_by loads (started ints terms first nodes)
 start_slots ints terms first nodes loads arguments are of is =
     let none : Node = Constant (pos 0) in
-    let zero = made nodes none in
+    let zero = term_of_node nodes none in
     let up : Grows nodes zero.nodes = grows_made nodes none in
     let h = constant_value nodes (pos 0) loads are in
     let f = value_of zero.nodes loads in

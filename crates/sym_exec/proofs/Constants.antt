@@ -22,8 +22,8 @@ use Rattle.path_walk.specs.Paths.{Walk, Paths}
 use Rattle.sym_terms.specs.Terms.{same_node, with_node}
 use Rattle.sym_terms.specs.declared.node.Node.{Node}
 use Rattle.sym_terms.specs.declared.node.Node.TheVariants.{Constant, Symbol, Unary, Binary}
-use Rattle.sym_exec.specs.Making.{Made, AllMade, made, expr_term, with_expr, range_test, last_index, replaced_term}
-use Rattle.sym_exec.specs.Thread.{Doing, term_in, making, after_instr, wanted_of, after_step, after_all}
+use Rattle.sym_exec.specs.Making.{Made, AllMade, term_of_node, expr_term, with_expr, range_test, last_index, replaced_term}
+use Rattle.sym_exec.specs.Thread.{Doing, term_in, with_term, after_instr, wanted_of, after_step, after_all}
 use Rattle.sym_exec.specs.Executed.{Executed, fails_at, thread_started, with_thread, nothing, executed}
 use Rattle.sym_exec.specs.Ints.{HasInt}
 use Rattle.sym_exec.proofs.Tells.{one_less}
@@ -31,7 +31,7 @@ use Rattle.sym_exec.proofs.Tells.{one_less}
 abbrev HaveInts : List Node → Type 0
 HaveInts nodes = All HasInt nodes
 
--- what is made is a node more at most
+-- making a node adds at most that node
 with_int : (nodes : List Node) (node : Node) → HaveInts nodes → HasInt node → HaveInts (with_node nodes node)
 with_int nodes node are is = either HaveInts (list_any (same_node node) nodes) nodes (nodes ++ node ∷ []) are (All-push HasInt nodes node are is)
 
@@ -52,10 +52,10 @@ exprs_ints slots (e ∷ es) xs are is =
 
 range_ints : (x : Made) (last : ℤ) → HaveInts x.nodes → IsInt last → HaveInts (range_test x last).nodes
 range_ints x last are is =
-    let zero = made x.nodes (Constant (pos 0)) in
-    let low = made zero.nodes (Binary Le zero.term x.term) in
-    let top = made low.nodes (Constant last) in
-    let high = made top.nodes (Binary Le x.term top.term) in
+    let zero = term_of_node x.nodes (Constant (pos 0)) in
+    let low = term_of_node zero.nodes (Binary Le zero.term x.term) in
+    let top = term_of_node low.nodes (Constant last) in
+    let high = term_of_node top.nodes (Binary Le x.term top.term) in
     with_int high.nodes (Binary And low.term high.term)
     (with_int top.nodes (Binary Le x.term top.term)
     (with_int low.nodes (Constant last)
@@ -63,10 +63,10 @@ range_ints x last are is =
 
 replaced_ints : (nodes : List Node) (v e f : ℕ) → HaveInts nodes → HaveInts (replaced_term nodes v e f).nodes
 replaced_ints nodes v e f are =
-    let change = made nodes (Binary Xor v f) in
-    let same = made change.nodes (Binary Eq v e) in
-    let mask = made same.nodes (Unary Neg same.term) in
-    let masked = made mask.nodes (Binary And change.term mask.term) in
+    let change = term_of_node nodes (Binary Xor v f) in
+    let same = term_of_node change.nodes (Binary Eq v e) in
+    let mask = term_of_node same.nodes (Unary Neg same.term) in
+    let masked = term_of_node mask.nodes (Binary And change.term mask.term) in
     with_int masked.nodes (Binary Xor v masked.term)
     (with_int mask.nodes (Binary And change.term mask.term)
     (with_int same.nodes (Unary Neg same.term) (with_int change.nodes (Binary Eq v e) (with_int nodes (Binary Xor v f) are tt) tt) tt) tt) tt
@@ -86,8 +86,8 @@ last_int len = by (nat_lt (2 ^ 31) len) refl
 first_ints : (d : Doing) (e : Expr) (es : List Expr) → HaveInts d.nodes → All HasInts (e ∷ es) → HaveInts (term_in d e).nodes
 first_ints d e es are is = expr_ints d.nodes d.slots e are (All-head HasInts e es is)
 
-second_ints : (d : Doing) (a b : Expr) → HaveInts d.nodes → All HasInts (a ∷ b ∷ []) → HaveInts (term_in (making d (term_in d a)) b).nodes
-second_ints d a b are is = first_ints (making d (term_in d a)) b [] (first_ints d a (b ∷ []) are is) (All-tail HasInts a (b ∷ []) is)
+second_ints : (d : Doing) (a b : Expr) → HaveInts d.nodes → All HasInts (a ∷ b ∷ []) → HaveInts (term_in (with_term d (term_in d a)) b).nodes
+second_ints d a b are is = first_ints (with_term d (term_in d a)) b [] (first_ints d a (b ∷ []) are is) (All-tail HasInts a (b ∷ []) is)
 
 -- after an instruction of ints
 instr_ints : (line : ℕ) (wanted : Bool) (d : Doing) (i : Instr) → HaveInts d.nodes → All HasInts (exprs_of i) → HaveInts (after_instr line wanted d i).nodes
@@ -105,8 +105,8 @@ instr_ints line wanted d (InRange e) are is = range_ints (term_in d e) (pos 31) 
 instr_ints line wanted d (Swap k c e) are is = with_int (term_in d e).nodes (Symbol d.loads) (first_ints d e [] are is) tt
 instr_ints line wanted d (Cas k c e new) are is =
     let x = term_in d e in
-    let y = term_in (making d x) new in
-    let v = made y.nodes (Symbol d.loads) in
+    let y = term_in (with_term d x) new in
+    let v = term_of_node y.nodes (Symbol d.loads) in
     replaced_ints v.nodes v.term x.term y.term (with_int y.nodes (Symbol d.loads) (second_ints d e new are is) tt)
 instr_ints line wanted d _ are is = are
 
@@ -123,7 +123,7 @@ module _ (code : Code) (lawful : IsLawful code) where
       by None at = are
       by (Some i) at = let p = placed code f place i lawful at in instr_ints _ _ d i are (p.lawful.ints place i p.at)
 
-  -- and of all threads
+  -- the constants of all threads are ints
   threads_ints : (paths : Paths) (ws : List Walk) (x : Executed) → HaveInts x.nodes → HaveInts (fold (with_thread code paths) x ws).nodes
   threads_ints paths [] x are = are
   threads_ints paths (w ∷ ws) x are =

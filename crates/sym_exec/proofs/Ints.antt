@@ -14,7 +14,7 @@ use Rattle.sym_exec.specs.Making.{replaced_term}
 use Rattle.sym_exec.proofs.Tells.{replaced_value}
 use Rattle.sym_exec.specs.Ints.{HasInt, AreInts, exchanged}
 
--- what a compare-and-exchange brings is what the cell has after it
+-- the value that a compare-and-exchange brings is the cell's value after it
 pub brings : (v e f : ℤ) → IsInt v → IsInt f → exchanged v e f ≡ replaced v e f
 brings v e f p q = by_sameness (int_eq v e) v f p q
 
@@ -35,11 +35,11 @@ fold_int (node ∷ nodes) known loads are ks ls =
     (All-append IsInt known (v ∷ []) ks
     (All-cons IsInt v [] (node_int known loads node ks ls (All-head HasInt node nodes are)) (All-nil IsInt))) ls
 
--- the value of each term is an int, where those of constants and loads are
+-- the value of each term is an int if those of constants and loads are
 pub value_int : (nodes : List Node) (loads : List ℤ) → AreInts nodes loads → (id : ℕ) → IsInt (value_of nodes loads id)
 value_int nodes loads are id = there_int (values_of nodes loads) id (fold_int nodes [] loads are.constants (All-nil IsInt) are.taken)
 
--- so the term that is made for a compare-and-exchange has the value that the cell has after it
+-- the term of a compare-and-exchange has the cell's value after it
 pub written : (nodes : List Node) (loads : List ℤ) (v e f : ℕ) → AreTerms nodes → AreInts nodes loads → v < length nodes → e < length nodes
     → f < length nodes → let x = replaced_term nodes v e f in
     value_of x.nodes loads x.term ≡ replaced (value_of nodes loads v) (value_of nodes loads e) (value_of nodes loads f)

@@ -1,4 +1,4 @@
--- Executions whose terms are all of their nodes stay so.
+-- An execution whose terms are all among its nodes stays one.
 use Rattle.std.proofs.Common.{◌≡◌, ℕ, ◌<◌, ◌≤◌, ◌+◌, ◌-◌, List, [], ◌∷◌, length, Bool, ◌&&◌, Option, Some, None, ℤ, pos, refl, ap, sym, subst, ◌∙◌}
 use Rattle.std.proofs.Common.{arith, fold, replicate, take, slice_get, length-append}
 use Rattle.std.specs.Prelude.{unwrap_or, nat_lt, nat_le, bytes_eq}
@@ -26,50 +26,50 @@ use Rattle.int_ops.specs.declared.arith.UnOp.TheVariants.{Neg}
 use Rattle.int_ops.specs.declared.arith.BinOp.TheVariants.{Xor, Eq, And, Le}
 use Rattle.sym_exec.specs.declared.symbolic.Cell.{Cell}
 use Rattle.sym_exec.specs.declared.symbolic.Cell.TheVariants.{Fixed, Element}
-use Rattle.sym_exec.specs.Making.{Made, AllMade, Grows, made, expr_term, with_expr, expr_terms, range_test, last_index, replaced_term}
-use Rattle.sym_exec.specs.Thread.{Handed, Doing, term_in, making, setting, testing, storing, symbol_in, loading, reading, swapping, replacing}
-use Rattle.sym_exec.specs.Thread.{handing, after_instr, wanted_of, after_step, started, after_all}
+use Rattle.sym_exec.specs.Making.{Made, AllMade, Grows, term_of_node, expr_term, with_expr, expr_terms, range_test, last_index, replaced_term}
+use Rattle.sym_exec.specs.Thread.{Handed, Doing, term_in, with_term, with_slot, with_test, with_store, symbol_in, with_load, reading, with_exchange, with_compare_exchange}
+use Rattle.sym_exec.specs.Thread.{with_handed_terms, after_instr, wanted_of, after_step, started, after_all}
 use Rattle.sym_exec.specs.helpers.Threads.{HaveTerms, names_within}
 use Rattle.sym_exec.specs.Thread.{AreOf, HandsOf, HasTerms}
 use Rattle.sym_exec.specs.Executed.{Course, Executed, handed_by, handed_to, arguments_for, fails_at, thread_started, thread_done, with_thread}
 use Rattle.sym_exec.proofs.Grown.{grows_none, grows_both, grows_made, made_within, stays_within, stay_of, expr_grows, expr_within}
 use Rattle.sym_exec.proofs.Grown.{below_more, names_more, all_names_more}
 
--- a test of range, and what a compare-and-exchange writes
+-- a range test and the term of a compare-and-exchange only add nodes
 pub range_grows : (x : Made) (last : ℤ) → Grows x.nodes (range_test x last).nodes
 range_grows x last =
     let none : Node = Constant (pos 0) in
-    let zero = made x.nodes none in
+    let zero = term_of_node x.nodes none in
     let less : Node = Binary Le zero.term x.term in
-    let low = made zero.nodes less in
+    let low = term_of_node zero.nodes less in
     let most : Node = Constant last in
-    let top = made low.nodes most in
+    let top = term_of_node low.nodes most in
     let more : Node = Binary Le x.term top.term in
-    let high = made top.nodes more in
+    let high = term_of_node top.nodes more in
     let both : Node = Binary And low.term high.term in
-    grows_both x.nodes zero.nodes (made high.nodes both).nodes (grows_made x.nodes none)
-    (grows_both zero.nodes low.nodes (made high.nodes both).nodes (grows_made zero.nodes less)
-    (grows_both low.nodes top.nodes (made high.nodes both).nodes (grows_made low.nodes most)
-    (grows_both top.nodes high.nodes (made high.nodes both).nodes (grows_made top.nodes more) (grows_made high.nodes both))))
+    grows_both x.nodes zero.nodes (term_of_node high.nodes both).nodes (grows_made x.nodes none)
+    (grows_both zero.nodes low.nodes (term_of_node high.nodes both).nodes (grows_made zero.nodes less)
+    (grows_both low.nodes top.nodes (term_of_node high.nodes both).nodes (grows_made low.nodes most)
+    (grows_both top.nodes high.nodes (term_of_node high.nodes both).nodes (grows_made top.nodes more) (grows_made high.nodes both))))
 
 pub replaced_grows : (nodes : List Node) (v e f : ℕ) → Grows nodes (replaced_term nodes v e f).nodes
 replaced_grows nodes v e f =
     let first : Node = Binary Xor v f in
-    let change = made nodes first in
+    let change = term_of_node nodes first in
     let second : Node = Binary Eq v e in
-    let same = made change.nodes second in
+    let same = term_of_node change.nodes second in
     let third : Node = Unary Neg same.term in
-    let mask = made same.nodes third in
+    let mask = term_of_node same.nodes third in
     let fourth : Node = Binary And change.term mask.term in
-    let masked = made mask.nodes fourth in
+    let masked = term_of_node mask.nodes fourth in
     let fifth : Node = Binary Xor v masked.term in
-    let all = (made masked.nodes fifth).nodes in
+    let all = (term_of_node masked.nodes fifth).nodes in
     grows_both nodes change.nodes all (grows_made nodes first)
     (grows_both change.nodes same.nodes all (grows_made change.nodes second)
     (grows_both same.nodes mask.nodes all (grows_made same.nodes third)
     (grows_both mask.nodes masked.nodes all (grows_made mask.nodes fourth) (grows_made masked.nodes fifth))))
 
--- a term is one of some nodes
+-- a term is one of these nodes
 abbrev IsOf : List Node → ℕ → Type 0
 IsOf nodes term = term < length nodes
 
@@ -97,7 +97,7 @@ pub exprs_made : (nodes : List Node) (slots : List ℕ) (es : List Expr) → Are
 exprs_made nodes slots es are named =
     exprs_from nodes slots es (record { terms = []; nodes = nodes }) are (record { grow = grows_none nodes; within = All-nil (IsOf nodes) }) named
 
--- one goes on as another, with as many slots
+-- one execution extends another, with as many slots
 pub record GoesOn (d e : Doing) : Type 0 where
   pub grows : Grows d.nodes e.nodes
   pub sound : HasTerms e
@@ -109,14 +109,14 @@ both_go d e f g h = record { grows = grows_both d.nodes e.nodes f.nodes g.grows 
 handed_stay : (a b : List Node) (hs : List Handed) → Grows a b → All (HandsOf a) hs → All (HandsOf b) hs
 handed_stay a b hs g are = All-weaker (HandsOf a) (HandsOf b) (λ h of. stay_of a b h.terms g of) hs are
 
-making_goes : (d : Doing) (x : Made) → HasTerms d → Grows d.nodes x.nodes → GoesOn d (making d x)
+making_goes : (d : Doing) (x : Made) → HasTerms d → Grows d.nodes x.nodes → GoesOn d (with_term d x)
 making_goes d x s g = record {
   grows = g;
   sound = record { slots = stay_of d.nodes x.nodes d.slots g s.slots; creates = handed_stay d.nodes x.nodes d.creates g s.creates };
   size = refl;
 }
 
-setting_goes : (d : Doing) (k : ℕ) (x : Made) → HasTerms d → Grows d.nodes x.nodes → x.term < length x.nodes → GoesOn d (setting d k x)
+setting_goes : (d : Doing) (k : ℕ) (x : Made) → HasTerms d → Grows d.nodes x.nodes → x.term < length x.nodes → GoesOn d (with_slot d k x)
 setting_goes d k x s g within = record {
   grows = g;
   sound = record {
@@ -126,43 +126,43 @@ setting_goes d k x s g within = record {
   size = length-set d.slots k x.term;
 }
 
-testing_goes : (d : Doing) (line : ℕ) (wanted : Bool) (x : Made) → HasTerms d → Grows d.nodes x.nodes → GoesOn d (testing d line wanted x)
+testing_goes : (d : Doing) (line : ℕ) (wanted : Bool) (x : Made) → HasTerms d → Grows d.nodes x.nodes → GoesOn d (with_test d line wanted x)
 testing_goes d line wanted x s g = let m = making_goes d x s g in
     record { grows = g; sound = record { slots = m.sound.slots; creates = m.sound.creates }; size = refl }
 
-storing_goes : (d : Doing) (cell : Cell) (x : Made) → HasTerms d → Grows d.nodes x.nodes → GoesOn d (storing d cell x)
+storing_goes : (d : Doing) (cell : Cell) (x : Made) → HasTerms d → Grows d.nodes x.nodes → GoesOn d (with_store d cell x)
 storing_goes d cell x s g = let m = making_goes d x s g in
     record { grows = g; sound = record { slots = m.sound.slots; creates = m.sound.creates }; size = refl }
 
 loading_goes : (d : Doing) (k : ℕ) (cell : Cell) (symbol : ℕ) (writes : Option ℕ) → HasTerms d → symbol < length d.nodes
-    → GoesOn d (loading d k cell symbol writes)
+    → GoesOn d (with_load d k cell symbol writes)
 loading_goes d k cell symbol writes s within = record {
   grows = grows_none d.nodes;
   sound = record { slots = All-set (IsOf d.nodes) d.slots k symbol within s.slots; creates = s.creates };
   size = length-set d.slots k symbol;
 }
 
-reading_goes : (d : Doing) (k : ℕ) (cell : Cell) (writes : Option ℕ) → HasTerms d → GoesOn d (let v = symbol_in d in loading (making d v) k cell v.term writes)
+reading_goes : (d : Doing) (k : ℕ) (cell : Cell) (writes : Option ℕ) → HasTerms d → GoesOn d (let v = symbol_in d in with_load (with_term d v) k cell v.term writes)
 reading_goes d k cell writes s =
     let v = symbol_in d in
     let m = making_goes d v s (grows_made d.nodes (Symbol d.loads)) in
-    both_go d (making d v) (loading (making d v) k cell v.term writes) m
-    (loading_goes (making d v) k cell v.term writes m.sound (made_within d.nodes (Symbol d.loads)))
+    both_go d (with_term d v) (with_load (with_term d v) k cell v.term writes) m
+    (loading_goes (with_term d v) k cell v.term writes m.sound (made_within d.nodes (Symbol d.loads)))
 
-replacing_goes : (d : Doing) (k : ℕ) (cell : Cell) (expected new : Expr) → HasTerms d → GoesOn d (replacing d k cell expected new)
+replacing_goes : (d : Doing) (k : ℕ) (cell : Cell) (expected new : Expr) → HasTerms d → GoesOn d (with_compare_exchange d k cell expected new)
 replacing_goes d k cell expected new s =
     let e = term_in d expected in
-    let f = term_in (making d e) new in
-    let v = symbol_in (making d f) in
+    let f = term_in (with_term d e) new in
+    let v = symbol_in (with_term d f) in
     let w = replaced_term v.nodes v.term e.term f.term in
     let up : Grows d.nodes f.nodes = grows_both d.nodes e.nodes f.nodes (expr_grows d.nodes d.slots expected) (expr_grows e.nodes d.slots new) in
     let more : Grows d.nodes v.nodes = grows_both d.nodes f.nodes v.nodes up (grows_made f.nodes (Symbol d.loads)) in
     let last : Grows v.nodes w.nodes = replaced_grows v.nodes v.term e.term f.term in
     let m = making_goes d w s (grows_both d.nodes v.nodes w.nodes more last) in
-    both_go d (making d w) (loading (making d w) k cell v.term (Some w.term)) m (loading_goes (making d w) k cell v.term (Some w.term) m.sound
+    both_go d (with_term d w) (with_load (with_term d w) k cell v.term (Some w.term)) m (loading_goes (with_term d w) k cell v.term (Some w.term) m.sound
     (stays_within v.nodes w.nodes v.term last (made_within f.nodes (Symbol d.loads))))
 
-handing_goes : (d : Doing) (es : List Expr) → HasTerms d → IsTrue (list_all (names_slots (length d.slots)) es) → GoesOn d (handing d es)
+handing_goes : (d : Doing) (es : List Expr) → HasTerms d → IsTrue (list_all (names_slots (length d.slots)) es) → GoesOn d (with_handed_terms d es)
 handing_goes d es s named =
     let xs = expr_terms d.nodes d.slots es in
     let m = exprs_made d.nodes d.slots es s.slots named in
@@ -186,12 +186,12 @@ instr_goes line wanted d (Load k c) s named = reading_goes d k (Fixed c) None s
 instr_goes line wanted d (LoadAt k first len i) s named =
     let x = term_in d i in
     let m = making_goes d x s (expr_grows d.nodes d.slots i) in
-    both_go d (making d x) (reading (making d x) k (Element first len x.term)) m (reading_goes (making d x) k (Element first len x.term) None m.sound)
+    both_go d (with_term d x) (reading (with_term d x) k (Element first len x.term)) m (reading_goes (with_term d x) k (Element first len x.term) None m.sound)
 instr_goes line wanted d (Store c e) s named = storing_goes d (Fixed c) (term_in d e) s (expr_grows d.nodes d.slots e)
 instr_goes line wanted d (StoreAt first len i e) s named =
     let x = term_in d i in
-    storing_goes d (Element first len x.term) (term_in (making d x) e) s
-    (grows_both d.nodes x.nodes (term_in (making d x) e).nodes (expr_grows d.nodes d.slots i) (expr_grows x.nodes d.slots e))
+    storing_goes d (Element first len x.term) (term_in (with_term d x) e) s
+    (grows_both d.nodes x.nodes (term_in (with_term d x) e).nodes (expr_grows d.nodes d.slots i) (expr_grows x.nodes d.slots e))
 instr_goes line wanted d (Inside len i) s named =
     let x = term_in d i in
     testing_goes d line wanted (range_test x (last_index len)) s
@@ -209,11 +209,11 @@ instr_goes line wanted d (InRange e) s named =
 instr_goes line wanted d (Swap k c e) s named =
     let x = term_in d e in
     let m = making_goes d x s (expr_grows d.nodes d.slots e) in
-    both_go d (making d x) (swapping d k (Fixed c) x) m (reading_goes (making d x) k (Fixed c) (Some x.term) m.sound)
+    both_go d (with_term d x) (with_exchange d k (Fixed c) x) m (reading_goes (with_term d x) k (Fixed c) (Some x.term) m.sound)
 instr_goes line wanted d (Cas k c e new) s named = replacing_goes d k (Fixed c) e new s
 instr_goes line wanted d _ s named = record { grows = grows_none d.nodes; sound = s; size = refl }
 
--- what an instruction of lawful code names is there
+-- everything that an instruction of lawful code names exists
 names_there : (code : Code) (g : Func) (n : ℕ) (i : Instr) → g.ints ≤ n → IsTrue (names_what_is code g i) → IsTrue (names_within n i)
 names_there code g n (Set k e) up h =
     let h = and_parts (nat_lt k g.ints) (names_slots g.ints e) h in
@@ -263,7 +263,7 @@ instr_counted : (line : ℕ) (wanted : Bool) (d : Doing) (i : Instr) → Counted
 instr_counted line wanted d (Branch e to) = record { steps = refl; branches = omega arith }
 instr_counted line wanted d _ = record { steps = refl; branches = omega arith }
 
--- one goes on as another by a step at most
+-- one execution extends another by at most one step
 pub record StepsOn (d e : Doing) : Type 0 where
   pub goes : GoesOn d e
   pub steps : e.steps ≤ d.steps + 1
@@ -293,12 +293,12 @@ step_by code f outcomes fails d place (Some i) at lawful up s =
     record (after_instr (unwrap_or (line_at code f place) 0) (wanted_of outcomes fails d i) d i) { steps = d.steps + 1 }) o d)) (sym at)
     (does_on (unwrap_or (line_at code f place) 0) (wanted_of outcomes fails d i) d i s (instr_named code f place (length d.slots) i lawful at up))
 
--- each step goes on
+-- each step extends the execution
 pub step_goes : (code : Code) (f : ℕ) (outcomes : List Bool) (fails : Option ℕ) (d : Doing) (place : ℕ)
     → IsLawful code → ints_of code f ≤ length d.slots → HasTerms d → StepsOn d (after_step code f outcomes fails d place)
 step_goes code f outcomes fails d place = step_by code f outcomes fails d place (instr_at code f place) refl
 
--- and so do all steps
+-- all steps extend the execution
 pub all_go : (code : Code) (f : ℕ) (outcomes : List Bool) (fails : Option ℕ) (d : Doing) (places : List ℕ)
     → IsLawful code → ints_of code f ≤ length d.slots → HasTerms d → GoesOn d (after_all code f outcomes fails d places)
 all_go code f outcomes fails d [] lawful up s = (stays_on d s).goes
@@ -312,7 +312,7 @@ all_go code f outcomes fails d (place ∷ places) lawful up s =
 pub start_sound : (ints : ℕ) (arguments : List ℕ) (loads : ℕ) (nodes : List Node) → AreOf nodes arguments → HasTerms (started ints arguments loads nodes)
 start_sound ints arguments loads nodes are =
     let none : Node = Constant (pos 0) in
-    let zero = made nodes none in
+    let zero = term_of_node nodes none in
     record {
       slots = All-append (IsOf zero.nodes) arguments (replicate (ints - length arguments) zero.term)
           (stay_of nodes zero.nodes arguments (grows_made nodes none) are)
@@ -320,14 +320,14 @@ start_sound ints arguments loads nodes are =
       creates = All-nil (HandsOf zero.nodes);
     }
 
--- it has all slots of its function
+-- a thread starts with all slots of its function
 pub start_has : (ints : ℕ) (arguments : List ℕ) (loads : ℕ) (nodes : List Node) → ints ≤ length (started ints arguments loads nodes).slots
 start_has ints arguments loads nodes =
     let none : Node = Constant (pos 0) in
-    let zero = made nodes none in
+    let zero = term_of_node nodes none in
     omega (arith, length-append arguments (replicate (ints - length arguments) zero.term), length-replicate (ints - length arguments) zero.term)
 
--- what a thread hands to its children, and so what a child takes, is of the nodes
+-- the terms that a thread hands over, and so those that a child takes, are among the nodes
 handed_by_sound : (nodes : List Node) (number : ℕ) (c : Course) → All (HandsOf nodes) c.creates → AreOf nodes (handed_by number c)
 handed_by_sound nodes number c are = by (slice_get c.creates (number - 1)) refl
   where
@@ -355,7 +355,7 @@ arguments_sound x n are = by (last_or None n)
     by None = All-nil (IsOf x.nodes)
     by (Some k) = handed_to_sound x.nodes x.symbolic.threads (take (length n - 1) n) k are
 
--- and with each thread it stays so
+-- each thread keeps terms among the nodes
 pub thread_sound : (code : Code) (paths : Paths) (x : Executed) (w : Walk) → IsLawful code → HaveTerms x → HaveTerms (with_thread code paths x w)
 thread_sound code paths x w lawful are =
     let nodes = x.nodes in

@@ -1,4 +1,4 @@
--- An execution tells what a thread does that goes along the path by itself.
+-- An execution determines what a thread does that runs its path alone.
 use Rattle.std.proofs.Common.{◌≡◌, ◌∙◌, ℕ, zero, suc, ◌<◌, ◌≤◌, ◌+◌, ◌-◌, ◌^◌, ℤ, pos, negsuc, List, [], ◌∷◌, ◌++◌, map, length, get_or, set, drop, fold}
 use Rattle.std.proofs.Common.{Bool, true, false, cond, ◌&&◌, Option, Some, None, refl, ap, ap₂, sym, subst, arith, append_assoc}
 use Rattle.std.specs.Prelude.{option_and_then, unwrap_or, int_le, int_lt, nat_lt, nat_le, ◌-ℤ◌}
@@ -34,8 +34,8 @@ use Rattle.sym_terms.specs.Terms.{AreTerms}
 use Rattle.sym_terms.specs.Values.{value_of}
 use Rattle.sym_terms.specs.declared.node.Node.{Node}
 use Rattle.sym_terms.specs.declared.node.Node.TheVariants.{Symbol, Unary, Binary}
-use Rattle.sym_exec.specs.Making.{Made, AllMade, Grows, made, expr_term, with_expr, expr_terms, range_test, last_index, replaced_term}
-use Rattle.sym_exec.specs.Thread.{Handed, Doing, AreOf, HasTerms, term_in, making, testing, symbol_in, after_instr, wanted_of, after_step, after_all}
+use Rattle.sym_exec.specs.Making.{Made, AllMade, Grows, term_of_node, expr_term, with_expr, expr_terms, range_test, last_index, replaced_term}
+use Rattle.sym_exec.specs.Thread.{Handed, Doing, AreOf, HasTerms, term_in, with_term, with_test, symbol_in, after_instr, wanted_of, after_step, after_all}
 use Rattle.sym_exec.specs.helpers.Threads.{names_within}
 use Rattle.sym_exec.specs.Alone.{slots_by, condition, outcomes_of, given_by, given_of, values_in, Asked, asked_by, asked_of}
 use Rattle.sym_exec.specs.Ints.{exchanged}
@@ -63,7 +63,7 @@ loads_after line wanted d (Swap k c e) = refl
 loads_after line wanted d (Cas k c e new) = refl
 loads_after line wanted d _ = omega arith
 
--- what a thread has after an instruction that its request may fail: the slots, and the values that are left
+-- a thread after an instruction whose request may fail: its slots, and the values left
 pub record After (t : Local) (i : Instr) (vs : List ℤ) (a : Alone) : Type 0 where
   pub slots : a.local.slots ≡ (local_after t i (get_or vs 0 (pos 0))).slots
   pub values : a.values ≡ cond (is_load i) (drop 1 vs) vs
@@ -88,25 +88,25 @@ after_is t (InRange e) vs = after_site t (InRange e) vs (is_distance (value_in t
 after_is t _ [] = record { slots = refl; values = refl }
 after_is t _ (v ∷ vs) = record { slots = refl; values = refl }
 
--- what a compare-and-exchange writes has its value by bits
+-- the term that a compare-and-exchange writes has its value by bit operations
 pub replaced_value : (nodes : List Node) (v e f : ℕ) (loads : List ℤ) (a b c : ℤ) → AreTerms nodes → v < length nodes → e < length nodes → f < length nodes
     → value_of nodes loads v ≡ a → value_of nodes loads e ≡ b → value_of nodes loads f ≡ c → HasValue loads (replaced_term nodes v e f) (exchanged a b c)
 replaced_value nodes v e f loads a b c are wv we wf va vb vc =
     let first : Node = Binary Xor v f in
-    let change = made nodes first in
+    let change = term_of_node nodes first in
     let hc = binary_value Xor nodes v f a c loads are wv wf va vc in
     let gc : Grows nodes change.nodes = grows_made nodes first in
     let second : Node = Binary Eq v e in
-    let same = made change.nodes second in
+    let same = term_of_node change.nodes second in
     let hs = binary_value Eq change.nodes v e a b loads hc.terms (stays_within nodes change.nodes v gc wv) (stays_within nodes change.nodes e gc we)
     (value_stays nodes change.nodes loads v gc wv ∙ va) (value_stays nodes change.nodes loads e gc we ∙ vb) in
     let gs : Grows change.nodes same.nodes = grows_made change.nodes second in
     let third : Node = Unary Neg same.term in
-    let mask = made same.nodes third in
+    let mask = term_of_node same.nodes third in
     let hm = unary_value Neg same (equal a b) loads hs in
     let gcm : Grows change.nodes mask.nodes = grows_both change.nodes same.nodes mask.nodes gs (grows_made same.nodes third) in
     let fourth : Node = Binary And change.term mask.term in
-    let masked = made mask.nodes fourth in
+    let masked = term_of_node mask.nodes fourth in
     let hk = binary_value And mask.nodes change.term mask.term (bits_xor a c) (negated (equal a b)) loads hm.terms
     (stays_within change.nodes mask.nodes change.term gcm hc.within) hm.within (value_stays change.nodes mask.nodes loads change.term gcm hc.within ∙ hc.value)
     hm.value in
@@ -128,7 +128,7 @@ exprs_terms slots loads nodes (e ∷ es) xs of g are named =
 pub one_less : (n : ℕ) → pos (suc n) -ℤ pos 1 ≡ pred_ℤ (pos (suc n))
 one_less n = -ℤ_one (pos (suc n))
 
--- an index is before a length exactly where it is not after the last
+-- an index is before a length exactly if it isn't after the last index
 last_is_before : (v : ℤ) (n : ℕ) → int_le v (pos n -ℤ pos 1) ≡ int_lt v (pos n)
 last_is_before (pos k) zero = sym (le-ltb k 0 (omega arith))
 last_is_before (pos k) (suc n) = ap (int_le (pos k)) (one_less n) ∙ sym (leb-suc-suc k n)
@@ -140,7 +140,7 @@ within_is len v short =
     ap (λ b. int_le (pos 0) v && int_le v (cond b (pos (2 ^ 31 - 1)) (pos len -ℤ pos 1))) (le-ltb (2 ^ 31) len short)
     ∙ ap (λ b. int_le (pos 0) v && b) (last_is_before v len)
 
--- what one instruction tells
+-- what one instruction determines
 pub record Told (loads : List ℤ) (d e : Doing) (t : Local) (i : Instr) (v : ℤ) : Type 0 where
   pub terms : AreTerms e.nodes
   pub slots : (local_after t i v).slots ≡ slots_by loads e
@@ -159,22 +159,22 @@ kept_told : (loads : List ℤ) (d : Doing) (nodes : List Node) (s : List ℤ) �
     → s ≡ map (value_of nodes loads) d.slots
 kept_told loads d nodes s g of is = is ∙ sym (values_stay d.nodes nodes loads d.slots g of)
 
--- a test comes out as its term tells
+-- a test has the outcome of its term
 test_comes : (loads : List ℤ) (x : Made) (v : ℤ) (b : Bool) (step line : ℕ) (wanted : Bool) → HasValue loads x v → is_nonzero v ≡ b
     → (later : List Node) → Grows x.nodes later
     → map (outcome_by later loads) (record { step = step; line = line; term = x.term; wanted = wanted } ∷ []) ≡ b ∷ []
 test_comes loads x v b step line wanted h is later g =
     ap (λ w. is_nonzero w ∷ []) (value_stays x.nodes later loads x.term g h.within ∙ h.value) ∙ ap (λ c. c ∷ []) is
 
--- of a test, the length of an index is no more than an int
+-- the length in an index test is an int
 abbrev pub IsShort : Instr → Type 0
 IsShort (Inside len i) = len ≤ 2 ^ 31
 IsShort _ = Unit {0}
 
--- of an expression that is tested
+-- an instruction that tests an expression
 expr_told : (loads : List ℤ) (line : ℕ) (wanted : Bool) (d : Doing) (i : Instr) (t : Local) (v : ℤ) (e : Expr) (branches : ℕ) → AreTerms d.nodes → HasTerms d
     → IsTrue (names_slots (length d.slots) e) → t.slots ≡ slots_by loads d → (local_after t i v).slots ≡ t.slots
-    → condition t i ≡ Some (is_nonzero (value_in t e)) → Told loads d (record (testing d line wanted (term_in d e)) { branches = branches }) t i v
+    → condition t i ≡ Some (is_nonzero (value_in t e)) → Told loads d (record (with_test d line wanted (term_in d e)) { branches = branches }) t i v
 expr_told loads line wanted d i t v e branches are s named is kept tests =
     let x = term_in d e in
     let h = expr_value d.nodes d.slots e loads are s.slots named in
@@ -216,7 +216,7 @@ told loads line wanted d (LoadAt k first len i) t v are s named short is load =
     let named = and_parts (nat_lt k (length d.slots)) (names_slots (length d.slots) i) named in
     let x = term_in d i in
     let hx = expr_value d.nodes d.slots i loads are s.slots named.1 in
-    let y = made x.nodes (Symbol d.loads) in
+    let y = term_of_node x.nodes (Symbol d.loads) in
     let h = symbol_value x.nodes d.loads loads hx.terms in
     let g : Grows d.nodes y.nodes = grows_both d.nodes x.nodes y.nodes (expr_grows d.nodes d.slots i) (grows_made x.nodes (Symbol d.loads)) in
     record {
@@ -230,7 +230,7 @@ told loads line wanted d (Swap k c e) t v are s named short is load =
     let named = and_parts (nat_lt k (length d.slots)) (names_slots (length d.slots) e) named in
     let x = term_in d e in
     let hx = expr_value d.nodes d.slots e loads are s.slots named.1 in
-    let y = made x.nodes (Symbol d.loads) in
+    let y = term_of_node x.nodes (Symbol d.loads) in
     let h = symbol_value x.nodes d.loads loads hx.terms in
     let g : Grows d.nodes y.nodes = grows_both d.nodes x.nodes y.nodes (expr_grows d.nodes d.slots e) (grows_made x.nodes (Symbol d.loads)) in
     record {
@@ -246,10 +246,10 @@ told loads line wanted d (Cas k c e new) t v are s named short is load =
     let x = term_in d e in
     let hx = expr_value d.nodes d.slots e loads are s.slots first.1 in
     let gx : Grows d.nodes x.nodes = expr_grows d.nodes d.slots e in
-    let y = term_in (making d x) new in
+    let y = term_in (with_term d x) new in
     let hy = expr_value x.nodes d.slots new loads hx.terms (stay_of d.nodes x.nodes d.slots gx s.slots) named.1 in
     let gy : Grows x.nodes y.nodes = expr_grows x.nodes d.slots new in
-    let z = made y.nodes (Symbol d.loads) in
+    let z = term_of_node y.nodes (Symbol d.loads) in
     let hz = symbol_value y.nodes d.loads loads hy.terms in
     let gz : Grows y.nodes z.nodes = grows_made y.nodes (Symbol d.loads) in
     let w = replaced_term z.nodes z.term x.term y.term in
@@ -278,7 +278,7 @@ told loads line wanted d (StoreAt first len i e) t v are s named short is load =
     let x = term_in d i in
     let hx = expr_value d.nodes d.slots i loads are s.slots named.0 in
     let gx : Grows d.nodes x.nodes = expr_grows d.nodes d.slots i in
-    let y = term_in (making d x) e in
+    let y = term_in (with_term d x) e in
     record {
       terms = (expr_value x.nodes d.slots e loads hx.terms (stay_of d.nodes x.nodes d.slots gx s.slots) named.1).terms;
       slots = kept_told loads d y.nodes t.slots (grows_both d.nodes x.nodes y.nodes gx (expr_grows x.nodes d.slots e)) s.slots is;
@@ -351,7 +351,7 @@ exprs_values slots loads nodes (e ∷ es) xs vs of g are within named is =
     (All-push (λ n. n < length x.nodes) xs.terms x.term (stay_of xs.nodes x.nodes xs.terms up within) h.within) named.1 all
     ∙ append_assoc vs (v ∷ []) (map (λ e. expr_value_of e (map (value_of nodes loads) slots)) es)
 
--- what an instruction hands over
+-- the terms that an instruction hands over
 pub record Hands (loads : List ℤ) (d e : Doing) (t : Local) (i : Instr) : Type 0 where
   pub hands : List Handed
   pub creates : e.creates ≡ d.creates ++ hands
@@ -372,7 +372,7 @@ hands_over loads line wanted d (Create h f es) t are s named is =
     }
 hands_over loads line wanted d _ t are s named is = record { hands = []; creates = sym (append-nil d.creates); given = λ later g. refl }
 
--- what an instruction asks of a cell
+-- the request of an instruction for a cell
 pub record Asks (loads : List ℤ) (d e : Doing) (t : Local) (i : Instr) (v : ℤ) : Type 0 where
   pub found : List Access
   pub accesses : e.accesses ≡ d.accesses ++ found
@@ -430,7 +430,7 @@ asks loads line wanted d (StoreAt first len i e) t v are s named is load int int
     let x = term_in d i in
     let hx = expr_value d.nodes d.slots i loads are s.slots named.0 in
     let gx : Grows d.nodes x.nodes = expr_grows d.nodes d.slots i in
-    let y = term_in (making d x) e in
+    let y = term_in (with_term d x) e in
     let gy : Grows x.nodes y.nodes = expr_grows x.nodes d.slots e in
     let hy = expr_value x.nodes d.slots e loads hx.terms (stay_of d.nodes x.nodes d.slots gx s.slots) named.1 in
     let value : (later : List Node) → Grows y.nodes later → value_of later loads y.term ≡ value_in t e = λ later g.
@@ -461,10 +461,10 @@ asks loads line wanted d (Cas k c e new) t v are s named is load int ints =
     let x = term_in d e in
     let hx = expr_value d.nodes d.slots e loads are s.slots first.1 in
     let gx : Grows d.nodes x.nodes = expr_grows d.nodes d.slots e in
-    let y = term_in (making d x) new in
+    let y = term_in (with_term d x) new in
     let hy = expr_value x.nodes d.slots new loads hx.terms (stay_of d.nodes x.nodes d.slots gx s.slots) named.1 in
     let gy : Grows x.nodes y.nodes = expr_grows x.nodes d.slots new in
-    let z = made y.nodes (Symbol d.loads) in
+    let z = term_of_node y.nodes (Symbol d.loads) in
     let hz = symbol_value y.nodes d.loads loads hy.terms in
     let gz : Grows y.nodes z.nodes = grows_made y.nodes (Symbol d.loads) in
     let gyz : Grows x.nodes z.nodes = grows_both x.nodes y.nodes z.nodes gy gz in
@@ -512,7 +512,7 @@ cons_is None xs = refl
 cons_is (Some x) xs = refl
 
 module _ (code : Code) (f : ℕ) (outcomes : List Bool) (fails : Option ℕ) where
-  -- a step, where an instruction is at the place, and where none is
+  -- a step, with an instruction at its place or without one
   abbrev stepped_by : Doing → ℕ → Option Instr → Doing
   stepped_by d place o = option_map_or (λ i.
       record (after_instr (unwrap_or (line_at code f place) 0) (wanted_of outcomes fails d i) d i) { steps = d.steps + 1 }) o d
@@ -529,7 +529,7 @@ module _ (code : Code) (f : ℕ) (outcomes : List Bool) (fails : Option ℕ) whe
       let e = after_step code f outcomes fails d place in
       omega (arith, loads_by d place (instr_at code f place), loads_grow places e)
 
--- lawful code tests no index against more cells than there are
+-- an index test of lawful code has a length of at most the number of cells
 pub short_is : (code : Code) (f place : ℕ) (i : Instr) → IsLawful code → instr_at code f place ≡ Some i → IsShort i
 short_is code f place (Inside len i) lawful at =
     let p = placed code f place (Inside len i) lawful at in
@@ -538,7 +538,7 @@ short_is code f place (Inside len i) lawful at =
     omega (arith, few, lawful.cells)
 short_is code f place _ lawful at = tt
 
--- what a step adds, and what the later steps add
+-- the values that a step adds, and those that the later steps add
 more : {A B : Type 0} (fn : A → B) (old new all : List A) (here later : List B) → all ≡ old ++ new → map fn new ≡ here
     → map fn all ++ later ≡ map fn old ++ (here ++ later)
 more fn old new all here later is gives =
@@ -552,7 +552,7 @@ module _ (code : Code) (f : ℕ) (outcomes : List Bool) (fails : Option ℕ) (lo
   abbrev next : Doing → ℕ → Doing
   next d place = after_step code f outcomes fails d place
 
-  -- what a step tells
+  -- what a step determines
   record StepTold (place : ℕ) (places : List ℕ) (d : Doing) (a : Alone) : Type 0 where
     stands : StandsFor code f outcomes fails loads places (next d place) (goes_on code a)
     test : List Test
@@ -568,7 +568,7 @@ module _ (code : Code) (f : ℕ) (outcomes : List Bool) (fails : Option ℕ) (lo
     asked : (later : List Node) → Grows (next d place).nodes later → map (asked_in later loads) found
         ≡ option_map_or (λ i. asked_by (get_or a.values 0 (pos 0)) (request a.local i)) (instr_of code a.local) []
 
-  -- no instruction is at the place, and nothing is done
+  -- with no instruction at the place, nothing is done
   no_step : (place : ℕ) (places : List ℕ) (d : Doing) (a : Alone) → StandsFor code f outcomes fails loads (place ∷ places) d a
       → instr_at code f place ≡ None → StepTold place places d a
   no_step place places d a s at =
@@ -598,7 +598,7 @@ module _ (code : Code) (f : ℕ) (outcomes : List Bool) (fails : Option ℕ) (lo
         asked = λ later g. sym (ap (λ o. option_map_or (λ i. asked_by (get_or a.values 0 (pos 0)) (request a.local i)) o []) none);
       }
 
-  -- an instruction is there, and is done
+  -- an instruction at the place is done
   one_step : (place : ℕ) (places : List ℕ) (d : Doing) (a : Alone) (i : Instr) → StandsFor code f outcomes fails loads (place ∷ places) d a
       → instr_at code f place ≡ Some i → StepTold place places d a
   one_step place places d a i s at =

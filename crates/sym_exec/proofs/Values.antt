@@ -20,7 +20,7 @@ use Rattle.sym_terms.specs.declared.node.Node.{Node}
 use Rattle.sym_terms.specs.declared.node.Node.TheVariants.{Constant, Symbol, Unary, Binary}
 use Rattle.sym_terms.proofs.Growth as terms
 use Rattle.sym_terms.proofs.Folds as folds
-use Rattle.sym_exec.specs.Making.{Made, Grows, made, expr_term, range_test}
+use Rattle.sym_exec.specs.Making.{Made, Grows, term_of_node, expr_term, range_test}
 use Rattle.sym_exec.specs.Thread.{AreOf}
 use Rattle.sym_exec.proofs.Grown.{grows_both, grows_made, made_within, stays_within, stay_of, expr_grows}
 
@@ -28,19 +28,19 @@ use Rattle.sym_exec.proofs.Grown.{grows_both, grows_made, made_within, stays_wit
 pub value_stays : (a b : List Node) (loads : List ℤ) (term : ℕ) → Grows a b → term < length a → value_of b loads term ≡ value_of a loads term
 value_stays a b loads term g within = ap (λ ns. value_of ns loads term) g.1 ∙ folds.keep a g.0 loads term within
 
--- and so do those of several
+-- the values of several terms stay too
 pub values_stay : (a b : List Node) (loads : List ℤ) (ts : List ℕ) → Grows a b → AreOf a ts → map (value_of b loads) ts ≡ map (value_of a loads) ts
 values_stay a b loads [] g are = refl
 values_stay a b loads (t ∷ ts) g are =
     ap₂ (λ x xs. x ∷ xs) (value_stays a b loads t g (All-head (λ n. n < length a) t ts are))
     (values_stay a b loads ts g (All-tail (λ n. n < length a) t ts are))
 
--- a node that is made has its value over the values of its parts
+-- a made node has its value, given the values of its parts
 pub made_value : (nodes : List Node) (node : Node) (loads : List ℤ) → AreTerms nodes → NamesBelow (length nodes) node
-    → value_of (made nodes node).nodes loads (made nodes node).term ≡ node_value (values_of nodes loads) loads node
+    → value_of (term_of_node nodes node).nodes loads (term_of_node nodes node).term ≡ node_value (values_of nodes loads) loads node
 made_value nodes node loads are names = terms.named nodes node loads are names
 
-pub made_terms : (nodes : List Node) (node : Node) → AreTerms nodes → NamesBelow (length nodes) node → AreTerms (made nodes node).nodes
+pub made_terms : (nodes : List Node) (node : Node) → AreTerms nodes → NamesBelow (length nodes) node → AreTerms (term_of_node nodes node).nodes
 made_terms nodes node are names = terms.are_with nodes node are names
 
 -- the term of an expression, made over terms
@@ -49,15 +49,15 @@ pub record HasValue (loads : List ℤ) (x : Made) (v : ℤ) : Type 0 where
   pub within : x.term < length x.nodes
   pub value : value_of x.nodes loads x.term ≡ v
 
-pub constant_value : (nodes : List Node) (n : ℤ) (loads : List ℤ) → AreTerms nodes → HasValue loads (made nodes (Constant n)) n
+pub constant_value : (nodes : List Node) (n : ℤ) (loads : List ℤ) → AreTerms nodes → HasValue loads (term_of_node nodes (Constant n)) n
 constant_value nodes n loads are =
     record { terms = made_terms nodes (Constant n) are tt; within = made_within nodes (Constant n); value = made_value nodes (Constant n) loads are tt }
 
-pub symbol_value : (nodes : List Node) (k : ℕ) (loads : List ℤ) → AreTerms nodes → HasValue loads (made nodes (Symbol k)) (get_or loads k (pos 0))
+pub symbol_value : (nodes : List Node) (k : ℕ) (loads : List ℤ) → AreTerms nodes → HasValue loads (term_of_node nodes (Symbol k)) (get_or loads k (pos 0))
 symbol_value nodes k loads are =
     record { terms = made_terms nodes (Symbol k) are tt; within = made_within nodes (Symbol k); value = made_value nodes (Symbol k) loads are tt }
 
-pub unary_value : (op : UnOp) (x : Made) (v : ℤ) (loads : List ℤ) → HasValue loads x v → HasValue loads (made x.nodes (Unary op x.term)) (unary op v)
+pub unary_value : (op : UnOp) (x : Made) (v : ℤ) (loads : List ℤ) → HasValue loads x v → HasValue loads (term_of_node x.nodes (Unary op x.term)) (unary op v)
 unary_value op x v loads h =
     let node : Node = Unary op x.term in
     record {
@@ -68,7 +68,7 @@ unary_value op x v loads h =
 
 -- an operator over two terms, the second made after the first
 pub binary_value : (op : BinOp) (nodes : List Node) (a b : ℕ) (v w : ℤ) (loads : List ℤ) → AreTerms nodes → a < length nodes → b < length nodes
-    → value_of nodes loads a ≡ v → value_of nodes loads b ≡ w → HasValue loads (made nodes (Binary op a b)) (binary op v w)
+    → value_of nodes loads a ≡ v → value_of nodes loads b ≡ w → HasValue loads (term_of_node nodes (Binary op a b)) (binary op v w)
 binary_value op nodes a b v w loads are wa wb ea eb =
     let node : Node = Binary op a b in
     record {
@@ -77,7 +77,7 @@ binary_value op nodes a b v w loads are wa wb ea eb =
       value = made_value nodes node loads are (wa, wb) ∙ ap₂ (binary op) ea eb;
     }
 
--- the term of an expression has its value over the values of the slots
+-- the term of an expression has its value, given the values of the slots
 pub expr_value : (nodes : List Node) (slots : List ℕ) (e : Expr) (loads : List ℤ) → AreTerms nodes → AreOf nodes slots
     → IsTrue (names_slots (length slots) e) → HasValue loads (expr_term nodes slots e) (expr.value_of e (map (value_of nodes loads) slots))
 expr_value nodes slots (expr.Number n) loads are of named = constant_value nodes n loads are
@@ -109,22 +109,22 @@ pub truth_nonzero : (p : Bool) → is_nonzero (truth p) ≡ p
 truth_nonzero true = refl
 truth_nonzero false = refl
 
--- the test of a range is 1 where it holds, and else 0
+-- the range test is 1 if the value is in the range, and otherwise 0
 pub range_value : (x : Made) (v last : ℤ) (loads : List ℤ) → HasValue loads x v
     → HasValue loads (range_test x last) (truth (int_le (pos 0) v && int_le v last))
 range_value x v last loads h =
-    let zero = made x.nodes (Constant (pos 0)) in
+    let zero = term_of_node x.nodes (Constant (pos 0)) in
     let hz = constant_value x.nodes (pos 0) loads h.terms in
     let gz : Grows x.nodes zero.nodes = grows_made x.nodes (Constant (pos 0)) in
-    let low = made zero.nodes (Binary Le zero.term x.term) in
+    let low = term_of_node zero.nodes (Binary Le zero.term x.term) in
     let hl = binary_value Le zero.nodes zero.term x.term (pos 0) v loads hz.terms hz.within (stays_within x.nodes zero.nodes x.term gz h.within) hz.value
     (value_stays x.nodes zero.nodes loads x.term gz h.within ∙ h.value) in
     let gl : Grows zero.nodes low.nodes = grows_made zero.nodes (Binary Le zero.term x.term) in
-    let top = made low.nodes (Constant last) in
+    let top = term_of_node low.nodes (Constant last) in
     let ht = constant_value low.nodes last loads hl.terms in
     let gt : Grows low.nodes top.nodes = grows_made low.nodes (Constant last) in
     let gx : Grows x.nodes top.nodes = grows_both x.nodes zero.nodes top.nodes gz (grows_both zero.nodes low.nodes top.nodes gl gt) in
-    let high = made top.nodes (Binary Le x.term top.term) in
+    let high = term_of_node top.nodes (Binary Le x.term top.term) in
     let hh = binary_value Le top.nodes x.term top.term v last loads ht.terms (stays_within x.nodes top.nodes x.term gx h.within) ht.within
     (value_stays x.nodes top.nodes loads x.term gx h.within ∙ h.value) ht.value in
     let gh : Grows top.nodes high.nodes = grows_made top.nodes (Binary Le x.term top.term) in

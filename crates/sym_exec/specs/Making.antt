@@ -19,18 +19,18 @@ pub record AllMade : Type 0 where
   pub nodes : List Node
 
 -- the term of a node
-abbrev pub made : List Node → Node → Made
-made nodes node = record { term = id_of nodes node; nodes = with_node nodes node }
+abbrev pub term_of_node : List Node → Node → Made
+term_of_node nodes node = record { term = id_of nodes node; nodes = with_node nodes node }
 
 -- the term of an expression, given the terms of the slots; its parts are added first, left to right
 abbrev pub expr_term : List Node → List ℕ → Expr → Made
-expr_term nodes slots (expr.Number n) = made nodes (Constant n)
+expr_term nodes slots (expr.Number n) = term_of_node nodes (Constant n)
 expr_term nodes slots (expr.Slot k) = record { term = slice_index_or slots k 0; nodes = nodes }
-expr_term nodes slots (expr.Unary op a) = let x = expr_term nodes slots a in made x.nodes (Unary op x.term)
+expr_term nodes slots (expr.Unary op a) = let x = expr_term nodes slots a in term_of_node x.nodes (Unary op x.term)
 expr_term nodes slots (expr.Binary op a b) =
     let x = expr_term nodes slots a in
     let y = expr_term x.nodes slots b in
-    made y.nodes (Binary op x.term y.term)
+    term_of_node y.nodes (Binary op x.term y.term)
 
 -- the terms with that of one more expression, and the terms of a list of expressions
 abbrev pub with_expr : List ℕ → AllMade → Expr → AllMade
@@ -42,11 +42,11 @@ expr_terms nodes slots es = fold (with_expr slots) (record { terms = []; nodes =
 -- the test 0 <= x <= last, as the bitwise and of two comparisons, each of which is 1 or 0
 abbrev pub range_test : Made → ℤ → Made
 range_test x last =
-    let zero = made x.nodes (Constant (pos 0)) in
-    let low = made zero.nodes (Binary Le zero.term x.term) in
-    let top = made low.nodes (Constant last) in
-    let high = made top.nodes (Binary Le x.term top.term) in
-    made high.nodes (Binary And low.term high.term)
+    let zero = term_of_node x.nodes (Constant (pos 0)) in
+    let low = term_of_node zero.nodes (Binary Le zero.term x.term) in
+    let top = term_of_node low.nodes (Constant last) in
+    let high = term_of_node top.nodes (Binary Le x.term top.term) in
+    term_of_node high.nodes (Binary And low.term high.term)
 
 -- the last index of an array of this length, but at most the greatest int
 abbrev pub last_index : ℕ → ℤ
@@ -56,11 +56,11 @@ last_index length = if nat_lt (2 ^ 31) length then pos (2 ^ 31 - 1) else pos len
 -- Terms have no conditional, so it is v ^ ((v ^ f) & -(v == e)).
 abbrev pub replaced_term : List Node → (v e f : ℕ) → Made
 replaced_term nodes v e f =
-    let change = made nodes (Binary Xor v f) in
-    let same = made change.nodes (Binary Eq v e) in
-    let mask = made same.nodes (Unary Neg same.term) in
-    let masked = made mask.nodes (Binary And change.term mask.term) in
-    made masked.nodes (Binary Xor v masked.term)
+    let change = term_of_node nodes (Binary Xor v f) in
+    let same = term_of_node change.nodes (Binary Eq v e) in
+    let mask = term_of_node same.nodes (Unary Neg same.term) in
+    let masked = term_of_node mask.nodes (Binary And change.term mask.term) in
+    term_of_node masked.nodes (Binary Xor v masked.term)
 
 -- `later` appends nodes to `nodes`, so existing terms keep their meaning
 abbrev pub Grows : List Node → List Node → Type 0

@@ -9,7 +9,7 @@ use Rattle.tc_code.specs.declared.instr.Instr.{Instr}
 use Rattle.tc_code.specs.declared.instr.Instr.TheVariants.{Set, Load, LoadAt, Store, StoreAt, Inside, Branch, Create, Assert, Nonzero, InRange, Swap, Cas}
 use Rattle.sym_terms.specs.declared.node.Node.{Node}
 use Rattle.sym_terms.specs.declared.node.Node.TheVariants.{Constant, Symbol}
-use Rattle.sym_exec.specs.Making.{Made, made, expr_term, expr_terms, range_test, last_index, replaced_term}
+use Rattle.sym_exec.specs.Making.{Made, term_of_node, expr_term, expr_terms, range_test, last_index, replaced_term}
 use Rattle.sym_exec.specs.declared.symbolic.Test.{Test}
 use Rattle.sym_exec.specs.declared.symbolic.Access.{Access}
 use Rattle.sym_exec.specs.declared.symbolic.Cell.{Cell}
@@ -50,7 +50,7 @@ pub record HasTerms (d : Doing) : Type 0 where
 -- the start of an execution: the first slots have the arguments' terms, and the others 0
 abbrev pub started : ℕ → List ℕ → ℕ → List Node → Doing
 started ints arguments loads nodes =
-    let zero = made nodes (Constant (pos 0)) in
+    let zero = term_of_node nodes (Constant (pos 0)) in
     record {
       nodes = zero.nodes;
       slots = arguments ++ replicate (ints - length arguments) zero.term;
@@ -67,28 +67,28 @@ abbrev pub term_in : Doing → Expr → Made
 term_in d e = expr_term d.nodes d.slots e
 
 -- adds a term
-abbrev pub making : Doing → Made → Doing
-making d x = record d { nodes = x.nodes }
+abbrev pub with_term : Doing → Made → Doing
+with_term d x = record d { nodes = x.nodes }
 
 -- sets a slot to a term
-abbrev pub setting : Doing → ℕ → Made → Doing
-setting d k x = record d { slots = slice_set d.slots k x.term; nodes = x.nodes }
+abbrev pub with_slot : Doing → ℕ → Made → Doing
+with_slot d k x = record d { slots = slice_set d.slots k x.term; nodes = x.nodes }
 
 -- appends the test that a term is nonzero, or that it is 0
-abbrev pub testing : Doing → ℕ → Bool → Made → Doing
-testing d line wanted x = record d { nodes = x.nodes; tests = d.tests ++ record { step = d.steps; line = line; term = x.term; wanted = wanted } ∷ [] }
+abbrev pub with_test : Doing → ℕ → Bool → Made → Doing
+with_test d line wanted x = record d { nodes = x.nodes; tests = d.tests ++ record { step = d.steps; line = line; term = x.term; wanted = wanted } ∷ [] }
 
 -- appends a store of a term to a cell
-abbrev pub storing : Doing → Cell → Made → Doing
-storing d cell x = record d { nodes = x.nodes; accesses = d.accesses ++ record { step = d.steps; cell = cell; takes = None; writes = Some x.term } ∷ [] }
+abbrev pub with_store : Doing → Cell → Made → Doing
+with_store d cell x = record d { nodes = x.nodes; accesses = d.accesses ++ record { step = d.steps; cell = cell; takes = None; writes = Some x.term } ∷ [] }
 
 -- the symbol of the next load
 abbrev pub symbol_in : Doing → Made
-symbol_in d = made d.nodes (Symbol d.loads)
+symbol_in d = term_of_node d.nodes (Symbol d.loads)
 
 -- appends a load of a cell into a slot, and a store of `writes` to the same cell if it is given
-abbrev pub loading : Doing → ℕ → Cell → ℕ → Option ℕ → Doing
-loading d k cell symbol writes = record d {
+abbrev pub with_load : Doing → ℕ → Cell → ℕ → Option ℕ → Doing
+with_load d k cell symbol writes = record d {
   slots = slice_set d.slots k symbol;
   loads = d.loads + 1;
   accesses = d.accesses ++ record { step = d.steps; cell = cell; takes = Some d.loads; writes = writes } ∷ [];
@@ -96,40 +96,40 @@ loading d k cell symbol writes = record d {
 
 -- loads a cell into a slot
 abbrev pub reading : Doing → ℕ → Cell → Doing
-reading d k cell = let v = symbol_in d in loading (making d v) k cell v.term None
+reading d k cell = let v = symbol_in d in with_load (with_term d v) k cell v.term None
 
 -- exchanges a cell: loads it into a slot, and stores a term to it
-abbrev pub swapping : Doing → ℕ → Cell → Made → Doing
-swapping d k cell x = let v = symbol_in (making d x) in loading (making d v) k cell v.term (Some x.term)
+abbrev pub with_exchange : Doing → ℕ → Cell → Made → Doing
+with_exchange d k cell x = let v = symbol_in (with_term d x) in with_load (with_term d v) k cell v.term (Some x.term)
 
 -- compares and exchanges a cell: loads it into a slot, and stores `new` if it was `expected`
-abbrev pub replacing : Doing → ℕ → Cell → Expr → Expr → Doing
-replacing d k cell expected new =
+abbrev pub with_compare_exchange : Doing → ℕ → Cell → Expr → Expr → Doing
+with_compare_exchange d k cell expected new =
     let e = term_in d expected in
-    let f = term_in (making d e) new in
-    let v = symbol_in (making d f) in
+    let f = term_in (with_term d e) new in
+    let v = symbol_in (with_term d f) in
     let w = replaced_term v.nodes v.term e.term f.term in
-    loading (making d w) k cell v.term (Some w.term)
+    with_load (with_term d w) k cell v.term (Some w.term)
 
 -- appends a create that hands the terms of expressions to a child
-abbrev pub handing : Doing → List Expr → Doing
-handing d es = let xs = expr_terms d.nodes d.slots es in record d { nodes = xs.nodes; creates = d.creates ++ record { step = d.steps; terms = xs.terms } ∷ [] }
+abbrev pub with_handed_terms : Doing → List Expr → Doing
+with_handed_terms d es = let xs = expr_terms d.nodes d.slots es in record d { nodes = xs.nodes; creates = d.creates ++ record { step = d.steps; terms = xs.terms } ∷ [] }
 
 -- the execution after an instruction at `line`, where `wanted` is the wanted outcome of a test
 abbrev pub after_instr : ℕ → Bool → Doing → Instr → Doing
-after_instr line wanted d (Set k e) = setting d k (term_in d e)
+after_instr line wanted d (Set k e) = with_slot d k (term_in d e)
 after_instr line wanted d (Load k c) = reading d k (Fixed c)
-after_instr line wanted d (LoadAt k first len i) = let x = term_in d i in reading (making d x) k (Element first len x.term)
-after_instr line wanted d (Store c e) = storing d (Fixed c) (term_in d e)
-after_instr line wanted d (StoreAt first len i e) = let x = term_in d i in storing d (Element first len x.term) (term_in (making d x) e)
-after_instr line wanted d (Inside len i) = testing d line wanted (range_test (term_in d i) (last_index len))
-after_instr line wanted d (Branch e to) = record (testing d line wanted (term_in d e)) { branches = d.branches + 1 }
-after_instr line wanted d (Create h f es) = handing d es
-after_instr line wanted d (Assert e) = testing d line wanted (term_in d e)
-after_instr line wanted d (Nonzero e) = testing d line wanted (term_in d e)
-after_instr line wanted d (InRange e) = testing d line wanted (range_test (term_in d e) (pos 31))
-after_instr line wanted d (Swap k c e) = swapping d k (Fixed c) (term_in d e)
-after_instr line wanted d (Cas k c e new) = replacing d k (Fixed c) e new
+after_instr line wanted d (LoadAt k first len i) = let x = term_in d i in reading (with_term d x) k (Element first len x.term)
+after_instr line wanted d (Store c e) = with_store d (Fixed c) (term_in d e)
+after_instr line wanted d (StoreAt first len i e) = let x = term_in d i in with_store d (Element first len x.term) (term_in (with_term d x) e)
+after_instr line wanted d (Inside len i) = with_test d line wanted (range_test (term_in d i) (last_index len))
+after_instr line wanted d (Branch e to) = record (with_test d line wanted (term_in d e)) { branches = d.branches + 1 }
+after_instr line wanted d (Create h f es) = with_handed_terms d es
+after_instr line wanted d (Assert e) = with_test d line wanted (term_in d e)
+after_instr line wanted d (Nonzero e) = with_test d line wanted (term_in d e)
+after_instr line wanted d (InRange e) = with_test d line wanted (range_test (term_in d e) (pos 31))
+after_instr line wanted d (Swap k c e) = with_exchange d k (Fixed c) (term_in d e)
+after_instr line wanted d (Cas k c e new) = with_compare_exchange d k (Fixed c) e new
 after_instr line wanted d _ = d
 
 -- the wanted outcome: a branch's as the path has it; other tests pass, except in the failing step

@@ -25,7 +25,7 @@ ghost use Rattle.sym_exec.specs.Runs.{ThreadTells};
 ghost use Rattle.sym_exec.specs.Thread.{Doing};
 
 /// If a thread follows the places of a path, each slot has the value of its term, given the values
-/// that its loads take, and each branch and each site over expressions has its term's outcome: the
+/// that its loads take. Each branch and each site over expressions has its term's outcome: the
 /// outcome is true, or the site passes, exactly when the term isn't 0.
 ///
 /// This holds for any part of a path, from any execution that agrees with the thread at its start.
@@ -34,8 +34,8 @@ pub fn executions_tell()
         → IsLawful code → StandsFor code f outcomes fails loads places d a → Tells code f outcomes fails loads places d a }
 {}
 
-/// The same holds in every run, under every memory model: if a thread was created with arguments
-/// and has followed the places since, each slot has the value of its term, where the terms of the
+/// The same holds in every run, under every memory model. If a thread was created with arguments
+/// and has followed the places since, each slot has the value of its term. The terms of the
 /// arguments have the values that were handed over. The memory model must return only ints if it
 /// was given only ints; all three models do.
 pub fn threads_tell<B>()

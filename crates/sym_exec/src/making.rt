@@ -14,7 +14,7 @@ use tc_code::{Expr, Node};
 
 /// The term of a constant.
 pub(crate) fn constant(terms: &mut Terms, n: i32) -> Result<Id, AllocError>
-    ensures made { IfOk result (λ id. record { term = id; nodes = terms.new } ≡ spec.made terms.old (Constant n)) }
+    ensures made { IfOk result (λ id. record { term = id; nodes = terms.new } ≡ spec.term_of_node terms.old (Constant n)) }
     ensures within { IfOk result (λ id. id < length terms.new) }
     ensures grown { Grows terms.old terms.new }
 {
@@ -23,7 +23,7 @@ pub(crate) fn constant(terms: &mut Terms, n: i32) -> Result<Id, AllocError>
 
 /// The symbol of a load.
 pub(crate) fn symbol(terms: &mut Terms, load: u32) -> Result<Id, AllocError>
-    ensures made { IfOk result (λ id. record { term = id; nodes = terms.new } ≡ spec.made terms.old (Symbol load)) }
+    ensures made { IfOk result (λ id. record { term = id; nodes = terms.new } ≡ spec.term_of_node terms.old (Symbol load)) }
     ensures within { IfOk result (λ id. id < length terms.new) }
     ensures grown { Grows terms.old terms.new }
 {
@@ -33,7 +33,7 @@ pub(crate) fn symbol(terms: &mut Terms, load: u32) -> Result<Id, AllocError>
 /// An operator over a term.
 fn unary(terms: &mut Terms, op: UnOp, a: Id) -> Result<Id, AllocError>
     requires { a < length terms.old }
-    ensures made { IfOk result (λ id. record { term = id; nodes = terms.new } ≡ spec.made terms.old (Unary op a)) }
+    ensures made { IfOk result (λ id. record { term = id; nodes = terms.new } ≡ spec.term_of_node terms.old (Unary op a)) }
     ensures within { IfOk result (λ id. id < length terms.new) }
     ensures grown { Grows terms.old terms.new }
 {
@@ -44,7 +44,7 @@ fn unary(terms: &mut Terms, op: UnOp, a: Id) -> Result<Id, AllocError>
 fn binary(terms: &mut Terms, op: BinOp, a: Id, b: Id) -> Result<Id, AllocError>
     requires first { a < length terms.old }
     requires second { b < length terms.old }
-    ensures made { IfOk result (λ id. record { term = id; nodes = terms.new } ≡ spec.made terms.old (Binary op a b)) }
+    ensures made { IfOk result (λ id. record { term = id; nodes = terms.new } ≡ spec.term_of_node terms.old (Binary op a b)) }
     ensures within { IfOk result (λ id. id < length terms.new) }
     ensures grown { Grows terms.old terms.new }
 {

@@ -40,7 +40,7 @@ impl Thread {
     /// Sets a slot to a term.
     fn set(&mut self, slot: u32, term: Id)
         requires { slot < length self.old.slots.items }
-        ensures { (nodes : List Node) → seen self.new nodes ≡ spec.setting (seen self.old nodes) slot (record { term = term; nodes = nodes }) }
+        ensures { (nodes : List Node) → seen self.new nodes ≡ spec.with_slot (seen self.old nodes) slot (record { term = term; nodes = nodes }) }
     {
         self.slots[slot as usize] = term;
     }
@@ -48,7 +48,7 @@ impl Thread {
     /// Appends a test of a term.
     fn test(&mut self, line: u32, wanted: bool, term: Id) -> Result<(), AllocError>
         ensures { (nodes : List Node) → OnOk result (seen self.new nodes
-            ≡ spec.testing (seen self.old nodes) line wanted (record { term = term; nodes = nodes })) }
+            ≡ spec.with_test (seen self.old nodes) line wanted (record { term = term; nodes = nodes })) }
     {
         let step = self.steps;
         self.tests.push(Test {
@@ -62,7 +62,7 @@ impl Thread {
 
     /// Appends a store of a term to a cell.
     fn store(&mut self, cell: Cell, term: Id) -> Result<(), AllocError>
-        ensures { (nodes : List Node) → OnOk result (seen self.new nodes ≡ spec.storing (seen self.old nodes) cell (record { term = term; nodes = nodes })) }
+        ensures { (nodes : List Node) → OnOk result (seen self.new nodes ≡ spec.with_store (seen self.old nodes) cell (record { term = term; nodes = nodes })) }
     {
         let step = self.steps;
         self.accesses.push(Access {
@@ -83,7 +83,7 @@ impl Thread {
         writes: Option<Id>,
     ) -> Result<(), AllocError>
         requires { slot < length self.old.slots.items }
-        ensures { (nodes : List Node) → OnOk result (seen self.new nodes ≡ spec.loading (seen self.old nodes) slot cell symbol writes) }
+        ensures { (nodes : List Node) → OnOk result (seen self.new nodes ≡ spec.with_load (seen self.old nodes) slot cell symbol writes) }
     {
         let step = self.steps;
         self.accesses.push(Access {
@@ -129,7 +129,7 @@ impl Thread {
         requires slots { AreOf terms.old self.old.slots.items }
         requires names { IsTrue (names_slots (length self.old.slots.items) e.now) }
         ensures tested { OnOk result (seen self.new terms.new
-            ≡ spec.testing (seen self.old terms.old) line wanted (spec.term_in (seen self.old terms.old) e.now)) }
+            ≡ spec.with_test (seen self.old terms.old) line wanted (spec.term_in (seen self.old terms.old) e.now)) }
         ensures grown { Grows terms.old terms.new }
     {
         let term = self.term(terms, e)?;
@@ -148,7 +148,7 @@ impl Thread {
         requires slots { AreOf terms.old self.old.slots.items }
         requires names { IsTrue (names_slots (length self.old.slots.items) e.now) }
         ensures tested { OnOk result (seen self.new terms.new
-            ≡ spec.testing (seen self.old terms.old) line wanted (range_of (spec.term_in (seen self.old terms.old) e.now) last)) }
+            ≡ spec.with_test (seen self.old terms.old) line wanted (range_of (spec.term_in (seen self.old terms.old) e.now) last)) }
         ensures grown { Grows terms.old terms.new }
     {
         let term = self.term(terms, e)?;
@@ -162,7 +162,7 @@ impl Thread {
         requires slots { AreOf terms.old self.old.slots.items }
         requires names { IsTrue (names_slots (length self.old.slots.items) e.now) }
         ensures set { OnOk result (seen self.new terms.new
-            ≡ spec.setting (seen self.old terms.old) slot (spec.term_in (seen self.old terms.old) e.now)) }
+            ≡ spec.with_slot (seen self.old terms.old) slot (spec.term_in (seen self.old terms.old) e.now)) }
         ensures grown { Grows terms.old terms.new }
     {
         let term = self.term(terms, e)?;
@@ -175,7 +175,7 @@ impl Thread {
         requires slots { AreOf terms.old self.old.slots.items }
         requires names { IsTrue (names_slots (length self.old.slots.items) e.now) }
         ensures stored { OnOk result (seen self.new terms.new
-            ≡ spec.storing (seen self.old terms.old) cell (spec.term_in (seen self.old terms.old) e.now)) }
+            ≡ spec.with_store (seen self.old terms.old) cell (spec.term_in (seen self.old terms.old) e.now)) }
         ensures grown { Grows terms.old terms.new }
     {
         let term = self.term(terms, e)?;
@@ -210,7 +210,7 @@ impl Thread {
         requires slots { AreOf terms.old self.old.slots.items }
         requires names { IsTrue (names_slots (length self.old.slots.items) e.now) }
         ensures swapped { OnOk result (seen self.new terms.new
-            ≡ spec.swapping (seen self.old terms.old) slot cell (spec.term_in (seen self.old terms.old) e.now)) }
+            ≡ spec.with_exchange (seen self.old terms.old) slot cell (spec.term_in (seen self.old terms.old) e.now)) }
         ensures grown { Grows terms.old terms.new }
     {
         let term = self.term(terms, e)?;
@@ -232,7 +232,7 @@ impl Thread {
         requires expected { IsTrue (names_slots (length self.old.slots.items) expected.now) }
         requires new { IsTrue (names_slots (length self.old.slots.items) new.now) }
         ensures replaced { OnOk result (seen self.new terms.new
-            ≡ spec.replacing (seen self.old terms.old) slot cell expected.now new.now) }
+            ≡ spec.with_compare_exchange (seen self.old terms.old) slot cell expected.now new.now) }
         ensures grown { Grows terms.old terms.new }
     {
         let expected = self.term(terms, expected)?;
@@ -246,7 +246,7 @@ impl Thread {
     fn hand(&mut self, alloc: Global, terms: &mut Terms, es: &Exprs) -> Result<(), AllocError>
         requires slots { AreOf terms.old self.old.slots.items }
         requires names { IsTrue (list_all (names_slots (length self.old.slots.items)) es.now) }
-        ensures handed { OnOk result (seen self.new terms.new ≡ spec.handing (seen self.old terms.old) es.now) }
+        ensures handed { OnOk result (seen self.new terms.new ≡ spec.with_handed_terms (seen self.old terms.old) es.now) }
         ensures grown { Grows terms.old terms.new }
     {
         let step = self.steps;

@@ -1,4 +1,4 @@
--- What the loads of a run took agrees with it.
+-- The values that the loads of a run took agree with its history.
 use Rattle.std.proofs.Common.{◌≡◌, ◌∙◌, ℕ, zero, suc, ◌+◌, ◌≤◌, ◌==◌, ◌&&◌, ℤ, pos, List, [], ◌∷◌, map, length, get_or, Bool, true, false, cond}
 use Rattle.std.proofs.Common.{Option, Some, None, refl, ap, sym, subst, arith}
 use Rattle.std.specs.Prelude.{slice_get, unwrap_or, option_map}
@@ -30,7 +30,7 @@ in_cons : {Y : Type 0} (o : Option Y) (y : Y) (ys : List Y) → IsOneOf y ys →
 in_cons None y ys is = is
 in_cons (Some z) y ys is = (suc is.0, is.1)
 
--- what an element gives is given
+-- the value that an element gives is in the filtered map
 is_given : {X Y : Type 0} (f : X → Option Y) (x : X) (y : Y) (xs : List X) → IsOneOf x xs → f x ≡ Some y → IsOneOf y (filter_map f xs)
 is_given {X} {Y} f x y xs is gives = by xs is.0 is.1
   where
@@ -47,16 +47,16 @@ is_given_in {X} {Y} f x y xs is gives = by xs is.0 is.1
     by (z ∷ xs) zero at = in_front y (f z) (flat_map f xs) (subst (λ w. IsOneOf y (f w)) (sym (same_Some z x at)) gives)
     by (z ∷ xs) (suc k) at = in_back y (f z) (flat_map f xs) (by xs k at)
 
--- what a thread took first in its step of a number
+-- the first value that a thread took in its step with this number
 abbrev first_of : Name → ℕ → List Deed → Option ℤ
 first_of n k h = slice_get (filter_map (took_by n k) h) 0
 
--- where the steps of a thread are counted, each took what the deed of its number says
+-- if the steps of a thread are counted, each took the value in the deed with its number
 pub took_once : (n : Name) (k : ℕ) (r : Request) (v : ℤ) (o : Option Name) (h : List Deed) (a b : ℕ) → CountsFrom a (filter_map (number_by n) h) b
     → IsOneOf (Did n k r v o) h → taken_at h n k ≡ v
 took_once n k r v o h a b counts is = ap (λ x. unwrap_or x (pos 0)) (by h a counts is.0 is.1)
   where
-    -- a deed that is there has a number of its thread from the first on
+    -- each deed of the thread has a number from the first on
     later : (h : List Deed) (a : ℕ) → CountsFrom a (filter_map (number_by n) h) b → (m : ℕ) → slice_get h m ≡ Some (Did n k r v o) → a ≤ k
     later h a counts m at =
         let one = is_given (number_by n) (Did n k r v o) k h (m, at) (ap (λ c. cond c (Some k) None) (same_self n n refl)) in
@@ -87,7 +87,7 @@ took_once n k r v o h a b counts is = ap (λ x. unwrap_or x (pos 0)) (by h a cou
     by (Drained q j c w ∷ h) a counts (suc m) at = by h a counts m at
     by (Did q j s w p ∷ h) a counts (suc m) at = by_same (same n q) q j s w p h a refl counts m at (λ c more. by h c more m at)
 
--- so it is in each run
+-- each step of each run took its value once
 pub taken_once : {B : Type 0} (ops : BufferOps B) (code : Code) (moves : List Move) (s : State B) (n : Name) (k : ℕ) (r : Request) (v : ℤ) (o : Option Name)
     → run ops code moves ≡ Some s → IsOneOf (Did n k r v o) (history ops code moves) → taken_at (history ops code moves) n k ≡ v
 taken_once {B} ops code moves s n k r v o leads is =
@@ -96,7 +96,7 @@ taken_once {B} ops code moves s n k r v o leads is =
     subst (λ ks. CountsFrom 0 ks (0 + steps)) (sym (steps_are_numbered ops code moves s n leads)) (counts_range 0 steps) in
     took_once n k r v o (history ops code moves) 0 (0 + steps) counts is
 
--- what the loads took agrees
+-- the values that the loads took agree with the history
 pub loads_agree : (symbolic : Symbolic) (h : List Deed) (all : ℕ) → CountsFrom 0 (map (λ l. l.number) (loads_of symbolic)) all
     → ((n : Name) (k : ℕ) (r : Request) (v : ℤ) (o : Option Name) → IsOneOf (Did n k r v o) h → taken_at h n k ≡ v)
     → AgreesWith symbolic (loads_in symbolic h) h

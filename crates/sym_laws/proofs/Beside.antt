@@ -1,4 +1,4 @@
--- One step of a thread, and of its execution beside it.
+-- One step of a thread beside one of its execution.
 use Rattle.std.proofs.Common.{◌≡◌, ◌∙◌, ℕ, ◌+◌, ℤ, pos, List, [], ◌∷◌, ◌++◌, map, length, get_or, Bool, true, false, not, cond, ◌==◌}
 use Rattle.std.proofs.Common.{Option, Some, None, refl, ap, ap₂, sym, subst, arith, length-append}
 use Rattle.std.specs.Prelude.{slice_index_or}
@@ -14,7 +14,7 @@ use Rattle.tc_code.specs.Code.{Code, instr_at}
 use Rattle.tc_code.specs.declared.instr.Instr.{Instr}
 use Rattle.tc_code.specs.declared.instr.Instr.TheVariants.{Inside, Branch, Create, Holds, Ready, Assert, Nonzero, InRange}
 use Rattle.tc_code.specs.Lawful.{IsLawful}
-use Rattle.tc_code.specs.Step.{request, site, local_after, branched, is_nonzero, value_in}
+use Rattle.tc_code.specs.Step.{request, site, local_after, step_by_branch, is_nonzero, value_in}
 use Rattle.run_laws.proofs.Changes.{is_fail}
 use Rattle.run_laws.specs.Ints.{AsksInts}
 use Rattle.run_history.specs.Locals.{after_step as thread_after}
@@ -35,9 +35,9 @@ use Rattle.sym_laws.specs.Valued.{IsOneOf}
 use Rattle.sym_laws.proofs.Lists.{giver, in_back, each_is}
 use Rattle.sym_laws.proofs.Steps.{Adds, adds, IsFine, line_of, uncounted, next, next_is}
 
--- What is wanted of a test.
+-- The wanted outcomes of tests.
 
--- of the site of a step, where the thread fails in that of a number
+-- the wanted outcome of a step's site, if the thread fails in the step with this number
 abbrev pub site_wanted : Option ℕ → ℕ → Bool
 site_wanted None k = true
 site_wanted (Some m) k = not (k == m)
@@ -49,7 +49,7 @@ wanted_here outcomes (Some m) d (Branch e to) h = absurd (false≢true h)
 wanted_here outcomes None d i h = refl
 wanted_here outcomes (Some m) d i h = refl
 
-branch_outcomes : (t : Local) (b : Bool) (to : ℕ) → (branched t b to).outcomes ≡ t.outcomes ++ b ∷ []
+branch_outcomes : (t : Local) (b : Bool) (to : ℕ) → (step_by_branch t b to).outcomes ≡ t.outcomes ++ b ∷ []
 branch_outcomes t true to = refl
 branch_outcomes t false to = refl
 
@@ -67,7 +67,7 @@ module _ (t : Local) (outcomes : List Bool) (fails : Option ℕ) (d : Doing) (v 
   site_comes i b x is asks goes same =
       sym (same_Some x b same) ∙ not_failed x ∙ ap (λ r. not (is_fail r)) (sym asks) ∙ goes ∙ sym (wanted_here outcomes fails d i is)
 
-  -- a test comes out as it is wanted, where the thread goes by these outcomes, and fails where it is to
+  -- a test has its wanted outcome, if the thread uses these outcomes and fails where it should
   pub comes_as_wanted : (i : Instr) (b : Bool) → outcomes ≡ (thread_after t i (request t i) v).outcomes ++ later
       → not (is_fail (request t i)) ≡ site_wanted fails d.steps → condition t i ≡ Some b → b ≡ wanted_of outcomes fails d i
   comes_as_wanted (Branch e to) b goes passes is =
@@ -82,7 +82,7 @@ module _ (t : Local) (outcomes : List Bool) (fails : Option ℕ) (d : Doing) (v 
   comes_as_wanted (InRange e) b goes passes is = site_comes (InRange e) b _ refl refl passes is
   comes_as_wanted i b goes passes is = absurd cc
 
--- tests that come out so are as they are wanted
+-- tests that come out this way have their wanted outcomes
 as_wanted : (f : Test → Bool) (wanted : Bool) (k : ℕ) (o : Option Bool) (test : List Test) → map f test ≡ cons_option o []
     → ((b : Bool) → o ≡ Some b → b ≡ wanted) → Each (λ x. (x.step ≡ k) × (x.wanted ≡ wanted)) test → Each (λ x. f x ≡ x.wanted) test
 as_wanted f wanted k None [] is passes each = tt
@@ -91,7 +91,7 @@ as_wanted f wanted k (Some b) [] is passes each = absurd cc
 as_wanted f wanted k (Some b) (x ∷ []) is passes each = let e : f x ≡ b = cc in (e ∙ passes b refl ∙ sym each.0.1, tt)
 as_wanted f wanted k (Some b) (x ∷ y ∷ xs) is passes each = absurd cc
 
--- What a thread has after a step that may fail.
+-- A thread after a step that may fail.
 
 pub record IsAfter (u w : Local) : Type 0 where
   pub slots : u.slots ≡ w.slots
@@ -132,7 +132,7 @@ given_long t (Create h f es) = refl
 given_long t i = refl
 
 module _ (code : Code) (f : ℕ) (outcomes : List Bool) (fails : Option ℕ) (loads : List ℤ) where
-  -- what a step of a thread makes of its execution
+  -- the effect of a thread's step on its execution
   pub record IsDone (d e : Doing) (t u : Local) (i : Instr) (v : ℤ) : Type 0 where
     pub slots : u.slots ≡ slots_by loads e
     pub steps : e.steps ≡ d.steps + 1
@@ -177,7 +177,7 @@ module _ (code : Code) (f : ℕ) (outcomes : List Bool) (fails : Option ℕ) (lo
           takes = g.2;
         }
 
-    -- the step, where the thread goes by these outcomes and fails where it is to
+    -- the step, if the thread uses these outcomes and fails where it should
     module _ (v : ℤ) (ahead : List Bool) (slots : t.slots ≡ slots_by loads d) (branches : d.branches ≡ length t.outcomes)
         (children : length d.creates ≡ t.children) (takes : is_load i ≡ true → get_or loads d.loads (pos 0) ≡ v)
         (goes : outcomes ≡ (thread_after t i (request t i) v).outcomes ++ ahead) (passes : not (is_fail (request t i)) ≡ site_wanted fails d.steps)

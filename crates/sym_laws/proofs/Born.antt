@@ -55,7 +55,7 @@ gives_arguments t (Nonzero x) f e = absurd (site_starts_none _ f e)
 gives_arguments t (InRange x) f e = absurd (site_starts_none _ f e)
 gives_arguments t i f e = absurd cc
 
--- what gives one element is one
+-- a map to one element has one element
 only_one : {X Y : Type 0} (g : X → Y) (xs : List X) (y : Y) → map g xs ≡ y ∷ [] → (x : X) × (xs ≡ x ∷ [])
 only_one g [] y e = absurd cc
 only_one g (x ∷ []) y e = (x, refl)
@@ -65,7 +65,8 @@ module _ (code : Code) (log : Log) (nodes : List Node) (lawful : IsLawful code) 
   abbrev before : ℕ → Executed
   before k = found_before code log nodes k
 
-  -- a thread at its beginning, where the terms that it takes have the values of its arguments
+  -- a thread follows its terms at its beginning, if the terms that it takes have the values of its
+  -- arguments
   pub start_follows : (k : ℕ) (q : ThreadPath) (f : ℕ) (loads arguments : List ℤ) → slice_get log.threads k ≡ Some q → function_of code log q.name ≡ Some f
       → map (value_of (before k).nodes loads) (arguments_for (before k).symbolic.threads q.name) ≡ arguments
       → Follows (found code log nodes).nodes loads (execution code log nodes k (walk_of code log q) 0) (born_local code f arguments) []

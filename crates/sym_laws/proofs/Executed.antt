@@ -1,4 +1,4 @@
--- The execution of all threads: what those before one leave, and what those after it add.
+-- The execution of all threads: those before one, and those after it.
 use Rattle.std.proofs.Common.{◌≡◌, ◌∙◌, ℕ, suc, pos, List, [], ◌∷◌, ◌++◌, length, take, drop, fold, Option, Some}
 use Rattle.std.proofs.Common.{refl, sym, ap, subst, arith, append-nil, append_assoc, length-append}
 use Rattle.std.specs.Prelude.{slice_get}
@@ -28,7 +28,7 @@ pub record IsWell (x : Executed) : Type 0 where
   pub terms : AreTerms x.nodes
   pub sound : HaveTerms x
 
--- one goes on as another, by so many threads
+-- one execution extends another by `number` threads
 pub record GoesOn (x y : Executed) (number : ℕ) : Type 0 where
   pub well : IsWell y
   pub grows : Grows x.nodes y.nodes
@@ -36,7 +36,7 @@ pub record GoesOn (x y : Executed) (number : ℕ) : Type 0 where
   pub threads : y.symbolic.threads ≡ x.symbolic.threads ++ more
   pub count : length more ≡ number
 
--- what is found of a thread
+-- the course of a thread
 abbrev pub course_of : Walk → Doing → Course
 course_of w d = record { name = w.name; tests = d.tests; accesses = d.accesses; creates = d.creates }
 
@@ -90,7 +90,7 @@ module _ (code : Code) (lawful : IsLawful code) (paths : Paths) where
       }
 
   module _ (nodes : List Node) (terms : AreTerms nodes) where
-    -- what is found of the threads of a list
+    -- the execution of a list of threads
     abbrev pub whole : List Walk → Executed
     whole ws = fold (with_thread code paths) (nothing nodes) ws
 
@@ -103,7 +103,7 @@ module _ (code : Code) (lawful : IsLawful code) (paths : Paths) where
     pub counted : (ws : List Walk) → length (whole ws).symbolic.threads ≡ length ws
     counted ws = let all = whole_on ws in ap length all.threads ∙ all.count
 
-    -- what is found of the thread at a place, after those before it
+    -- the course of the thread at a place, after those before it
     pub record IsFoundAt (ws : List Walk) (j : ℕ) (w : Walk) : Type 0 where
       pub well : IsWell (whole (take j ws))
       pub count : length (whole (take j ws)).symbolic.threads ≡ j

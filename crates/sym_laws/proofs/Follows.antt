@@ -43,7 +43,7 @@ use Rattle.sym_laws.proofs.Steps.{IsFine, Begins, next, all_on}
 use Rattle.sym_laws.proofs.Beside.{site_wanted, IsDone, loads_by, is_done}
 use Rattle.sym_laws.proofs.Executed.{IsFoundAt, found_at_place, start_fine, course_of}
 
--- what a thread has, asked and tested is what the terms of its execution tell
+-- the slots, requests and tests of a thread are as the terms of its execution say
 pub record Follows (later : List Node) (loads : List ℤ) (d : Doing) (t : Local) (done : List AskedAt) : Type 0 where
   pub slots : t.slots ≡ slots_by loads d
   pub steps : d.steps ≡ t.steps
@@ -60,7 +60,7 @@ asked_in_step later loads k [] each = refl
 asked_in_step later loads k (a ∷ found) each =
     ap₂ (λ n es. record { step = n; asked = asked_in later loads a } ∷ es) each.0 (asked_in_step later loads k found each.1)
 
--- those of a deed come to those of the history
+-- the requests of a history with one more deed
 pub asked_more : (n : Name) (h : List Deed) (deed : Deed) → flat_map (asked_of n) (h ++ deed ∷ []) ≡ flat_map (asked_of n) h ++ asked_of n deed
 asked_more n h deed = flat_map-append (asked_of n) h (deed ∷ []) ∙ ap (λ es. flat_map (asked_of n) h ++ es) (append-nil (asked_of n deed))
 
@@ -81,11 +81,11 @@ pub record GoesOnPath (code : Code) (log : Log) (p : ThreadPath) (t : Local) (i 
   pub fails : is_fail (request t i) ≡ (fails_in log p.name && t.steps + 1 == p.path.steps)
   pub later : List Bool
   pub outcomes : p.path.outcomes ≡ (thread_after t i (request t i) v).outcomes ++ later
-  -- what it takes and asks are ints
+  -- the value taken and the values in the request are ints
   pub took : IsInt v
   pub asks : AsksInts (request t i)
 
--- where a thread fails
+-- the site of a step passes unless the thread fails there
 fails_as_wanted : (b c : Bool) (k n m : ℕ) → n ≡ m → k + 1 ≤ m → c ≡ (b && k + 1 == m) → not c ≡ site_wanted (cond b (Some (n - 1)) None) k
 fails_as_wanted false c k n m same le is = ap not is
 fails_as_wanted true c k n m same le is = ap not is ∙ ap not (tests (k + 1 == m) refl (k == n - 1) refl)
@@ -134,7 +134,7 @@ module _ (code : Code) (log : Log) (nodes : List Node) (lawful : IsLawful code) 
         (all_on code (walk p).function (walk p).outcomes (fails_of j p) lawful (take k (walk p).places) start
         (start_fine code lawful (paths_of code log) (found_before code log nodes j) (walk p) here.well)).fine
 
-    -- the first steps are a beginning of all
+    -- the first steps of an execution begin all of it
     pub begins_at : (k : ℕ) → Begins (upto k) whole
     begins_at k =
         let w = walk p in
@@ -149,7 +149,7 @@ module _ (code : Code) (log : Log) (nodes : List Node) (lawful : IsLawful code) 
     pub grows_at : (k : ℕ) → Grows (upto k).nodes (found code log nodes).nodes
     grows_at k = grows_both (upto k).nodes whole.nodes (found code log nodes).nodes (begins_at k).grows here.grows
 
-    -- what a step of it makes
+    -- the effect of a step of the thread
     module _ (loads : List ℤ) (h : List Deed) (t : Local) (i : Instr) (v : ℤ) (o : Option Name) (goes : GoesOnPath code log p t i v)
         (follows : Follows (found code log nodes).nodes loads (upto t.steps) t (flat_map (asked_of p.name) h))
         (agrees : AgreesWith (found code log nodes).symbolic loads (h ++ Did p.name t.steps (request t i) v o ∷ [])) where
@@ -193,7 +193,7 @@ module _ (code : Code) (log : Log) (nodes : List Node) (lawful : IsLawful code) 
       abbrev e : Doing
       e = next code (walk p).function (walk p).outcomes (fails_of j p) d t.instruction
 
-      -- a load takes what its symbol stands for
+      -- a load takes the value of its symbol
       takes : is_load i ≡ true → get_or loads d.loads (pos 0) ≡ v
       takes load =
           let l = loads_by code (walk p).function (walk p).outcomes (fails_of j p) loads lawful d t i t.instruction (fine_at t.steps) placed load in

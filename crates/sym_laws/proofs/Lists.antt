@@ -35,13 +35,13 @@ pub none_pass : {X : Type 0} (p : X → Bool) (xs : List X) → Each (λ x. p x 
 none_pass p [] each = refl
 none_pass p (x ∷ xs) each = ap (λ b. cond b (x ∷ filter p xs) (filter p xs)) each.0 ∙ none_pass p xs each.1
 
--- of two parts of a list the first passes
+-- if the first part of a list passes and the rest fails, the filter gives the first part
 pub front_passes : {X : Type 0} (p : X → Bool) (xs ys : List X) → Each (λ x. p x ≡ true) xs → Each (λ x. p x ≡ false) ys → filter p (xs ++ ys) ≡ xs
 front_passes p [] ys f g = none_pass p ys g
 front_passes p (x ∷ xs) ys f g =
     ap (λ b. cond b (x ∷ filter p (xs ++ ys)) (filter p (xs ++ ys))) f.0 ∙ ap (λ zs. x ∷ zs) (front_passes p xs ys f.1 g)
 
--- what gives the only element that is given
+-- the element that gives the only value given
 pub giver : {X Y : Type 0} (f : X → Option Y) (xs : List X) (y : Y) → filter_map f xs ≡ y ∷ [] → (x : X) × IsOneOf x xs × (f x ≡ Some y)
 giver f [] y e = absurd cc
 giver {X} {Y} f (x ∷ xs) y e = by (f x) refl e (λ g. giver f xs y g)
@@ -54,7 +54,7 @@ giver {X} {Y} f (x ∷ xs) y e = by (f x) refl e (λ g. giver f xs y g)
 pub long_front : {X : Type 0} (xs : List X) (k : ℕ) (x : X) → slice_get xs k ≡ Some x → length (take k xs) ≡ k
 long_front xs k x e = length-take-le k xs (omega (arith, slice_get_within xs k x e))
 
--- an element before a place is one of those before it
+-- an element before a place is among those before it
 pub get_take : {X : Type 0} (xs : List X) (k n : ℕ) → k < n → slice_get (take n xs) k ≡ slice_get xs k
 get_take [] k zero lt = absurd (omega (arith, lt))
 get_take [] k (suc n) lt = refl
@@ -62,7 +62,7 @@ get_take (x ∷ xs) k zero lt = absurd (omega (arith, lt))
 get_take (x ∷ xs) zero (suc n) lt = refl
 get_take (x ∷ xs) (suc k) (suc n) lt = get_take xs k n (omega (arith, lt))
 
--- the first that passes is at a place, where none before does
+-- the first element that passes is at a place before which none does
 pub found_at : {X : Type 0} (p : X → Bool) (xs : List X) (k : ℕ) (x : X) → slice_get xs k ≡ Some x → p x ≡ true
     → ((j : ℕ) (y : X) → j < k → slice_get xs j ≡ Some y → p y ≡ false) → find p xs ≡ Some x
 found_at p [] k x e here others = absurd (none-some x e)

@@ -1,4 +1,4 @@
--- What a move makes of all threads beside the executions of their paths.
+-- The effect of a move on all threads, beside the executions of their paths.
 use Rattle.std.proofs.Common.{◌≡◌, ◌≢◌, ◌∙◌, inl, inr, ℕ, ◌+◌, ◌-◌, ℤ, List, [], ◌∷◌, ◌++◌, map, length}
 use Rattle.std.proofs.Common.{Bool, true, false, cond, Option, Some, None, refl, ap, sym, subst, arith, append-nil}
 use Rattle.std.specs.Prelude.{slice_get}
@@ -23,7 +23,7 @@ use Rattle.tc_code.specs.Run.{IsReached}
 use Rattle.tc_code.specs.Step.{request, arguments_of, born, opening}
 use Rattle.run_laws.proofs.Created.{child_is_new}
 use Rattle.run_laws.proofs.Names.{get_put_cases}
-use Rattle.run_history.specs.History.{Deed, Did, Drained, same, taken}
+use Rattle.run_history.specs.History.{Deed, Did, Drained, same, value_taken}
 use Rattle.run_history.specs.Told.{is_step_of, steps_in}
 use Rattle.run_history.proofs.Threads.{ThreadsAre, own, with_born}
 use Rattle.run_log.specs.Logs.{is_log}
@@ -63,14 +63,14 @@ module _ {B : Type 0} (ops : BufferOps B) (code : Code) (log : Log) (nodes : Lis
   FollowsAt h j p t =
       Follows (found code log nodes).nodes loads (execution code log nodes j (walk_of code log p) t.steps) t (flat_map (asked_of p.name) h)
 
-  -- each thread has what the terms of its path so far tell
+  -- each thread is as the terms of its path so far say
   abbrev pub AllFollow : State B → List Deed → Type 0
   AllFollow s h = (j : ℕ) (p : ThreadPath) (t : Thread B) → slice_get log.threads j ≡ Some p → fin.get s.threads p.name ≡ Some t → FollowsAt h j p t.local
 
   abbrev Agrees : List Deed → Type 0
   Agrees h = AgreesWith (found code log nodes).symbolic loads h
 
-  -- what is under a name after a request of a thread
+  -- the thread under a name after a request of a thread
   data Which (s : State B) (n : Name) (t : Thread B) (i : Instr) (q : Name) (x : Thread B) : Type 0 where
     Own : q ≡ n → x ≡ own ops code s t i (request t.local i) → Which s n t i q x
     Child : (f : ℕ) → request t.local i ≡ Start f → q ≡ child n (t.local.children + 1) → x ≡ born ops code f (arguments_of t.local i) → Which s n t i q x
@@ -99,14 +99,14 @@ module _ {B : Type 0} (ops : BufferOps B) (code : Code) (log : Log) (nodes : Lis
   module _ (s u : State B) (h : List Deed) (j : ℕ) (p : ThreadPath) (there : slice_get log.threads j ≡ Some p) (t : Thread B) (i : Instr) (o : Option Name)
       (reached : IsReached ops code s) (does : Does ops code s u p.name t i (request t.local i)) (told : ThreadsAre ops code s h) (follow : AllFollow s h)
       (functions : (q : Name) (x : Thread B) → fin.get u.threads q ≡ Some x → function_of code log q ≡ Some x.local.function)
-      (goes : GoesOnPath code log p t.local i (taken ops code s t (request t.local i)))
-      (agrees : Agrees (h ++ Did p.name t.local.steps (request t.local i) (taken ops code s t (request t.local i)) o ∷ [])) where
+      (goes : GoesOnPath code log p t.local i (value_taken ops code s t (request t.local i)))
+      (agrees : Agrees (h ++ Did p.name t.local.steps (request t.local i) (value_taken ops code s t (request t.local i)) o ∷ [])) where
     abbrev deed : Deed
-    deed = Did p.name t.local.steps (request t.local i) (taken ops code s t (request t.local i)) o
+    deed = Did p.name t.local.steps (request t.local i) (value_taken ops code s t (request t.local i)) o
 
     own_follows : FollowsAt (h ++ deed ∷ []) j p (own ops code s t i (request t.local i)).local
     own_follows =
-        step_follows code log nodes lawful is terms j p there loads h t.local i (taken ops code s t (request t.local i)) o goes
+        step_follows code log nodes lawful is terms j p there loads h t.local i (value_taken ops code s t (request t.local i)) o goes
         (follow j p t there does.there) agrees
 
     fresh : fin.get s.threads (child p.name (t.local.children + 1)) ≡ None
@@ -126,13 +126,13 @@ module _ {B : Type 0} (ops : BufferOps B) (code : Code) (log : Log) (nodes : Lis
         nothing_asked q.name h (sym (told.steps q.name) ∙ ap (λ m. option_map_or (λ (y : Thread B). y.local.steps) (fin.get s.threads m) 0) name
         ∙ ap (λ y. option_map_or (λ (y : Thread B). y.local.steps) y 0) fresh) in
         subst (λ (y : Thread B). FollowsAt (h ++ deed ∷ []) k q y.local) (sym new)
-        (child_follows code log nodes lawful is terms j p there loads h t.local i (taken ops code s t (request t.local i)) o goes
+        (child_follows code log nodes lawful is terms j p there loads h t.local i (value_taken ops code s t (request t.local i)) o goes
         (follow j p t there does.there) agrees f asks k q qt name function none)
     by_which k q x qt at (Another apart old) =
         let none : flat_map (asked_of q.name) (h ++ deed ∷ []) ≡ flat_map (asked_of q.name) h =
         asked_more q.name h deed
         ∙ ap (λ es. flat_map (asked_of q.name) h ++ es)
-        (others_asked q.name p.name t.local.steps (request t.local i) (taken ops code s t (request t.local i)) o apart)
+        (others_asked q.name p.name t.local.steps (request t.local i) (value_taken ops code s t (request t.local i)) o apart)
         ∙ append-nil (flat_map (asked_of q.name) h) in
         subst (Follows (found code log nodes).nodes loads (execution code log nodes k (walk_of code log q) x.local.steps) x.local) (sym none)
         (follow k q x qt old)
@@ -141,7 +141,7 @@ module _ {B : Type 0} (ops : BufferOps B) (code : Code) (log : Log) (nodes : Lis
     all_follow k q x qt at =
         by_which k q x qt at (which s p.name t i q.name x (request t.local i) refl (ap (λ ts. fin.get ts q.name) (sym does.threads) ∙ at))
 
-  -- a drain leaves what threads have to themselves as it was, and asks nothing
+  -- a drain keeps the local states of threads, and adds no request
   pub drained_follow : (s u : State B) (h : List Deed) (n : Name) (t : Thread B) (b : B) (k c : ℕ) (v : ℤ) → Drains ops code s u n t b → AllFollow s h
       → AllFollow u (h ++ Drained n k c v ∷ [])
   drained_follow s u h n t b k c v drains follow j q x qt at =
@@ -152,7 +152,7 @@ module _ {B : Type 0} (ops : BufferOps B) (code : Code) (log : Log) (nodes : Lis
         | inr old ↦ follow j q x qt old.1
       ])
 
-  -- at the start main is alone
+  -- only main exists at the start
   pub opening_follows : AllFollow (opening ops code) []
   opening_follows k q x qt at =
       let main = born ops code (length code.functions - 1) [] in

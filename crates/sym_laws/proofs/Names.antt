@@ -32,7 +32,7 @@ module _ (log : Log) (is : is_log log ≡ true) where
   rise j k a b lt at bt =
       rise_in None log.threads j k a b (and_parts (rises_from None log.threads) _ is).0 lt at bt
 
-  -- a name has one place
+  -- a name has only one place
   pub one_place : (j k : ℕ) (a b : ThreadPath) → slice_get log.threads j ≡ Some a → slice_get log.threads k ≡ Some b → a.name ≡ b.name → j ≡ k
   one_place j k a b at bt same =
       elim (order j k) [
@@ -60,7 +60,7 @@ module _ (log : Log) (is : is_log log ≡ true) where
             ]
       ]
 
-  -- names before a place are others
+  -- names before a place are different
   pub others_before : (j k : ℕ) (a b : ThreadPath) → j < k → slice_get log.threads j ≡ Some a → slice_get log.threads k ≡ Some b
       → bytes_eq a.name b.name ≡ false
   others_before j k a b lt at bt = apart_less a.name b.name (rise j k a b lt at bt)

@@ -19,7 +19,7 @@ use Rattle.sym_exec.proofs.Tells.{is_load, loads_after}
 use Rattle.sym_laws.specs.Loads.{Load, loads_by, loads_of}
 use Rattle.sym_laws.proofs.Steps.{adds, next, stepped_by, line_of, uncounted}
 
--- numbers go up by one from the first, up to another
+-- numbers count up by one, from the first up to another
 abbrev pub CountsFrom : ℕ → List ℕ → ℕ → Type 0
 CountsFrom a [] b = a ≡ b
 CountsFrom a (x ∷ xs) b = (x ≡ a) × CountsFrom (a + 1) xs b
@@ -61,7 +61,7 @@ numbers_by n (a ∷ found) = by (numbers_by n found) a.takes
     by rest None = rest
     by rest (Some m) = ap (λ ms. m ∷ ms) rest
 
--- one execution goes on as another, whose loads take the next numbers
+-- one execution extends another, and its new loads take the next numbers
 record CountsOn (d e : Doing) : Type 0 where
   found : List Access
   accesses : e.accesses ≡ d.accesses ++ found

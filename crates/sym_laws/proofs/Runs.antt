@@ -1,4 +1,4 @@
--- What each thread has after a run on a log's paths.
+-- The state of each thread after a run on a log's paths.
 use Rattle.std.proofs.Common.{◌≡◌, ◌∙◌, ℕ, ◌+◌, ℤ, List, [], ◌∷◌, ◌++◌}
 use Rattle.std.proofs.Common.{true, ◌&&◌, ◌==◌, Option, Some, None, refl, ap, sym, subst, arith}
 use Rattle.std.specs.Prelude.{slice_get}
@@ -23,7 +23,7 @@ use Rattle.tc_code.specs.Step.{request, step, opening}
 use Rattle.run_laws.specs.Ints.{PassesInts}
 use Rattle.run_laws.proofs.Ints.{values_are_ints, asks_ints}
 use Rattle.run_laws.proofs.Steps.{Went, Ran, Woke, Drained, step_went, none_failed}
-use Rattle.run_history.specs.History.{Deed, Did, taken, created_by, did, woke, drained, by_instr, deed_of, history_from, history}
+use Rattle.run_history.specs.History.{Deed, Did, value_taken, created_by, did, woke, drained, by_instr, deed_of, history_from, history}
 use Rattle.run_history.proofs.Frame.{kept_by_step}
 use Rattle.run_history.proofs.Ints.{taken_int}
 use Rattle.run_history.proofs.Threads.{ThreadsAre, own, keeps_threads, opening_threads}
@@ -42,7 +42,7 @@ use Rattle.sym_laws.proofs.Names.{one_place}
 use Rattle.sym_laws.proofs.Follows.{GoesOnPath}
 use Rattle.sym_laws.proofs.Moves.{AllFollow, all_follow, drained_follow, opening_follows}
 
--- what agrees with a history agrees with its beginning
+-- loads that agree with a history agree with a first part of it
 agrees_before : (x : Executed) (loads : List ℤ) (h more : List Deed) → AgreesWith x.symbolic loads (h ++ more) → AgreesWith x.symbolic loads h
 agrees_before x loads h more agrees c a m r took other ic ia takes is =
     agrees c a m r took other ic ia takes (in_front (Did c.name a.step r took other) h more is)
@@ -56,14 +56,14 @@ module _ {B : Type 0} (ops : BufferOps B) (code : Code) (log : Log) (nodes : Lis
   Agrees h = AgreesWith (found code log nodes).symbolic loads h
 
   abbrev taken_in : State B → Thread B → Instr → ℤ
-  taken_in s t i = taken ops code s t (request t.local i)
+  taken_in s t i = value_taken ops code s t (request t.local i)
 
-  -- what each move keeps
+  -- the facts that each move keeps
   record IsKept (s : State B) (h : List Deed) : Type 0 where
     told : ThreadsAre ops code s h
     follow : AreOnPaths log s → Agrees h → Follow s h
 
-  -- a move is a step of a thread, which leaves this deed
+  -- a move is a step of a thread, with this deed
   record IsStepOf (s u : State B) (deeds : List Deed) (n : Name) : Type 0 where
     thread : Thread B
     instr : Instr
@@ -123,7 +123,7 @@ module _ {B : Type 0} (ops : BufferOps B) (code : Code) (log : Log) (nodes : Lis
         let place = place_of n at.path log.threads at.there in
         (place.place, place.thread, place.there, place.name)
 
-    -- so threads follow after it
+    -- threads follow their terms after the step
     step_follow : (deeds : List Deed) (n : Name) → IsStepOf s u deeds n → Agrees (h ++ deeds) → Follow u (h ++ deeds)
     step_follow deeds n by agrees =
         let at = placed n by.thread by.does.there in
@@ -172,7 +172,7 @@ module _ {B : Type 0} (ops : BufferOps B) (code : Code) (log : Log) (nodes : Lis
     move_follow : Follow u (h ++ deed_of ops code s h m)
     move_follow = by_went m (step_went ops code s u m one) agrees
 
-  -- each move keeps it
+  -- each move keeps these facts
   move_keeps : (s u : State B) (h : List Deed) (m : Move) → IsReached ops code s → step ops code s m ≡ Some u → IsKept s h
       → IsKept u (h ++ deed_of ops code s h m)
   move_keeps s u h m reached one kept = record {
@@ -188,7 +188,7 @@ module _ {B : Type 0} (ops : BufferOps B) (code : Code) (log : Log) (nodes : Lis
       subst (IsKept u) (sym (ap (λ o. option_map_or (λ x. history_from ops code x (h ++ deed_of ops code s h m) ms) o h) one))
       (moves_keep v u (h ++ deed_of ops code s h m) ms (step_is_reached ops code s v m one reached) rest (move_keeps s v h m reached one kept)))
 
-  -- so it is after each run on the paths
+  -- threads follow their terms after each run on the paths
   pub follow_after : (moves : List Move) (s : State B) → run ops code moves ≡ Some s → AreOnPaths log s
       → AgreesWith (found code log nodes).symbolic loads (history ops code moves) → Follow s (history ops code moves)
   follow_after moves s leads on agrees =

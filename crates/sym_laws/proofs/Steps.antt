@@ -1,4 +1,4 @@
--- One step of an execution: what it adds, alone and beside the thread that does it.
+-- One step of an execution, alone and beside the thread that does it.
 use Rattle.std.proofs.Common.{◌≡◌, ◌∙◌, ℕ, ◌+◌, ◌≤◌, ℤ, pos, List, [], ◌∷◌, ◌++◌, length, get_or, Bool, false, cond}
 use Rattle.std.proofs.Common.{Option, Some, None, refl, ap, sym, subst, arith, append-nil, append_assoc}
 use Rattle.std.specs.Prelude.{unwrap_or}
@@ -22,7 +22,7 @@ use Rattle.sym_exec.proofs.Sound.{instr_named, step_goes}
 use Rattle.sym_exec.proofs.Tells.{is_load, told, short_is}
 use Rattle.sym_laws.proofs.Lists.{each_append, each_weaker}
 
--- what an instruction adds, of which the test is wanted so
+-- what an instruction adds, with this wanted outcome of its test
 pub record Adds (i : Instr) (wanted : Bool) (d e : Doing) : Type 0 where
   pub test : List Test
   pub tests : e.tests ≡ d.tests ++ test
@@ -106,7 +106,7 @@ adds line wanted d (Create h f es) = record {
 }
 adds line wanted d i = nothing_added i wanted d (after_instr line wanted d i) refl refl refl refl
 
--- a local part with these slots
+-- a local state with these slots
 abbrev with_slots : List ℤ → Local
 with_slots slots = record {
   function = 0;
@@ -120,13 +120,13 @@ with_slots slots = record {
   steps = 0;
 }
 
--- an execution of a thread that does a function
+-- an execution of a thread that runs this function
 pub record IsFine (code : Code) (f : ℕ) (d : Doing) : Type 0 where
   pub terms : AreTerms d.nodes
   pub sound : HasTerms d
   pub ints : ints_of code f ≤ length d.slots
 
--- one is a beginning of the other
+-- one execution is the beginning of the other
 pub record Begins (d e : Doing) : Type 0 where
   pub grows : Grows d.nodes e.nodes
   pub steps : d.steps ≤ e.steps
@@ -172,13 +172,13 @@ begins_both d e g a b = record {
   creates = joined d.creates e.creates g.creates a.hands b.hands a.creates b.creates;
 }
 
--- a step keeps an execution fine, and it begins with what was there
+-- a step keeps an execution fine and only extends it
 pub record IsNext (code : Code) (f : ℕ) (d e : Doing) : Type 0 where
   pub fine : IsFine code f e
   pub begins : Begins d e
 
 module _ (code : Code) (f : ℕ) (outcomes : List Bool) (fails : Option ℕ) where
-  -- a step at a place with an instruction, and with none
+  -- a step at a place with an instruction or without one
   abbrev pub stepped_by : Doing → ℕ → Option Instr → Doing
   stepped_by d place o = option_map_or (λ i.
       record (after_instr (unwrap_or (line_at code f place) 0) (wanted_of outcomes fails d i) d i) { steps = d.steps + 1 }) o d
@@ -186,7 +186,7 @@ module _ (code : Code) (f : ℕ) (outcomes : List Bool) (fails : Option ℕ) whe
   abbrev pub line_of : ℕ → ℕ
   line_of place = unwrap_or (line_at code f place) 0
 
-  -- what the instruction at the place makes of it, before the step is counted
+  -- the effect of the instruction at the place, before the step is counted
   abbrev pub uncounted : Doing → ℕ → Instr → Doing
   uncounted d place i = after_instr (line_of place) (wanted_of outcomes fails d i) d i
 
@@ -237,7 +237,7 @@ module _ (code : Code) (f : ℕ) (outcomes : List Bool) (fails : Option ℕ) whe
         by None at = stays d place fine at
         by (Some i) at = goes d place i fine at
 
-    -- and so do all steps
+    -- all steps keep an execution fine and only extend it
     pub all_on : (places : List ℕ) (d : Doing) → IsFine code f d → IsNext code f d (after_all code f outcomes fails d places)
     all_on [] d fine = record { fine = fine; begins = begins_itself d }
     all_on (place ∷ places) d fine =

@@ -1,4 +1,4 @@
--- What each thread of a run has, tested and asked is what its terms tell.
+-- The slots, tests and requests of each thread of a run are as its terms say.
 use Rattle.std.proofs.Common.{◌≡◌, ◌∙◌, ℕ, ◌<◌, ◌≤◌, ℤ, List, map}
 use Rattle.std.proofs.Common.{true, false, Option, Some, None, refl, ap, sym, subst, arith}
 use Rattle.std.specs.Prelude.{slice_get, option_map, nat_lt}
@@ -70,7 +70,7 @@ module _ {B : Type 0} (ops : BufferOps B) (code : Code) (log : Log) (nodes : Lis
           subst (λ w. HasValues code log nodes loads h j w c t.local) same
           (values_at j p c t there ct (ap (λ (w : Walk). fin.get s.threads w.name) same ∙ tt))
 
--- so it is after each run on the paths
+-- the terms give the right values after each run on the paths
 pub valued : {B : Type 0} (ops : BufferOps B) (code : Code) (log : Log) (nodes : List Node) (loads : List ℤ) → PassesInts ops → IsLawful code
     → is_log log ≡ true → Fits code log → AreTerms nodes → (moves : List Move) (s : State B) → run ops code moves ≡ Some s → AreOnPaths log s
     → AgreesWith (found code log nodes).symbolic loads (history ops code moves) → HaveValues code log nodes loads (history ops code moves) s

@@ -48,7 +48,7 @@ module _ {B : Type 0} (ops : BufferOps B) (code : Code) (log : Log) (nodes : Lis
     abbrev whole : Doing
     whole = thread_done code (paths_of code log) (found_before code log nodes j) (walk_of code log p)
 
-    -- all its steps are done
+    -- all steps of the thread are done
     all_done : (t : Thread B) → fin.get s.threads p.name ≡ Some t → t.local.steps ≡ p.path.steps
         → execution code log nodes j (walk_of code log p) t.local.steps ≡ whole
     all_done t there steps =

@@ -22,11 +22,11 @@ ghost use Rattle.sym_laws.specs.Loads.{loads_in};
 ghost use Rattle.path_laws.specs.Prefixes.{AreOnPaths};
 ghost use Rattle.sym_laws.specs.Valued.{IsOneOf, AgreesWith, HaveValues, IsMet, found};
 
-/// In every run along a log's paths, if the loads took the values of their symbols, each thread's
-/// slots have the values of their terms, its tests had their wanted outcomes, and its loads, stores
-/// and exchanges are those of the path, with the same cells and values. A compare-and-exchange
-/// writes the value that its step leaves in the cell. The memory model must return only ints if it
-/// was given only ints; all three models do.
+/// In every run along a log's paths, let the loads take the values of their symbols. Then each
+/// thread's slots have the values of their terms, and its tests had their wanted outcomes. Its
+/// loads, stores and exchanges are those of the path, with the same cells and values. A
+/// compare-and-exchange writes the value that its step leaves in the cell. The memory model must
+/// return only ints if it was given only ints; all three models do.
 pub fn runs_have_values<B>()
     ensures { (ops : BufferOps B) (code : Code) (log : Log) (nodes : List Node) (loads : List ℤ) (moves : List Move) (s : State B)
         → PassesInts ops → IsLawful code → is_log log ≡ true → Fits code log → AreTerms nodes → run ops code moves ≡ Some s → AreOnPaths log s

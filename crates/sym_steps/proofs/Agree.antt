@@ -1,4 +1,4 @@
--- Loads go on agreeing.
+-- Loads still agree after one more deed.
 use Rattle.std.proofs.Common.{◌≡◌, ◌∙◌, ◌⊎◌, inl, inr, ℕ, zero, suc, ℤ, pos, List, [], ◌∷◌, ◌++◌, Option, Some, sym, ap, slice_index_or}
 use Rattle.std.specs.Prelude.{slice_get}
 use Rattle.std.proofs.lemmas.Option.{none-some, same_Some}
@@ -11,7 +11,7 @@ use Rattle.sym_exec.specs.declared.symbolic.Access.{Access}
 use Rattle.sym_laws.specs.Valued.{IsOneOf, AgreesWith}
 use Rattle.sym_laws.proofs.Lists.{in_front}
 
--- one of a list with one more is that, or was there
+-- an element of a list with one appended is that one, or was in the list
 of_push : {X : Type 0} (xs : List X) (x y : X) → IsOneOf y (xs ++ x ∷ []) → IsOneOf y xs ⊎ (x ≡ y)
 of_push {X} xs x y is = by xs is.0 is.1
   where

@@ -1,4 +1,4 @@
--- The cells that an instruction asks for are those of its accesses, whatever it takes.
+-- The cells of an instruction's request are those of its accesses, whatever value it takes.
 use Rattle.std.proofs.Common.{◌≡◌, ◌∙◌, ℕ, ℤ, List, [], ◌∷◌, ◌++◌, map, length, Bool, true, false, Option, refl, ap, sym, append-nil}
 use Rattle.std.specs.Prelude.{nat_lt}
 use Rattle.std.specs.Bool.{IsTrue}
@@ -29,7 +29,7 @@ asked_cells took t i = map (λ (a : Asked). a.cell) (asked_by took (request t i)
 abbrev pub cells_of : List Node → List ℤ → List Access → List ℕ
 cells_of nodes loads found = map (λ (a : Access). cell_by nodes loads a.cell) found
 
--- what an instruction adds to an execution is to the cells that it asks for
+-- an instruction adds accesses to the cells of its request
 pub record HasCells (loads : List ℤ) (d e : Doing) (t : Local) (i : Instr) : Type 0 where
   pub found : List Access
   pub accesses : e.accesses ≡ d.accesses ++ found

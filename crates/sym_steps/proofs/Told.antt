@@ -1,4 +1,4 @@
--- What the next step of a thread asks is told by the terms of its path.
+-- The terms of a thread's path determine its next request.
 use Rattle.std.proofs.Common.{◌≡◌, ◌∙◌, ℕ, suc, ◌+◌, ◌≤◌, ◌<◌, ◌==◌, ◌&&◌, ℤ, pos, Bool, true, false, not, cond}
 use Rattle.std.proofs.Common.{List, [], ◌∷◌, ◌++◌, map, length, take, drop, fold, get_or, Option, Some, None, refl, ap, ap₂, sym, subst, arith, append-nil, slice_index_or}
 use Rattle.std.specs.Prelude.{slice_get, option_map}
@@ -19,7 +19,7 @@ use Rattle.tc_code.specs.Step.{request, is_nonzero, value_in}
 use Rattle.tc_code.specs.declared.instr.Instr.{Instr}
 use Rattle.run_laws.specs.Ints.{PassesInts}
 use Rattle.run_laws.proofs.Changes.{is_fail}
-use Rattle.run_history.specs.History.{Deed, history}
+use Rattle.run_history.specs.History.{history}
 use Rattle.run_history.specs.Locals.{locals_in}
 use Rattle.run_history.specs.Told.{steps_in, children_in, failed_in}
 use Rattle.run_history.proofs.Ints.{models_pass_ints}
@@ -28,8 +28,8 @@ use Rattle.run_follows.specs.Follow.{OtherIs}
 use Rattle.run_history.proofs.of_pending.In.{In, in_left, in_right}
 use Rattle.list_laws.proofs.Lists.{get_seam}
 use Rattle.path_walk.specs.Events.{kind_with}
-use Rattle.path_walk.specs.Fits.{fails_in, Fits}
-use Rattle.path_walk.specs.Marks.{unmarked, marks_after}
+use Rattle.path_walk.specs.Fits.{fails_in}
+use Rattle.path_walk.specs.Marks.{marks_at_start, marks_after}
 use Rattle.path_walk.specs.Paths.{Walk, walk_of, paths_of}
 use Rattle.path_walk.specs.Steps.{Step, Onward, onward, is_site, steps_at}
 use Rattle.path_walk.specs.Steps as path
@@ -37,15 +37,14 @@ use Rattle.path_walk.specs.declared.event.Event.{Event}
 use Rattle.path_walk.specs.declared.event.EventKind.{EventKind}
 use Rattle.path_laws.specs.Setting.{Setting}
 use Rattle.path_laws.specs.Deeds.{kind_of}
-use Rattle.path_laws.specs.history.Along.{IsAlongPaths, IsThread}
+use Rattle.path_laws.specs.history.Along.{IsThread, PathThread, path_thread}
 use Rattle.path_laws.specs.history.Next.{fails_next, IsNextOnPath, BranchesAlong}
-use Rattle.path_laws.proofs.of_history.Told.{RunOf, run_of}
+use Rattle.path_laws.proofs.of_history.Told.{RunOf, its_run}
 use Rattle.path_laws.proofs.of_history.Walks.{IsWalk, walk_is, thread_path_at}
 use Rattle.path_laws.proofs.of_history.Next.{asks_told, thread_next, steps_left, next_leads, has_marks, as_wanted, path_step, fails_there}
 use Rattle.path_laws.proofs.of_events.Lists.{each_of, each_in, contains_in, all_pass}
 use Rattle.path_laws.proofs.of_events.Marked.{event_at, event_found}
 use Rattle.path_laws.proofs.of_events.Sites.{last_is_site}
-use Rattle.sym_terms.specs.Terms.{AreTerms}
 use Rattle.sym_terms.specs.declared.node.Node.{Node}
 use Rattle.sym_exec.specs.Making.{Grows}
 use Rattle.sym_exec.specs.helpers.Threads.{names_within}
@@ -67,6 +66,7 @@ use Rattle.sym_laws.proofs.Valued.{valued}
 use Rattle.sym_steps.specs.Next.{kind_at, accesses_at, TestsAreMet, IsToldNext}
 use Rattle.sym_steps.proofs.Cells.{has_cells, cells_of}
 use Rattle.sym_steps.proofs.Wanted.{fails_as_told, deed_fails, asked_kind, site_is_wanted, passes_before, one_wanted}
+use Rattle.sym_steps.specs.Valued.{ValuedHistory, ExecutedThread}
 
 -- Lists.
 
@@ -85,23 +85,23 @@ apart_below m n lt = grind (arith, lt)
 apart_above : (m n : ℕ) → n < m → (m == n) ≡ false
 apart_above m n lt = grind (arith, lt)
 
--- what a path has of an event that it maps from what a step asks
+-- the kind of an event that a path maps from a step's kind
 kind_back : (o : Option EventKind) (event : EventKind → Event) → ((a : EventKind) → (event a).kind ≡ a) → option_map (λ (e : Event). e.kind) (option_map event o) ≡ o
 kind_back None event is = refl
 kind_back (Some a) event is = ap (λ k. Some k) (is a)
 
--- where a branch leads with outcomes there is one
+-- a branch that leads on has an outcome left
 outcome_there : (next to : ℕ) (os : List Bool) (on : Onward) → path.branched next to os ≡ Some on → (b : Bool) × (rest : List Bool) × (os ≡ b ∷ rest)
 outcome_there next to [] on e = absurd (none-some on e)
 outcome_there next to (b ∷ os) on e = (b, os, refl)
 
-module _ {B : Type 0} (setting : Setting B) (fits : Fits setting.code setting.log) (nodes : List Node) (loads : List ℤ) (terms : AreTerms nodes)
-    (h : List Deed) (along : IsAlongPaths setting.ops.buffered setting.bound setting.code setting.log h)
-    (agrees : AgreesWith (found setting.code setting.log nodes).symbolic loads h) (j : ℕ) where
+module _ {B : Type 0} (setting : Setting B) (nodes : List Node) (loads : List ℤ) (taken : ValuedHistory setting nodes loads) where
   open setting use {machine, ops, model, bound, laws, code, lawful, log, log_is as is}
+  open taken use {history as along, terms, agrees}
+  open along use {deeds as h, fits}
 
   abbrev r : RunOf machine log h
-  r = run_of machine log h along
+  r = its_run setting along
 
   ints : PassesInts ops
   ints = models_pass_ints ops model bound laws
@@ -109,23 +109,28 @@ module _ {B : Type 0} (setting : Setting B) (fits : Fits setting.code setting.lo
   agrees_so : AgreesWith (found code log nodes).symbolic loads (history ops code r.moves)
   agrees_so = subst (AgreesWith (found code log nodes).symbolic loads) (sym r.is) agrees
 
-  -- what runs have, histories have
-  pub has_values : (w : Walk) (c : Course) (t : Local) → IsThread code log j w → slice_get (found code log nodes).symbolic.threads j ≡ Some c
-      → fin.get (locals_in code h) w.name ≡ Some t → HasValues code log nodes loads h j w c t
-  has_values w c t there course at = by (fin.get r.state.threads w.name) refl
-    where
-      by : (o : Option (Thread B)) → fin.get r.state.threads w.name ≡ o → HasValues code log nodes loads h j w c t
-      by None none = absurd (none-some t (sym (r.told.tells.locals w.name ∙ ap (option_map (λ (x : Thread B). x.local)) none) ∙ at))
-      by (Some x) here =
-          let same : x.local ≡ t = same_Some x.local t (sym (r.told.tells.locals w.name ∙ ap (option_map (λ (x : Thread B). x.local)) here) ∙ at) in
-          let v = valued ops code log nodes loads ints lawful is fits terms r.moves r.state r.leads r.on agrees_so j w c x there course here in
-          subst (HasValues code log nodes loads h j w c) same (subst (λ g. HasValues code log nodes loads g j w c x.local) r.is v)
+  module _ (one : ExecutedThread code log nodes) where
+    open one use {index as j, walk as w, course as c, there, executed}
+
+    -- what runs have, histories have
+    pub has_values : (t : Local) → fin.get (locals_in code h) w.name ≡ Some t → HasValues code log nodes loads h j w c t
+    has_values t at = by (fin.get r.state.threads w.name) refl
+      where
+        by : (o : Option (Thread B)) → fin.get r.state.threads w.name ≡ o → HasValues code log nodes loads h j w c t
+        by None none = absurd (none-some t (sym (r.told.tells.locals w.name ∙ ap (option_map (λ (x : Thread B). x.local)) none) ∙ at))
+        by (Some x) here =
+            let same : x.local ≡ t = same_Some x.local t (sym (r.told.tells.locals w.name ∙ ap (option_map (λ (x : Thread B). x.local)) here) ∙ at) in
+            let v = valued ops code log nodes loads ints lawful is fits terms r.moves r.state r.leads r.on agrees_so j w c x there executed here in
+            subst (HasValues code log nodes loads h j w c) same (subst (λ g. HasValues code log nodes loads g j w c x.local) r.is v)
 
   -- The thread under a path of the log.
-  module _ (p : ThreadPath) (at : slice_get log.threads j ≡ Some p) (there : IsThread code log j (walk_of code log p)) (going : failed_in h ≡ None)
+  module _ (j : ℕ) (p : ThreadPath) (at : slice_get log.threads j ≡ Some p) (there : IsThread code log j (walk_of code log p)) (going : failed_in h ≡ None)
       (dead : (paths_of code log).dead ≡ false) (x : IsNextOnPath code h (walk_of code log p)) where
     abbrev w : Walk
     w = walk_of code log p
+
+    abbrev thread : PathThread code log
+    thread = record { index = j; walk = w; there = there }
 
     abbrev t : Local
     t = x.local
@@ -137,7 +142,7 @@ module _ {B : Type 0} (setting : Setting B) (fits : Fits setting.code setting.lo
     k = t.steps
 
     abbrev walk : IsWalk code log w
-    walk = walk_is code log is fits j w there
+    walk = walk_is code log is fits thread
 
     abbrev failing_step : Option ℕ
     failing_step = fails_at (paths_of code log) j w
@@ -156,7 +161,7 @@ module _ {B : Type 0} (setting : Setting B) (fits : Fits setting.code setting.lo
 
     follow : Follows later loads d t (flat_map (asked_of w.name) h)
     follow =
-        let y = thread_next setting fits h j w there going r x in
+        let y = thread_next setting along thread going x in
         let f = follow_after ops code log nodes loads ints lawful is fits terms r.moves r.state r.leads r.on agrees_so j p y.0 at y.1 in
         subst (λ (l : Local). Follows later loads (upto l.steps) l (flat_map (asked_of w.name) h)) y.2
         (subst (λ g. Follows later loads (upto y.0.local.steps) y.0.local (flat_map (asked_of w.name) g)) r.is f)
@@ -165,7 +170,7 @@ module _ {B : Type 0} (setting : Setting B) (fits : Fits setting.code setting.lo
     fine = fine_at code log nodes lawful is terms j p at k
 
     few : k < length w.places
-    few = omega (arith, x.steps, steps_left setting fits h j w there going r x)
+    few = omega (arith, x.steps, steps_left setting along thread going x)
 
     place : slice_get w.places k ≡ Some t.instruction
     place = ap (slice_get w.places) x.steps ∙ x.place
@@ -243,10 +248,10 @@ module _ {B : Type 0} (setting : Setting B) (fits : Fits setting.code setting.lo
           one_wanted (outcome_by later loads) wanted b add.test
           (ap (map (outcome_by later loads)) (sym one) ∙ q.comes later grows_plain ∙ ap (λ o. cons_option o []) tests) tests_come
 
-      -- a branch goes by the path's next outcome
+      -- a branch uses the path's next outcome
       branches : BranchesAlong w t i
       branches ex to at_branch =
-          let on = next_leads setting fits h j w there going r x in
+          let on = next_leads setting along thread going x in
           let o = outcome_there (t.instruction + 1) to x.later on.0 (ap (λ a. onward t.instruction a x.later) (sym at_branch) ∙ on.1) in
           let next_is : slice_get w.outcomes (length t.outcomes) ≡ Some o.0 =
           ap (λ os. slice_get os (length t.outcomes)) (x.outcomes ∙ ap (λ os. t.outcomes ++ os) o.2) ∙ get_seam t.outcomes o.0 o.1 in
@@ -258,7 +263,7 @@ module _ {B : Type 0} (setting : Setting B) (fits : Fits setting.code setting.lo
           ∙ ap (wanted_of w.outcomes failing_step d) (sym at_branch)
           ∙ sym goes)
 
-      -- a site passes unless it is to fail
+      -- a site passes unless it should fail
       site_goes : (b : Bool) → condition t i ≡ Some b → is_site i ≡ true → b ≡ not (fails_next log h w)
       site_goes b tests site =
           comes_out b tests
@@ -269,29 +274,29 @@ module _ {B : Type 0} (setting : Setting B) (fits : Fits setting.code setting.lo
 
       fails_is : is_fail (request t i) ≡ fails_next log h w
       fails_is =
-          fails_as_told t i (fails_next log h w) (as_wanted setting fits h j w there going r x dead) site_goes
+          fails_as_told t i (fails_next log h w) (as_wanted setting along thread going x dead) site_goes
           (λ fails. last_is_site code log w walk k t.instruction i place x.at (ap (λ n. fails_in log w.name && n + 1 == length w.places) x.steps ∙ fails))
 
       -- the event of the step
       event_is : (other : Option Name) → OtherIs h w.name (request t i) other → kind_of (request t i) other ≡ kind_at w (steps_in h w.name)
       event_is other other_is =
           let ss = steps_at code w.function w.places in
-          let start = unmarked code w.function in
+          let start = marks_at_start code w.function in
           let m = marks_after start (take k ss) in
           let s : Step = record { place = t.instruction; instr = i } in
-          let y = thread_next setting fits h j w there going r x in
+          let y = thread_next setting along thread going x in
           let children : t.children ≡ children_in h w.name =
           ap (λ (l : Local). l.children) (sym y.2) ∙ children_are ops code r.state h w.name r.told.tells.deeds.buffers.threads y.0 y.1 in
           let fails = fails_in log w.name && length (drop (suc k) ss) == 0 in
-          let last : fails ≡ fails_next log h w = fails_there setting fits h j w there going r x in
+          let last : fails ≡ fails_next log h w = fails_there setting along thread going x in
           let event = event_found code w.function (fails_in log w.name) 0 start ss k s k (path_step code w k t.instruction i place x.at) (omega arith) in
-          asked_kind h w.name t m i other other_is children (has_marks setting fits h j w there going r x)
+          asked_kind h w.name t m i other other_is children (has_marks setting along thread going x)
           ∙ ap (kind_with m i) (fails_is ∙ sym last)
           ∙ sym (kind_back (kind_with m i fails) (event_at code w.function (fails_in log w.name) k s m) (λ a. refl))
           ∙ ap (option_map (λ (z : Event). z.kind)) (sym event)
           ∙ ap₂ (λ es n. option_map (λ (z : Event). z.kind) (find (λ (z : Event). z.step == n) es)) (sym walk.events) x.steps
 
-      -- its cells
+      -- the cells of the step
       abbrev at_step : Access → Bool
       at_step a = a.step == k
 
@@ -317,8 +322,9 @@ module _ {B : Type 0} (setting : Setting B) (fits : Fits setting.code setting.lo
           ∙ ap (cells_of later loads) (one ∙ sym only_these ∙ ap (λ n. filter (λ (a : Access). a.step == n) whole.accesses) x.steps
           ∙ ap (λ (z : Course). accesses_at z (steps_in h w.name)) same)
 
-      pub told_next : (q : Request) × IsToldNext code log later loads h w c x q
-      told_next = (
+      pub told_next : (executed : slice_get (found code log nodes).symbolic.threads j ≡ Some c)
+          → (q : Request) × IsToldNext loads h (record { thread = thread; course = c; executed = executed }) x q
+      told_next executed = (
         request t i,
         record {
           asks = asks_told code h w x;
@@ -331,12 +337,17 @@ module _ {B : Type 0} (setting : Setting B) (fits : Fits setting.code setting.lo
       )
 
   -- so it is of each thread of the paths
-  pub next_told : (w : Walk) (c : Course) (x : IsNextOnPath code h w) → IsThread code log j w → slice_get (found code log nodes).symbolic.threads j ≡ Some c
-      → failed_in h ≡ None → (paths_of code log).dead ≡ false → TestsAreMet (found code log nodes).nodes loads h c
-      → (q : Request) × IsToldNext code log (found code log nodes).nodes loads h w c x q
-  next_told w c x there course going dead met =
-      let p = thread_path_at code log j w there in
-      subst (λ (w : Walk). (x : IsNextOnPath code h w) → IsThread code log j w → (q : Request) × IsToldNext code log (found code log nodes).nodes loads h w c x q) p.2
+  abbrev with_walk : (one : ExecutedThread code log nodes) (w : Walk) → IsThread code log one.index w → ExecutedThread code log nodes
+  with_walk one w there = record { thread = path_thread one.index w there; course = one.course; executed = one.executed }
+
+  pub next_told : (one : ExecutedThread code log nodes) (x : IsNextOnPath code h one.walk) → failed_in h ≡ None → (paths_of code log).dead ≡ false
+      → TestsAreMet (found code log nodes).nodes loads h one.course → (q : Request) × IsToldNext loads h one x q
+  next_told one x going dead met =
+      let j = one.index in
+      let c = one.course in
+      let p = thread_path_at code log j one.walk one.there in
+      subst (λ (w : Walk). (x : IsNextOnPath code h w) (there : IsThread code log j w) → (q : Request) × IsToldNext loads h (with_walk one w there) x q) p.2
       (λ x there.
-      told_next p.0 p.1 there going dead x c (same_Some _ c (sym (found_at_log code log nodes lawful is terms j p.0 p.1).course ∙ course)) met)
-      x there
+      told_next j p.0 p.1 there going dead x c (same_Some _ c (sym (found_at_log code log nodes lawful is terms j p.0 p.1).course ∙ one.executed)) met
+      one.executed)
+      x one.there

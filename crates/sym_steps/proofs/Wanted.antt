@@ -1,4 +1,4 @@
--- A step fails where its path does.
+-- A step fails if its path fails there.
 use Rattle.std.proofs.Common.{◌≡◌, ◌∙◌, ℕ, ◌+◌, ◌-◌, ◌<◌, ◌==◌, ◌&&◌, ℤ, arith, Bool, true, false, not, cond, List, [], ◌∷◌, map, Option, Some, None, refl, ap, sym, slice_index_or, true≢false}
 use Rattle.std.specs.Prelude.{option_map, option_and_then}
 use Rattle.std.specs.List.{AllByRecursion as Each, last_or}
@@ -28,7 +28,7 @@ use Rattle.path_laws.proofs.Deeds.{same_test}
 use Rattle.sym_exec.specs.Alone.{condition}
 use Rattle.sym_exec.specs.Thread.{Doing, wanted_of}
 
--- a site that passes unless it is to fail
+-- a site that passes unless it should fail
 fail_site : (b fails : Bool) → b ≡ not fails → is_fail (site b) ≡ fails
 fail_site true true e = absurd (true≢false e)
 fail_site true false e = refl
@@ -39,7 +39,8 @@ never : (fails : Bool) → (fails ≡ true → false ≡ true) → false ≡ fai
 never true h = absurd (true≢false (sym (h refl)))
 never false h = refl
 
--- an instruction fails where it is to, if its test comes out as it is wanted, and only a site is to fail
+-- an instruction fails if it should, given that its test has its wanted outcome and only a site
+-- should fail
 pub fails_as_told : (t : Local) (i : Instr) (fails : Bool) → IsAsWanted fails t i
     → ((b : Bool) → condition t i ≡ Some b → is_site i ≡ true → b ≡ not fails) → (fails ≡ true → is_site i ≡ true) → is_fail (request t i) ≡ fails
 fails_as_told t (Inside len e) fails wanted tested sites = fail_site (is_within len (value_in t e)) fails (tested _ refl refl)
@@ -50,15 +51,15 @@ fails_as_told t (Nonzero e) fails wanted tested sites = fail_site (is_nonzero (v
 fails_as_told t (InRange e) fails wanted tested sites = fail_site (is_distance (value_in t e)) fails (tested _ refl refl)
 fails_as_told t i fails wanted tested sites = never fails sites
 
--- and so does the deed
+-- the deed of the step fails if it should
 pub deed_fails : (n : Name) (k : ℕ) (r : Request) (took : ℤ) (other : Option Name) → fails (Did n k r took other) ≡ cond (is_fail r) (Some n) None
 deed_fails n k Fail took other = refl
 deed_fails n k Silent took other = refl
 deed_fails n k r took other = refl
 
--- What a step asks is what the path says of its instruction.
+-- The kind of a step's request is the one that the path gives its instruction.
 
--- a site is an event only where it fails
+-- a site is an event only if it fails
 site_is : (b : Bool) (other : Option Name) → kind_of (site b) other ≡ cond (is_fail (site b)) (Some kind.Fail) None
 site_is true other = refl
 site_is false other = refl
@@ -78,7 +79,7 @@ asked_kind h n t m (Nonzero e) other is children marks = site_is _ other
 asked_kind h n t m (InRange e) other is children marks = site_is _ other
 asked_kind h n t m i other is children marks = refl
 
--- what is wanted of a site: that it passes, unless it is in the step of a number that the thread fails
+-- the wanted outcome of a site: it passes, unless the thread fails in that step
 pub site_is_wanted : (outcomes : List Bool) (fails : Option ℕ) (d : Doing) (i : Instr) → is_site i ≡ true
     → wanted_of outcomes fails d i ≡ option_map_or (λ m. not (d.steps == m)) fails true
 site_is_wanted outcomes None d (Branch e to) site = absurd (true≢false (sym site))
@@ -86,12 +87,12 @@ site_is_wanted outcomes (Some m) d (Branch e to) site = absurd (true≢false (sy
 site_is_wanted outcomes None d i site = refl
 site_is_wanted outcomes (Some m) d i site = refl
 
--- where the thread fails in its last step, if it does, that is so in each step but that one
+-- if a thread fails only in its last step, it passes in each earlier one
 pub passes_before : (b : Bool) (k n : ℕ) → k < n → option_map_or (λ m. not (k == m)) (cond b (Some (n - 1)) None) true ≡ not (b && k + 1 == n)
 passes_before false k n few = refl
 passes_before true k n few = ap not (same_test k (n - 1) (k + 1) n (λ e. omega (arith, e, few)) (λ e. omega (arith, e)))
 
--- a test among those that come out as they are wanted
+-- one of several tests with wanted outcomes
 pub one_wanted : {X : Type 0} (f : X → Bool) (wanted b : Bool) (xs : List X) → map f xs ≡ b ∷ [] → Each (λ x. f x ≡ wanted) xs → b ≡ wanted
 one_wanted f wanted b [] is each = absurd cc
 one_wanted f wanted b (x ∷ xs) is each = let same : f x ≡ b = cc in sym same ∙ each.0

@@ -1,2 +1,3 @@
+pub mod Valued
 pub mod Next
 pub mod accesses

@@ -20,6 +20,8 @@ use Rattle.sym_exec.specs.Alone.{asked_by, cell_by, outcome_by}
 use Rattle.sym_exec.specs.Executed.{Course}
 use Rattle.sym_exec.specs.declared.symbolic.Access.{Access}
 use Rattle.sym_exec.specs.declared.symbolic.Test.{Test}
+use Rattle.sym_laws.specs.Valued.{found}
+use Rattle.sym_steps.specs.Valued.{ExecutedThread}
 
 -- the kind of the path's event in the step k, if any
 abbrev pub kind_at : Walk → ℕ → Option EventKind
@@ -33,15 +35,16 @@ accesses_at c k = filter (λ (a : Access). a.step == k) c.accesses
 abbrev pub TestsAreMet : List Node → List ℤ → List Deed → Course → Type 0
 TestsAreMet nodes loads h c = (x : Test) → Contains c.tests x → x.step ≡ steps_in h c.name → outcome_by nodes loads x ≡ x.wanted
 
-module _ (code : Code) (log : Log) (nodes : List Node) (loads : List ℤ) (h : List Deed) (w : Walk) (c : Course) where
-  -- the next step makes the request r, as its path says
-  pub record IsToldNext (x : IsNextOnPath code h w) (r : Request) : Type 0 where
-    pub asks : asks_next code h w.name ≡ Some r
-    pub request_is : r ≡ request x.local x.instr
-    -- the step fails where the path does, and a branch takes the path's next outcome
-    pub fails_so : (k : ℕ) (took : ℤ) (other : Option Name) → fails (Did w.name k r took other) ≡ failing_next log h w
-    pub branches : BranchesAlong w x.local x.instr
-    -- the step is the path's event of that number, or no event if the path has none
-    pub event : (other : Option Name) → OtherIs h w.name r other → kind_of r other ≡ kind_at w (steps_in h w.name)
-    -- the step accesses the cells of the path's accesses, whatever value it takes
-    pub cells : (took : ℤ) → map (λ a. a.cell) (asked_by took r) ≡ map (λ (a : Access). cell_by nodes loads a.cell) (accesses_at c (steps_in h w.name))
+-- the next step of the thread makes the request r, as its path says
+pub record IsToldNext {code : Code} {log : Log} {nodes : List Node} (loads : List ℤ) (h : List Deed) (t : ExecutedThread code log nodes)
+    (x : IsNextOnPath code h t.walk) (r : Request) : Type 0 where
+  pub asks : asks_next code h t.name ≡ Some r
+  pub request_is : r ≡ request x.local x.instr
+  -- the step fails where the path does, and a branch takes the path's next outcome
+  pub fails_so : (k : ℕ) (took : ℤ) (other : Option Name) → fails (Did t.name k r took other) ≡ failing_next log h t.walk
+  pub branches : BranchesAlong t.walk x.local x.instr
+  -- the step is the path's event of that number, or no event if the path has none
+  pub event : (other : Option Name) → OtherIs h t.name r other → kind_of r other ≡ kind_at t.walk (steps_in h t.name)
+  -- the step accesses the cells of the path's accesses, whatever value it takes
+  pub cells : (took : ℤ) → map (λ a. a.cell) (asked_by took r)
+      ≡ map (λ (a : Access). cell_by (found code log nodes).nodes loads a.cell) (accesses_at t.course (steps_in h t.name))

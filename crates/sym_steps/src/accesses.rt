@@ -1,55 +1,47 @@
 //! The cells of accesses in a history along the paths. Each law is the contract of a function with
 //! an empty body.
-ghost use Rattle.std.specs.Prelude.{◌≡◌, ◌<◌, ◌==◌, ℕ, ℤ, pos, Some, List, slice_get, slice_index_or};
+ghost use Rattle.std.specs.Prelude.{◌≡◌, ◌<◌, ◌==◌, ℕ, ℤ, pos, Some, List, slice_index_or};
 ghost use Rattle.std.specs.List.{Contains};
-ghost use Rattle.run_history.specs.History.{Deed};
 ghost use Rattle.run_history.specs.Told.{steps_in};
-ghost use Rattle.path_walk.specs.Fits.{Fits};
-ghost use Rattle.path_walk.specs.Paths.{Walk, Paths};
+ghost use Rattle.path_walk.specs.Paths.{Paths};
 ghost use Rattle.path_laws.specs.Setting.{Setting};
-ghost use Rattle.path_laws.specs.history.Along.{IsAlongPaths, IsThread};
-ghost use Rattle.sym_terms.specs.Terms.{AreTerms};
 ghost use Rattle.sym_terms.specs.declared.node.Node.{Node};
 ghost use Rattle.sym_exec.specs.Alone.{Asked, asked_in, cell_by};
-ghost use Rattle.sym_exec.specs.Executed.{Course, Symbolic};
+ghost use Rattle.sym_exec.specs.Executed.{Symbolic};
 ghost use Rattle.sym_exec.specs.declared.symbolic.Access.{Access};
-ghost use Rattle.sym_laws.specs.Valued.{AgreesWith, found};
+ghost use Rattle.sym_laws.specs.Valued.{found};
 ghost use Rattle.order_formula.specs.Worlds.{World};
 ghost use Rattle.lawful_order.specs.Cells.{is_same_cell, value_at_start};
 ghost use Rattle.lawful_order.specs.Memory.{cell_of};
 ghost use Rattle.lawful_order.specs.Reads.{HasAccess};
 ghost use Rattle.lawful_order.specs.Whole.{IsExecutedBy};
 ghost use Rattle.sym_steps.specs.accesses.Asked.{IsAskedIn, IsReachedIn};
+ghost use Rattle.sym_steps.specs.Valued.{ValuedHistory, ExecutedThread};
 
 /// In a history along the paths, a thread's steps make exactly the accesses of its path, step by
 /// step.
 pub fn accesses_are_asked<B>()
-    ensures done { (s : Setting B) (nodes : List Node) (loads : List ℤ) (h : List Deed) (j : ℕ) (w : Walk) (c : Course) (a : Access)
-        → Fits s.code s.log → AreTerms nodes
-        → IsAlongPaths s.ops.buffered s.bound s.code s.log h → AgreesWith (found s.code s.log nodes).symbolic loads h
-        → IsThread s.code s.log j w → slice_get (found s.code s.log nodes).symbolic.threads j ≡ Some c
-        → Contains c.accesses a → a.step < steps_in h w.name → IsAskedIn h w.name a.step (asked_in (found s.code s.log nodes).nodes loads a) }
-    ensures found { (s : Setting B) (nodes : List Node) (loads : List ℤ) (h : List Deed) (j : ℕ) (w : Walk) (c : Course) (k : ℕ) (asked : Asked)
-        → Fits s.code s.log → AreTerms nodes
-        → IsAlongPaths s.ops.buffered s.bound s.code s.log h → AgreesWith (found s.code s.log nodes).symbolic loads h
-        → IsThread s.code s.log j w → slice_get (found s.code s.log nodes).symbolic.threads j ≡ Some c → IsAskedIn h w.name k asked
-        → (a : Access) × Contains c.accesses a × (a.step ≡ k) × (asked_in (found s.code s.log nodes).nodes loads a ≡ asked) }
+    ensures done { (s : Setting B) (nodes : List Node) (loads : List ℤ) (h : ValuedHistory s nodes loads) (t : ExecutedThread s.code s.log nodes) (a : Access)
+        → Contains t.course.accesses a → a.step < steps_in h.deeds t.name
+        → IsAskedIn h.deeds t.name a.step (asked_in (found s.code s.log nodes).nodes loads a) }
+    ensures found { (s : Setting B) (nodes : List Node) (loads : List ℤ)
+        (h : ValuedHistory s nodes loads) (t : ExecutedThread s.code s.log nodes) (k : ℕ) (asked : Asked) → IsAskedIn h.deeds t.name k asked
+        → (a : Access) × Contains t.course.accesses a × (a.step ≡ k) × (asked_in (found s.code s.log nodes).nodes loads a ≡ asked) }
 {}
 
 /// Two accesses that are done, or next, are to the same cell exactly when their cells have the same
 /// number: arrays don't overlap, and each index was tested to be inside its array.
 pub fn cells_are_one<B>()
-    ensures { (s : Setting B) (nodes : List Node) (w : World) (h : List Deed) (t u : ℕ) (a b : Access) → Fits s.code s.log → AreTerms nodes
-        → IsAlongPaths s.ops.buffered s.bound s.code s.log h → AgreesWith (found s.code s.log nodes).symbolic w.loads h
-        → IsReachedIn s.code s.log nodes h t a → IsReachedIn s.code s.log nodes h u b → is_same_cell (found s.code s.log nodes).nodes w a.cell b.cell
+    ensures { (s : Setting B) (nodes : List Node) (w : World) (h : ValuedHistory s nodes w.loads) (t u : ℕ) (a b : Access)
+        → IsReachedIn s.code s.log nodes h.deeds t a → IsReachedIn s.code s.log nodes h.deeds u b
+        → is_same_cell (found s.code s.log nodes).nodes w a.cell b.cell
         ≡ (cell_by (found s.code s.log nodes).nodes w.loads a.cell == cell_by (found s.code s.log nodes).nodes w.loads b.cell) }
 {}
 
 /// The initial value of such an access's cell is the one that the code gives it.
 pub fn cells_begin<B>()
-    ensures { (s : Setting B) (nodes : List Node) (loads : List ℤ) (h : List Deed) (t : ℕ) (a : Access) → Fits s.code s.log → AreTerms nodes
-        → IsAlongPaths s.ops.buffered s.bound s.code s.log h → AgreesWith (found s.code s.log nodes).symbolic loads h
-        → IsReachedIn s.code s.log nodes h t a
+    ensures { (s : Setting B) (nodes : List Node) (loads : List ℤ) (h : ValuedHistory s nodes loads) (t : ℕ) (a : Access)
+        → IsReachedIn s.code s.log nodes h.deeds t a
         → value_at_start s.code a.cell ≡ slice_index_or s.code.memory (cell_by (found s.code s.log nodes).nodes loads a.cell) (pos 0) }
 {}
 

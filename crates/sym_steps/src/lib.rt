@@ -2,7 +2,7 @@
 //! agreeing with a history. Each law is the contract of a function with an empty body.
 #![tactic(auto)]
 
-ghost use Rattle.std.specs.Prelude.{◌≡◌, ℕ, ℤ, false, Option, Some, None, List, [], ◌∷◌, ◌++◌, slice_get, slice_index_or, pos};
+ghost use Rattle.std.specs.Prelude.{◌≡◌, ℕ, ℤ, false, Option, Some, None, List, [], ◌∷◌, ◌++◌, slice_index_or, pos};
 ghost use Rattle.std.specs.FinMap as fin;
 ghost use Rattle.tc_base.specs.Names.{Name};
 ghost use Rattle.tc_base.specs.States.{Local};
@@ -10,17 +10,15 @@ ghost use Rattle.tc_base.specs.declared.request.Request.{Request};
 ghost use Rattle.run_history.specs.History.{Deed, Did, Drained};
 ghost use Rattle.run_history.specs.Locals.{locals_in};
 ghost use Rattle.run_history.specs.Told.{failed_in};
-ghost use Rattle.path_walk.specs.Fits.{Fits};
-ghost use Rattle.path_walk.specs.Paths.{Walk, paths_of};
+ghost use Rattle.path_walk.specs.Paths.{paths_of};
 ghost use Rattle.path_laws.specs.Setting.{Setting};
-ghost use Rattle.path_laws.specs.history.Along.{IsAlongPaths, IsThread};
 ghost use Rattle.path_laws.specs.history.Next.{IsNextOnPath};
-ghost use Rattle.sym_terms.specs.Terms.{AreTerms};
 ghost use Rattle.sym_terms.specs.declared.node.Node.{Node};
 ghost use Rattle.sym_exec.specs.Executed.{Course, Symbolic};
 ghost use Rattle.sym_exec.specs.declared.symbolic.Access.{Access};
 ghost use Rattle.sym_laws.specs.Valued.{IsOneOf, AgreesWith, HasValues, found};
 ghost use Rattle.sym_steps.specs.Next.{TestsAreMet, IsToldNext};
+ghost use Rattle.sym_steps.specs.Valued.{ValuedHistory, ExecutedThread};
 
 pub mod accesses;
 
@@ -38,24 +36,19 @@ pub fn loads_go_on_agreeing()
         → AgreesWith symbolic loads (first ++ later) → AgreesWith symbolic loads first }
 {}
 
-/// In a history along the paths, if the loads took the values of their symbols, each thread's slots
-/// have the values of their terms, its tests had their wanted outcomes, and its accesses are those
-/// of its path.
+/// In a history along the paths, let the loads take the values of their symbols. Then each thread's
+/// slots have the values of their terms, its tests had their wanted outcomes, and its accesses are
+/// those of its path.
 pub fn histories_have_values<B>()
-    ensures { (s : Setting B) (nodes : List Node) (loads : List ℤ) (h : List Deed) (j : ℕ) (w : Walk) (c : Course) (t : Local)
-        → Fits s.code s.log → AreTerms nodes
-        → IsAlongPaths s.ops.buffered s.bound s.code s.log h → AgreesWith (found s.code s.log nodes).symbolic loads h
-        → IsThread s.code s.log j w → slice_get (found s.code s.log nodes).symbolic.threads j ≡ Some c → fin.get (locals_in s.code h) w.name ≡ Some t
-        → HasValues s.code s.log nodes loads h j w c t }
+    ensures { (s : Setting B) (nodes : List Node) (loads : List ℤ) (h : ValuedHistory s nodes loads) (t : ExecutedThread s.code s.log nodes) (l : Local)
+        → fin.get (locals_in s.code h.deeds) t.name ≡ Some l → HasValues s.code s.log nodes loads h.deeds t.index t.walk t.course l }
 {}
 
 /// If also the tests of a thread's next step have their wanted outcomes, and the paths aren't dead,
 /// the path determines the step: whether it fails, how it branches, its event, and its cells.
 pub fn next_is_told<B>()
-    ensures { (s : Setting B) (nodes : List Node) (loads : List ℤ) (h : List Deed) (j : ℕ) (w : Walk) (c : Course) (x : IsNextOnPath s.code h w)
-        → Fits s.code s.log → AreTerms nodes
-        → IsAlongPaths s.ops.buffered s.bound s.code s.log h → AgreesWith (found s.code s.log nodes).symbolic loads h
-        → IsThread s.code s.log j w → slice_get (found s.code s.log nodes).symbolic.threads j ≡ Some c → failed_in h ≡ None
-        → (paths_of s.code s.log).dead ≡ false → TestsAreMet (found s.code s.log nodes).nodes loads h c
-        → (r : Request) × IsToldNext s.code s.log (found s.code s.log nodes).nodes loads h w c x r }
+    ensures { (s : Setting B) (nodes : List Node) (loads : List ℤ)
+        (h : ValuedHistory s nodes loads) (t : ExecutedThread s.code s.log nodes) (x : IsNextOnPath s.code h.deeds t.walk)
+        → failed_in h.deeds ≡ None → (paths_of s.code s.log).dead ≡ false → TestsAreMet (found s.code s.log nodes).nodes loads h.deeds t.course
+        → (r : Request) × IsToldNext loads h.deeds t x r }
 {}

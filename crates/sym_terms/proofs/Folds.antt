@@ -1,4 +1,4 @@
--- The values of a list of nodes, of its beginnings, and of a longer list.
+-- The values of a list of nodes, of its first parts, and of a longer list.
 use Rattle.std.proofs.Common.{◌≡◌, ℕ, ◌+◌, ◌<◌, ◌≤◌, min, List, [], ◌∷◌, ◌++◌, length, get_or, take, drop, ℤ, pos, refl, ap, sym, ◌∙◌, arith, length-append}
 use Rattle.std.specs.Prelude.{fold}
 use Rattle.std.proofs.lemmas.List.{append-nil, append_assoc, take-append-drop, length-take, length-take-le, take-append-le, get_or_append_left}
@@ -27,7 +27,7 @@ length_fold loads known (n ∷ ns) = length_fold loads (step loads known n) ns �
 pub length_values : (nodes : List Node) (loads : List ℤ) → length (values_of nodes loads) ≡ length nodes
 length_values nodes loads = length_fold loads [] nodes ∙ omega arith
 
--- so a name's value stays
+-- a node's value stays the same with more nodes
 pub keep : (nodes more : List Node) (loads : List ℤ) (id : ℕ) → id < length nodes
     → value_of (nodes ++ more) loads id ≡ value_of nodes loads id
 keep nodes more loads id within =

@@ -1,4 +1,4 @@
--- Terms with a node more.
+-- Terms with one more node.
 use Rattle.std.proofs.Common.{
   ◌≡◌,
   ℕ,
@@ -42,7 +42,7 @@ use Rattle.std.proofs.lemmas.Map.Keys.{IsDistinct-push, apart_from_distinct}
 use Rattle.std.proofs.lemmas.List.Folds.{list_any_at}
 use Rattle.sym_terms.proofs.Folds.{step, length_values, of_node}
 
--- the first that passes is within where one passes, and else it is the end
+-- the first place that passes is within the list if some element passes, and its end otherwise
 pub any_within : {X : Type 0} (p : X → Bool) (xs : List X) → list_any p xs ≡ true → position_or_len p xs < length xs
 any_within p [] h = absurd (false≢true h)
 any_within p (x ∷ xs) h = grind (arith, any_within p xs)
@@ -54,7 +54,7 @@ none_past p (x ∷ xs) h = grind (arith, none_past p xs)
 abbrev pub Earlier : List Node → Type 0
 Earlier nodes = (id : ℕ) (node : Node) → slice_get nodes id ≡ Some node → NamesBelow id node
 
--- a node that names earlier ones may stand at the end
+-- a node that names earlier ones may be added at the end
 earlier_push : (nodes : List Node) (node : Node) → NamesBelow (length nodes) node → Earlier nodes → Earlier (nodes ++ node ∷ [])
 earlier_push nodes node names before id found is =
     let all = nodes ++ node ∷ [] in
@@ -66,7 +66,7 @@ earlier_push nodes node names before id found is =
       | inr inside ↦ before id found (slice_get-get_or nodes id node inside ∙ ap Some (sym (get_or_append_left nodes (node ∷ []) node id inside) ∙ at))
     ]
 
--- with a node, terms name earlier ones as before
+-- with one more node, all nodes still name earlier ones
 pub earlier_with : (nodes : List Node) (node : Node) → NamesBelow (length nodes) node → Earlier nodes → Earlier (with_node nodes node)
 earlier_with nodes node names before = by (list_any (same_node node) nodes) refl
   where
@@ -77,7 +77,7 @@ earlier_with nodes node names before = by (list_any (same_node node) nodes) refl
 pub earlier_none : Earlier []
 earlier_none id node is = absurd (omega (arith, slice_get_within [] id node is))
 
--- there are more nodes at the end
+-- adding a node only adds at the end
 pub grows : (nodes : List Node) (node : Node) → (more : List Node) × (with_node nodes node ≡ nodes ++ more)
 grows nodes node = by (list_any (same_node node) nodes) refl
   where
@@ -85,7 +85,7 @@ grows nodes node = by (list_any (same_node node) nodes) refl
     by true is = ([], rw is (sym (append-nil nodes)))
     by false is = (node ∷ [], rw is refl)
 
--- the name that a node is given has the node's value
+-- the id of a node has the node's value
 pub named : (nodes : List Node) (node : Node) (loads : List ℤ) → AreTerms nodes → NamesBelow (length nodes) node
     → value_of (with_node nodes node) loads (id_of nodes node) ≡ node_value (values_of nodes loads) loads node
 named nodes node loads are names = by (list_any (same_node node) nodes) refl
@@ -104,7 +104,7 @@ named nodes node loads are names = by (list_any (same_node node) nodes) refl
         ∙ ap (λ k. get_or (all ++ node_value all loads node ∷ []) k (pos 0)) (sym (length_values nodes loads))
         ∙ get_or-append_seam all (node_value all loads node) [] (pos 0))
 
--- terms with a node are terms
+-- adding a node keeps the nodes distinct
 distinct_with : (nodes : List Node) (node : Node) → IsDistinct same_node nodes → IsDistinct same_node (with_node nodes node)
 distinct_with nodes node before = by (list_any (same_node node) nodes) refl
   where
@@ -115,7 +115,7 @@ distinct_with nodes node before = by (list_any (same_node node) nodes) refl
 pub are_with : (nodes : List Node) (node : Node) → AreTerms nodes → NamesBelow (length nodes) node → AreTerms (with_node nodes node)
 are_with nodes node are names = record { distinct = distinct_with nodes node are.distinct; earlier = earlier_with nodes node names are.earlier }
 
--- a node that is there is told by the test from those before it
+-- the test finds each node different from those before it
 told_apart : (nodes : List Node) (node : Node) (k id : ℕ) → IsDistinct same_node nodes → k < id → id < length nodes → get_or nodes id node ≡ node
     → same_node node (get_or nodes k node) ≡ false
 told_apart nodes node k id distinct before within at =
@@ -134,7 +134,7 @@ is_there nodes node id are is =
           (λ k before. told_apart nodes node k id are.distinct before within at) (λ _. passes),
     )
 
--- the name that a node is given is that of its place
+-- the id of a node is its place
 pub is_given : (nodes : List Node) (node : Node) → slice_get (with_node nodes node) (id_of nodes node) ≡ Some node
 is_given nodes node = by (list_any (same_node node) nodes) refl
   where

@@ -1,4 +1,4 @@
--- The program's test of two nodes is that of the definitions, and passes only for one and the same node.
+-- The program's test of two nodes is that of the definitions, and passes only for equal nodes.
 use Rattle.std.proofs.Common.{◌≡◌, true, ◌&&◌, ◌==◌, refl, ap, sym, subst, ◌∙◌, rules}
 use Rattle.std.proofs.lemmas.Bool.{false≢true}
 use Rattle.std.proofs.lemmas.Bool.Decides.{Decides-int_eq, Decides-eqb}
@@ -61,7 +61,7 @@ node_eq (Binary _ _ _) (Constant _) = refl
 node_eq (Binary _ _ _) (Symbol _) = refl
 node_eq (Binary _ _ _) (Unary _ _) = refl
 
--- as functions
+-- the two tests are the same function
 pub eq_is_same : (eq-value).it ≡ same_node
 eq_is_same = λ i a b. node_eq a b i
 
@@ -71,7 +71,7 @@ unary_one a b h = same_true unary_type (search rules) a b (unary_eq a b ∙ h)
 binary_one : (a b : BinOp) → same_binary a b ≡ true → a ≡ b
 binary_one a b h = same_true binary_type (search rules) a b (binary_eq a b ∙ h)
 
--- two nodes that are the same are one
+-- nodes that pass the test are equal
 pub same_one : (a b : Node) → same_node a b ≡ true → a ≡ b
 same_one (Constant m) (Constant n) h = ap Constant ((Decides-int_eq m n).0 h)
 same_one (Symbol j) (Symbol k) h = ap Symbol ((Decides-eqb j k).0 h)
@@ -92,7 +92,7 @@ same_self (Binary op a b) =
     and_from (same_binary op op) (a == a && b == b) (sym (binary_eq op op) ∙ true_same binary_type op op refl)
     (and_from (a == a) (b == b) (eq-eqb a a refl) (eq-eqb b b refl))
 
--- the test tells whether two nodes are one
+-- the test decides whether two nodes are equal
 pub same_decides : (a b : Node) → Decides (same_node a b) (a ≡ b)
 same_decides a b = (same_one a b, λ e. subst (λ n. same_node a n ≡ true) e (same_self a))
 

@@ -1,4 +1,4 @@
--- The conjuncts of a deadlock are its rule.
+-- The conjuncts of a deadlock are true exactly if its rule is met.
 use Rattle.std.proofs.Common.{◌≡◌, ◌∙◌, ℕ, Bool, true, false, not, ◌&&◌, ◌==◌, nat_eq, ◌⊎◌, List, [], ◌∷◌, map, Option, Some, None, inl, inr}
 use Rattle.std.proofs.Common.{refl, sym, ap, eqb-true, eq-eqb, if◌then◌else◌, is_none}
 use Rattle.std.specs.Prelude.{slice_get, option_to_list}
@@ -25,7 +25,7 @@ use Rattle.condition_order.specs.declared.wait.Ender.{Ender}
 use Rattle.condition_order.specs.Conditions.{enders}
 use Rattle.condition_order.proofs.Among.{ender_among}
 use Rattle.sync_order.specs.Children.{is_child, is_exit}
-use Rattle.sync_order.specs.Stuck.{is_open, cases_if, is_held, unended_by, unended, sleeping, sleeps_on}
+use Rattle.sync_order.specs.Stuck.{is_open, cases_if, is_held, not_ended_literal, unended, sleeping, sleeps_on}
 use Rattle.sync_order.specs.Stuck.{has_exited, cannot_go_on, stuck_at, stuck_formula}
 use Rattle.sync_order.proofs.Links.{exit_is, is_exit_of, child_is, is_child_of}
 use Rattle.sync_order.proofs.Groups.{same_stuck}
@@ -51,7 +51,7 @@ ender_cases None = inl refl
 ender_cases (Some g) = inr (g, refl)
 
 module _ (paths : Paths) where
-  -- nothing ends the sleep of a thread's step
+  -- no event ends the sleep of a thread's step
   abbrev asleep : (t step : ℕ) → List Literal
   asleep t k = sleeps_on (all_events paths) (all_sleeps paths) t k
 
@@ -113,12 +113,12 @@ module _ (paths : Paths) where
     true_cases false is = is
 
     literal_in : (t k s : ℕ) (x : Of Sleep) (g : Ender) → slice_get (all_sleeps paths) s ≡ Some x → x.thread ≡ t → x.it.step ≡ k
-        → Contains (enders (all_events paths) x.it.condition) g → Contains (asleep t k) (unended_by s g)
+        → Contains (enders (all_events paths) x.it.condition) g → Contains (asleep t k) (not_ended_literal s g)
     literal_in t k s x g sleep thread step there =
-        in_each (sleeping (all_events paths) t k) s x (unended_by s g) (all_sleeps paths) sleep
-        (in_if (x.thread == t && x.it.step == k) (unended_by s g) (unended (all_events paths) s x.it.condition)
+        in_each (sleeping (all_events paths) t k) s x (not_ended_literal s g) (all_sleeps paths) sleep
+        (in_if (x.thread == t && x.it.step == k) (not_ended_literal s g) (unended (all_events paths) s x.it.condition)
         (and_from (x.thread == t) (x.it.step == k) (eq-eqb x.thread t thread) (eq-eqb x.it.step k step))
-        (in_map (unended_by s) g (enders (all_events paths) x.it.condition) there))
+        (in_map (not_ended_literal s) g (enders (all_events paths) x.it.condition) there))
 
     sleeps_rule : (symbolic : Symbolic) (t k : ℕ) → IsWorldOf paths symbolic w → case_at nodes w (asleep t k) ≡ true → SleepsOn paths w t k
     sleeps_rule symbolic t k world all s x sleep thread step = elim (ender_cases (ender_of w s)) [
@@ -127,7 +127,7 @@ module _ (paths : Paths) where
           let g = ender_among paths symbolic w world s some.0 x.it.condition x (record { is = sleep; condition = refl }) some.1 in
           let by = some.1 ∙ ap (λ n. Some n) (sym g.2) in
           absurd (false≢true (sym (unwanted_is (is_ended w s g.0.event)
-          (all_of (literal_at nodes w) (unended_by s g.0) (asleep t k) all (literal_in t k s x g.0 sleep thread step g.1)))
+          (all_of (literal_at nodes w) (not_ended_literal s g.0) (asleep t k) all (literal_in t k s x g.0 sleep thread step g.1)))
           ∙ ended_is (ender_of w s) g.0.event by))
     ]
 
@@ -137,13 +137,13 @@ module _ (paths : Paths) where
         let c = s.element.it.condition in
         let own = of_if (s.element.thread == t && s.element.it.step == k) l (unended (all_events paths) s.place c) s.there in
         let both = and_parts (s.element.thread == t) (s.element.it.step == k) own.0 in
-        let g = of_map (unended_by s.place) l (enders (all_events paths) c) own.1 in
+        let g = of_map (not_ended_literal s.place) l (enders (all_events paths) c) own.1 in
         ap (literal_at nodes w) (sym g.2)
         ∙ is_unwanted (is_ended w s.place g.0.event)
         (unended_is (ender_of w s.place) g.0.event
         (sleeps s.place s.element s.at (eqb-true s.element.thread t both.0) (eqb-true s.element.it.step k both.1))))
 
-    -- what a thread is blocked at, each way
+    -- the ways in which a thread may be blocked
     module _ (t : ℕ) (q : Walk) (at : slice_get paths.threads t ≡ Some q) where
       rule_at : (symbolic : Symbolic) (b : Blocked) → IsWorldOf paths symbolic w → list_any (case_at nodes w) (cannot_go_on paths t q b) ≡ true
           → CannotGoOn paths w t b

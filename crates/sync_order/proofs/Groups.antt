@@ -1,4 +1,4 @@
--- Groups, by what they are of, and formulas that have more conjuncts than those of a group.
+-- Groups of conjuncts, and formulas that have conjuncts of other groups too.
 use Rattle.std.proofs.Common.{◌≡◌, ℕ, List, ◌++◌, inl, inr}
 use Rattle.std.specs.List.{Contains}
 use Rattle.std.proofs.lemmas.List.Elements.{Contains-append_left, Contains-append_right, Contains-append_cases}
@@ -18,7 +18,7 @@ same_mutex a b e = cc
 pub same_stuck : (a b : ℕ) → Stuck a ≡ Stuck b → a ≡ b
 same_stuck a b e = cc
 
--- no conjunct of a formula is of a group
+-- no conjunct of the formula is in this group
 abbrev pub HasNone : List Conjunct → Group → Type 0
 HasNone formula g = (z : Conjunct) → Contains formula z → z.group ≡ g → ⊥
 

@@ -1,4 +1,4 @@
--- The conjuncts of children are the rule of children.
+-- The conjuncts of children are true exactly if the rule of children is met.
 use Rattle.std.proofs.Common.{◌≡◌, ◌∙◌, ℕ, true, List, [], ◌∷◌, ◌⊎◌, map, filter, bytes_eq, Some, inl, inr, refl, sym, ap, subst, if◌then◌else◌}
 use Rattle.std.specs.Prelude.{slice_get}
 use Rattle.std.specs.List.{Contains, flat_map}
@@ -20,7 +20,7 @@ use Rattle.order_formula.specs.Worlds.{World}
 use Rattle.lawful_order.specs.Children.{HasExited, ChildRule}
 use Rattle.lawful_order.specs.Events.{all_events, HasEvent, Creates, Joins, IsChild, IsBefore}
 use Rattle.sync_order.specs.Children.{is_exit, is_child, created_before, exit_before, exited_before}
-use Rattle.sync_order.specs.Children.{of_children, created, joined, links_formula, children_formula}
+use Rattle.sync_order.specs.Children.{of_children, create_conjuncts, join_conjuncts, links_formula, children_formula}
 use Rattle.order_events.specs.Parts.{comes_before}
 use Rattle.sync_order.proofs.Groups.{same_child}
 use Rattle.order_events.proofs.Lists.{in_front, in_map, of_map, in_flat_map, of_flat_map, in_filter, of_filter}
@@ -46,7 +46,7 @@ module _ (paths : Paths) where
       let name : q.name ≡ child p.name k = ap (λ (x : Walk). x.name) (sym other) ∙ is.4 ∙ ap (λ (x : Walk). child x.name k) one in
       ap (λ n. bytes_eq n (child p.name k)) name ∙ same_refl (child p.name k)
 
-  -- what is made of a child is there
+  -- the result for a child is in the list
   in_children : {X : Type 0} (t k c : ℕ) (p q : Walk) (f : ℕ → Walk → List X) (y : X) → slice_get paths.threads t ≡ Some p
       → slice_get paths.threads c ≡ Some q → IsChild paths t k c → Contains (f c q) y → Contains (of_children paths.threads p k f) y
   in_children t k c p q f y parent thread is there =
@@ -69,12 +69,12 @@ module _ (paths : Paths) where
 
   -- the conjuncts of a thread's creates, and those of its joins
   abbrev all_created : ℕ → Walk → List Conjunct
-  all_created t p = flat_map (created (all_events paths) paths.threads t p) p.creates
+  all_created t p = flat_map (create_conjuncts (all_events paths) paths.threads t p) p.creates
 
   abbrev all_joined : ℕ → Walk → List Conjunct
-  all_joined t p = flat_map (joined (all_events paths) paths.threads t p) p.joins
+  all_joined t p = flat_map (join_conjuncts (all_events paths) paths.threads t p) p.joins
 
-  -- the conjuncts are in the formula
+  -- the conjuncts of creates are in the formula
   create_in : (t c : ℕ) (l : Link) (x : Event) → Creates paths t l → IsChild paths t l.child c → HasEvent paths c x
       → Contains (children_formula paths) (created_before (all_events paths) t l c x)
   create_in t c l x creates is has =
@@ -82,7 +82,7 @@ module _ (paths : Paths) where
       let z = created_before (all_events paths) t l c x in
       in_each (links_formula (all_events paths) paths.threads) t p z paths.threads creates.1
       (Contains-append_left (all_created t p) (all_joined t p) z
-      (in_flat_map (created (all_events paths) paths.threads t p) l z p.creates creates.2
+      (in_flat_map (create_conjuncts (all_events paths) paths.threads t p) l z p.creates creates.2
       (in_children t l.child c p has.0 (λ d q. map (created_before (all_events paths) t l d) q.events) z creates.1 has.1 is
       (in_map (created_before (all_events paths) t l c) x has.0.events has.2))))
 
@@ -93,10 +93,10 @@ module _ (paths : Paths) where
       let z = exited_before (all_events paths) t l c q in
       in_each (links_formula (all_events paths) paths.threads) t p z paths.threads joins.1
       (Contains-append_right (all_created t p) (all_joined t p) z
-      (in_flat_map (joined (all_events paths) paths.threads t p) l z p.joins joins.2
+      (in_flat_map (join_conjuncts (all_events paths) paths.threads t p) l z p.joins joins.2
       (in_children t l.child c p q (λ d r. exited_before (all_events paths) t l d r ∷ []) z joins.1 at is (in_front z []))))
 
-  -- and there are no others
+  -- the formula has no other conjuncts
   pub record ByCreate (z : Conjunct) : Type 0 where
     pub thread : ℕ
     pub link : Link
@@ -124,7 +124,7 @@ module _ (paths : Paths) where
       let p = o.element in
       elim (Contains-append_cases (all_created t p) (all_joined t p) z o.there) [
         | inl first ↦
-            let l = of_flat_map (created (all_events paths) paths.threads t p) z p.creates first in
+            let l = of_flat_map (create_conjuncts (all_events paths) paths.threads t p) z p.creates first in
             let c = of_child t l.0.child p (λ d q. map (created_before (all_events paths) t l.0 d) q.events) z o.at l.2 in
             let x = of_map (created_before (all_events paths) t l.0 c.place) z c.thread.events c.there in
             inl (record {
@@ -138,7 +138,7 @@ module _ (paths : Paths) where
               made = x.2;
             })
         | inr second ↦
-            let l = of_flat_map (joined (all_events paths) paths.threads t p) z p.joins second in
+            let l = of_flat_map (join_conjuncts (all_events paths) paths.threads t p) z p.joins second in
             let c = of_child t l.0.child p (λ d r. exited_before (all_events paths) t l.0 d r ∷ []) z o.at l.2 in
             inr (record {
               thread = t;
@@ -159,7 +159,7 @@ module _ (paths : Paths) where
   ]
 
   module _ (nodes : List Node) (w : World) (c : ℕ) where
-    -- where a conjunct of a join is true, an event of the child is its end, and comes before
+    -- if a conjunct of a join is true, the child has an exit, which comes before
     exit_there : (t : ℕ) (l : Link) (q : Walk) → slice_get paths.threads c ≡ Some q → body_at nodes w (exited_before (all_events paths) t l c q).body ≡ true
         → HasExited paths w c t l.step
     exit_there t l q at holds =

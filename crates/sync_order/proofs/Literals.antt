@@ -1,4 +1,4 @@
--- What holds of all literals here: they name steps that are events, sleeps with what may end them, and no terms.
+-- All literals here name steps that are events, or sleeps with possible enders, and no terms.
 use Rattle.std.proofs.Common.{◌≡◌, ℕ, Bool, true, false, List, [], ◌∷◌, ◌++◌, map, filter, Some, inl, inr, subst}
 use Rattle.std.proofs.Common.{if◌then◌else◌, not, ◌&&◌, ◌==◌}
 use Rattle.std.specs.Prelude.{option_to_list, slice_get}
@@ -21,15 +21,15 @@ use Rattle.lawful_order.specs.Events.{Of, all_events, all_sleeps, HasEvent, HasR
 use Rattle.condition_order.specs.Conditions.{enders}
 use Rattle.condition_order.specs.declared.wait.Ender.{Ender}
 use Rattle.sync_order.specs.Children.{is_exit, exit_before, children_formula}
-use Rattle.sync_order.specs.Mutexes.{left_at, left_before, mutexes_formula}
+use Rattle.sync_order.specs.Mutexes.{release_literal, left_before, mutexes_formula}
 use Rattle.order_events.specs.Parts.{comes_before, one_of}
-use Rattle.sync_order.specs.Stuck.{cases_if, is_held, unended_by, unended, sleeping, sleeps_on, has_exited, cannot_go_on, stuck_at, stuck_formula}
+use Rattle.sync_order.specs.Stuck.{cases_if, is_held, not_ended_literal, unended, sleeping, sleeps_on, has_exited, cannot_go_on, stuck_at, stuck_formula}
 use Rattle.sync_order.proofs.Links.{made_by}
 use Rattle.order_events.proofs.Lists.{of_map, of_filter}
 use Rattle.sync_order.proofs.Regions.{is_pair}
 use Rattle.order_events.proofs.Parts.{of_one, of_option, of_if, in_of_each, each_in}
 
--- all literals of a part of a formula are such
+-- a property of all literals of a part of a formula
 module _ (L : Literal → Type 0) where
   abbrev pub BodyHas : Body → Type 0
   BodyHas (Any cases) = All (All L) cases
@@ -43,7 +43,7 @@ module _ (L : Literal → Type 0) where
       let m = of_map (λ (l : Literal). l ∷ []) c ls i in
       subst (All L) m.2 (each_in L (m.0 ∷ []) (λ k j. subst L (of_one k m.0 j) (each m.0 m.1))))
 
--- steps of threads that are events, all literals that name two of them, and those of sleeps and events
+-- a property of the literals that name two event steps, or a sleep and an event
 pub record AreLiterals (paths : Paths) (Step : (t k : ℕ) → Type 0) (L : Literal → Type 0) : Type 0 where
   pub event : (t : ℕ) (x : Event) → HasEvent paths t x → Step t x.step
   pub create : (t : ℕ) (l : Link) → Creates paths t l → Step t l.step
@@ -52,7 +52,7 @@ pub record AreLiterals (paths : Paths) (Step : (t k : ℕ) → Type 0) (L : Lite
   pub left : (t k : ℕ) (r : Region) → HasRegion paths t r → r.to ≡ Some k → Step t k
   pub before : (t k u j : ℕ) → Step t k → Step u j → L (comes_before (all_events paths) t k u j)
   pub unended : (s : ℕ) (x : Of Sleep) (g : Ender) → slice_get (all_sleeps paths) s ≡ Some x → Contains (enders (all_events paths) x.it.condition) g
-      → L (unended_by s g)
+      → L (not_ended_literal s g)
 
 module _ (paths : Paths) (Step : (t k : ℕ) → Type 0) (L : Literal → Type 0) (are : AreLiterals paths Step L) where
   pub in_children : (z : Conjunct) → Contains (children_formula paths) z → Has L z
@@ -72,7 +72,7 @@ module _ (paths : Paths) (Step : (t k : ℕ) → Type 0) (L : Literal → Type 0
   in_left : (r s : Of Region) → HasRegion paths r.thread r.it → HasRegion paths s.thread s.it → (l : Literal)
       → Contains (left_before (all_events paths) r s) l → L l
   in_left r s has_r has_s l i =
-      let k = of_map (left_at (all_events paths) r s) l (option_to_list r.it.to) i in
+      let k = of_map (release_literal (all_events paths) r s) l (option_to_list r.it.to) i in
       subst L k.2 (are.before r.thread k.0 s.thread s.it.«from» (are.left r.thread k.0 r.it has_r (of_option r.it.to k.0 k.1))
       (are.taken s.thread s.it has_s))
 
@@ -93,7 +93,7 @@ module _ (paths : Paths) (Step : (t k : ℕ) → Type 0) (L : Literal → Type 0
       let s = in_of_each (sleeping (all_events paths) t k) (all_sleeps paths) l i in
       let c = s.element.it.condition in
       let own = of_if (s.element.thread == t && s.element.it.step == k) l (unended (all_events paths) s.place c) s.there in
-      let g = of_map (unended_by s.place) l (enders (all_events paths) c) own.1 in
+      let g = of_map (not_ended_literal s.place) l (enders (all_events paths) c) own.1 in
       subst L g.2 (are.unended s.place s.element g.0 s.at g.1)
 
   one_case : (ls : List Literal) → All L ls → All (All L) (ls ∷ [])

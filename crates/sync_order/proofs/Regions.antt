@@ -1,4 +1,4 @@
--- The conjuncts of mutexes are the rule of mutexes.
+-- The conjuncts of mutexes are true exactly if the rule of mutexes is met.
 use Rattle.std.proofs.Common.{◌≡◌, ◌≢◌, ◌∙◌, ℕ, ◌<◌, ◌⊎◌, true, not, ◌&&◌, ◌==◌, List, [], ◌∷◌, ◌++◌, Some, inl, inr}
 use Rattle.std.proofs.Common.{sym, ap, subst, eqb-true, eq-eqb, ne_eqb, arith}
 use Rattle.std.specs.Prelude.{slice_get, option_to_list}
@@ -17,14 +17,14 @@ use Rattle.order_formula.specs.Truth.{body_at, literal_at}
 use Rattle.order_formula.specs.Worlds.{World}
 use Rattle.lawful_order.specs.Events.{Of, HasRegion, all_events}
 use Rattle.lawful_order.specs.Mutexes.{IsLeftBefore, MutexRule}
-use Rattle.sync_order.specs.Mutexes.{exclude, all_regions, left_at, left_before, excludes, exclusive, mutexes_formula}
+use Rattle.sync_order.specs.Mutexes.{exclude, all_regions, release_literal, left_before, excludes, exclusive, mutexes_formula}
 use Rattle.sync_order.proofs.Groups.{same_mutex}
 use Rattle.order_events.proofs.Lists.{in_front, in_at, in_map, of_map}
 use Rattle.order_events.proofs.Numbers.{in_all_from, of_all_from}
 use Rattle.sync_order.proofs.Pairs.{in_pairs, in_of_pairs}
 use Rattle.order_events.proofs.Parts.{of_one, in_option, of_option, in_if, of_if, one_holds, some_holds, step_before, before_holds}
 
--- two regions are told apart by their threads or where they begin
+-- two regions have different threads or different beginnings
 abbrev Differ : Of Region → Of Region → Type 0
 Differ r s = (r.thread ≢ s.thread) ⊎ (r.it.«from» ≢ s.it.«from»)
 
@@ -47,7 +47,7 @@ true_differ r s is =
     )
 
 module _ (paths : Paths) where
-  -- the regions of the list are those that threads have
+  -- the list has exactly the regions of threads
   region_in : (r : Of Region) → HasRegion paths r.thread r.it → Contains (all_regions paths) r
   region_in r has = in_all_from (λ q. q.regions) 0 r.thread r.thread paths.threads has.0 r.it has.1 has.2 (omega arith)
 
@@ -57,14 +57,14 @@ module _ (paths : Paths) where
       let place : o.place ≡ r.thread = omega (arith, o.thread) in
       (o.owner, subst (λ k. slice_get paths.threads k ≡ Some o.owner) place o.at, o.among)
 
-  -- the conjuncts are in the formula, once for two regions
+  -- the formula has one conjunct for two regions
   pair_in : (i j : ℕ) (r s : Of Region) → slice_get (all_regions paths) i ≡ Some r → slice_get (all_regions paths) j ≡ Some s → i < j
       → exclude r s ≡ true → Contains (mutexes_formula paths) (excludes (all_events paths) r s)
   pair_in i j r s first second less is =
       in_pairs (exclusive (all_events paths)) i j r s (excludes (all_events paths) r s) (all_regions paths) first second less
       (in_if (exclude r s) (excludes (all_events paths) r s) (excludes (all_events paths) r s ∷ []) is (in_front (excludes (all_events paths) r s) []))
 
-  -- and there are no others
+  -- the formula has no other conjuncts
   pub record IsPair (z : Conjunct) : Type 0 where
     pub first : Of Region
     pub second : Of Region
@@ -96,15 +96,15 @@ module _ (paths : Paths) where
     left_holds : (r s : Of Region) → IsLeftBefore paths w r.thread r.it s.thread s.it
         → (l : Literal) × Contains (left_before (all_events paths) r s) l × (literal_at nodes w l ≡ true)
     left_holds r s left = (
-      left_at (all_events paths) r s left.0,
-      in_map (left_at (all_events paths) r s) left.0 (option_to_list r.it.to) (in_option r.it.to left.0 left.1),
+      release_literal (all_events paths) r s left.0,
+      in_map (release_literal (all_events paths) r s) left.0 (option_to_list r.it.to) (in_option r.it.to left.0 left.1),
       before_holds nodes w paths r.thread left.0 s.thread s.it.«from» left.2,
     )
 
     holds_left : (r s : Of Region) (l : Literal) → Contains (left_before (all_events paths) r s) l → literal_at nodes w l ≡ true
         → IsLeftBefore paths w r.thread r.it s.thread s.it
     holds_left r s l there holds =
-        let k = of_map (left_at (all_events paths) r s) l (option_to_list r.it.to) there in
+        let k = of_map (release_literal (all_events paths) r s) l (option_to_list r.it.to) there in
         (k.0, of_option r.it.to k.0 k.1, step_before nodes w paths r.thread k.0 s.thread s.it.«from» (ap (literal_at nodes w) k.2 ∙ holds))
 
     abbrev OneIsLeft : Of Region → Of Region → Type 0
@@ -135,7 +135,7 @@ module _ (paths : Paths) where
         ]
 
     module _ (m : ℕ) where
-      -- of two regions the one that stands first in the list is the first of the pair
+      -- the pair of two regions has the one first that comes first in the list
       rule_at : HoldsIn nodes w (mutexes_formula paths) (Mutex m) → (r s : Of Region) → HasRegion paths r.thread r.it → HasRegion paths s.thread s.it
           → r.it.mutex ≡ m → s.it.mutex ≡ m → Differ r s → OneIsLeft r s
       rule_at all r s has_r has_s of_r of_s differ =

@@ -1,4 +1,4 @@
--- The formula of synchronisation: its parts together.
+-- The formula of synchronization: its parts together.
 use Rattle.std.proofs.Common.{◌≡◌, ◌∙◌, ℕ, ◌<◌, Bool, true, List, ◌++◌, length, refl, sym, ap, subst}
 use Rattle.std.specs.List.{All, Contains}
 use Rattle.std.proofs.lemmas.Bool.{false≢true}
@@ -46,7 +46,7 @@ abbrev three : Paths → List Conjunct
 three paths = two paths ++ condition_formula paths
 
 module _ (paths : Paths) where
-  -- the other parts have no conjunct of a group
+  -- the other parts have no conjunct of this group
   no_children : (g : Group) → ((c : ℕ) → Child c ≡ g → ⊥) → HasNone (children_formula paths) g
   no_children g apart z i of = let c = children_group paths z i in apart c.0 (sym c.1 ∙ of)
 
@@ -94,7 +94,7 @@ module _ (paths : Paths) where
     exactly (Read t line) other = absurd (false≢true other)
     exactly (Test t line) other = absurd (false≢true other)
 
-  -- what holds of each conjunct of the parts
+  -- what holds for the conjuncts of each part holds for all
   pub each_part : (P : Conjunct → Type 0) → ((z : Conjunct) → Contains (children_formula paths) z → P z)
       → ((z : Conjunct) → Contains (mutexes_formula paths) z → P z) → All P (condition_formula paths)
       → ((z : Conjunct) → Contains (stuck_formula paths) z → P z) → All P (sync_formula paths)
@@ -135,7 +135,7 @@ module _ (paths : Paths) where
       (λ z i. of_terms terms z.body (in_mutexes paths _ _ are z i)) (no_terms paths terms)
       (λ z i. of_terms terms z.body (in_stuck paths _ _ are z i))
 
-  -- all events and sleeps are the order's
+  -- all events and sleeps belong to the order
   module _ (whole : AreWhole paths) (o : Order) (events : o.events ≡ length (all_events paths)) (sleeps : o.sleeps ≡ length (all_sleeps paths)) where
     step_in_order : (t k : ℕ) → HasStep paths t k → number_of paths t k < o.events
     step_in_order t k step = subst (λ n. number_of paths t k < n) (sym events) (has_number paths t k step)

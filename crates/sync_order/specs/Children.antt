@@ -41,14 +41,14 @@ module _ (events : List (Of Event)) where
 
   module _ (threads : List Walk) where
     -- the conjuncts of a create, of a join, and of all creates and joins of a thread
-    abbrev pub created : (t : ℕ) → Walk → Link → List Conjunct
-    created t parent l = of_children threads parent l.child (λ c q. map (created_before t l c) q.events)
+    abbrev pub create_conjuncts : (t : ℕ) → Walk → Link → List Conjunct
+    create_conjuncts t parent l = of_children threads parent l.child (λ c q. map (created_before t l c) q.events)
 
-    abbrev pub joined : (t : ℕ) → Walk → Link → List Conjunct
-    joined t parent l = of_children threads parent l.child (λ c q. exited_before t l c q ∷ [])
+    abbrev pub join_conjuncts : (t : ℕ) → Walk → Link → List Conjunct
+    join_conjuncts t parent l = of_children threads parent l.child (λ c q. exited_before t l c q ∷ [])
 
     abbrev pub links_formula : (t : ℕ) → Walk → List Conjunct
-    links_formula t q = flat_map (created t q) q.creates ++ flat_map (joined t q) q.joins
+    links_formula t q = flat_map (create_conjuncts t q) q.creates ++ flat_map (join_conjuncts t q) q.joins
 
 abbrev pub children_formula : Paths → List Conjunct
 children_formula paths = of_each (links_formula (all_events paths) paths.threads) paths.threads

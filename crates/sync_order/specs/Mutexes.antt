@@ -21,12 +21,12 @@ exclude r s = r.it.mutex == s.it.mutex && not (r.thread == s.thread && r.it.«fr
 
 module _ (events : List (Of Event)) where
   -- the step k of the first region's thread comes before the second region begins
-  abbrev pub left_at : Of Region → Of Region → ℕ → Literal
-  left_at r s k = comes_before events r.thread k s.thread s.it.«from»
+  abbrev pub release_literal : Of Region → Of Region → ℕ → Literal
+  release_literal r s k = comes_before events r.thread k s.thread s.it.«from»
 
   -- the first region ends before the second begins; no literal if the first has no end
   abbrev pub left_before : Of Region → Of Region → List Literal
-  left_before r s = map (left_at r s) (option_to_list r.it.to)
+  left_before r s = map (release_literal r s) (option_to_list r.it.to)
 
   -- one of two regions ends before the other begins
   abbrev pub excludes : Of Region → Of Region → Conjunct

@@ -27,13 +27,13 @@ abbrev pub cases_if : Bool → List (List Literal)
 cases_if b = if b then [] ∷ [] else []
 
 -- the literal that an ender doesn't end the sleep s
-abbrev pub unended_by : (s : ℕ) → Ender → Literal
-unended_by s g = fails (Ends s g.event)
+abbrev pub not_ended_literal : (s : ℕ) → Ender → Literal
+not_ended_literal s g = fails (Ends s g.event)
 
 module _ (events : List (Of Event)) where
   -- no ender of the condition c ends the sleep s
   abbrev pub unended : (s c : ℕ) → List Literal
-  unended s c = map (unended_by s) (enders events c)
+  unended s c = map (not_ended_literal s) (enders events c)
 
   -- no ender ends the sleep s, if the step `step` of the thread t begins it
   abbrev pub sleeping : (t step : ℕ) → (s : ℕ) → Of Sleep → List Literal

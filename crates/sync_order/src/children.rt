@@ -1,7 +1,7 @@
 //! The create of a thread comes before its events, and its exit before the join.
 ghost use Rattle.std.specs.Prelude.{◌≡◌, ◌++◌, flat_map, map, IfOk, OnOk};
 ghost use Rattle.order_events.specs.Parts.{of_each};
-ghost use Rattle.sync_order.specs.Children.{created, created_before, exited_before, is_child, is_exit, joined, links_formula};
+ghost use Rattle.sync_order.specs.Children.{create_conjuncts, created_before, exited_before, is_child, is_exit, join_conjuncts, links_formula};
 
 use order_events::{Events, one_of};
 use order_formula::{Conjunct, Group};
@@ -34,7 +34,7 @@ fn push_creates(
     conjuncts: &mut Vec<Conjunct>,
 ) -> Result<(), AllocError>
     ensures { OnOk result (conjuncts.new.items
-        ≡ conjuncts.old.items ++ flat_map (created events.now threads.now place walk.now) walk.now.creates) }
+        ≡ conjuncts.old.items ++ flat_map (create_conjuncts events.now threads.now place walk.now) walk.now.creates) }
 {
     for link in walk.creates() {
         push_created(alloc, events, threads, place, walk, *link, conjuncts)?;
@@ -51,7 +51,7 @@ fn push_joins(
     conjuncts: &mut Vec<Conjunct>,
 ) -> Result<(), AllocError>
     ensures { OnOk result (conjuncts.new.items
-        ≡ conjuncts.old.items ++ flat_map (joined events.now threads.now place walk.now) walk.now.joins) }
+        ≡ conjuncts.old.items ++ flat_map (join_conjuncts events.now threads.now place walk.now) walk.now.joins) }
 {
     for link in walk.joins() {
         push_joined(alloc, events, threads, place, walk, *link, conjuncts)?;
@@ -69,7 +69,7 @@ fn push_created(
     link: Link,
     conjuncts: &mut Vec<Conjunct>,
 ) -> Result<(), AllocError>
-    ensures { OnOk result (conjuncts.new.items ≡ conjuncts.old.items ++ created events.now threads.now place walk.now link) }
+    ensures { OnOk result (conjuncts.new.items ≡ conjuncts.old.items ++ create_conjuncts events.now threads.now place walk.now link) }
 {
     for (child, thread) in threads.iter().enumerate() {
         if is_child(walk, link.child, thread) {
@@ -117,7 +117,7 @@ fn push_joined(
     link: Link,
     conjuncts: &mut Vec<Conjunct>,
 ) -> Result<(), AllocError>
-    ensures { OnOk result (conjuncts.new.items ≡ conjuncts.old.items ++ joined events.now threads.now place walk.now link) }
+    ensures { OnOk result (conjuncts.new.items ≡ conjuncts.old.items ++ join_conjuncts events.now threads.now place walk.now link) }
 {
     for (child, thread) in threads.iter().enumerate() {
         if is_child(walk, link.child, thread) {

@@ -3,7 +3,7 @@ ghost use Rattle.std.specs.Prelude.{◌≡◌, ◌++◌, [], ◌∷◌, ◌<◌,
 ghost use Rattle.std.specs.List.{list_any};
 ghost use Rattle.lawful_order.specs.Events.{all_events, all_sleeps};
 ghost use Rattle.sync_order.specs.Children.{is_exit};
-ghost use Rattle.sync_order.specs.Stuck.{cannot_go_on, cases_if, has_exited, is_held, is_open, sleeps_on, stuck_formula, unended_by};
+ghost use Rattle.sync_order.specs.Stuck.{cannot_go_on, cases_if, has_exited, is_held, is_open, sleeps_on, stuck_formula, not_ended_literal};
 
 use crate::children::{is_child, is_exit};
 use condition_order::{Ender, enders};
@@ -154,7 +154,7 @@ fn sleeps_on(
 
 /// Appends the literals that no ender ends a sleep.
 fn push_unended(sleep: u32, enders: &[Ender], literals: &mut Vec<Literal>) -> Result<(), AllocError>
-    ensures { OnOk result (literals.new.items ≡ literals.old.items ++ map (unended_by sleep) enders.now) }
+    ensures { OnOk result (literals.new.items ≡ literals.old.items ++ map (not_ended_literal sleep) enders.now) }
 {
     for ender in enders {
         literals.push(Literal {

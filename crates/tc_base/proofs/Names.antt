@@ -33,17 +33,17 @@ equal_of Less h = absurd cc
 equal_of Equal h = refl
 equal_of Greater h = absurd cc
 
--- a name is less than itself never
+-- a name isn't less than itself
 pub not_itself : (n : Name) → by_name n n ≡ Less → ⊥
 not_itself n e = let both : Less ≡ Equal = sym e ∙ itself n in cc
 
--- a name is less than another, or not; then the other isn't above any name above it
+-- a name that isn't less is equal or greater
 pub not_less : (o : Ordering) → is_lt o ≡ false → (o ≡ Equal) ⊎ (o ≡ Greater)
 not_less Less h = absurd cc
 not_less Equal h = inl refl
 not_less Greater h = inr refl
 
--- what is less than a name is less than another that isn't less than that
+-- a name below another is below each name that isn't below that one
 pub up_to : (m n q : Name) → by_name m n ≡ Less → is_lt (by_name q n) ≡ false → by_name m q ≡ Less
 up_to m n q less not =
     elim (not_less (by_name q n) not) [
@@ -51,7 +51,7 @@ up_to m n q less not =
       | inr e ↦ between m n q less (turned q n e)
     ]
 
--- a name is less than each child's
+-- a name is less than its children's
 pub child_is_above : (n : Name) (k : ℕ) → by_name n (child n k) ≡ Less
 child_is_above [] k = refl
 child_is_above (x ∷ n) k = ap (λ o. ordering_then o (by_name n (child n k))) (tied_itself nat_cmp_total x) ∙ child_is_above n k
@@ -87,7 +87,7 @@ apart_less m n e = sym (is_eq-slice_cmp m n) ∙ ap is_eq e
 pub apart_above : (m n : Name) → by_name n m ≡ Less → bytes_eq m n ≡ false
 apart_above m n e = sym (is_eq-slice_cmp m n) ∙ ap is_eq (nat_list_cmp_total.antisymm m n ∙ ap ordering_reverse e)
 
--- a name is main's, or that of a child
+-- a name is main's or a child's
 pub record HasParent (n : Name) : Type 0 where
   pub parent : Name
   pub number : ℕ

@@ -1,4 +1,4 @@
--- What later crates cite of code and of its runs.
+-- Facts on code and its runs for later crates.
 use Rattle.std.specs.Prelude.{◌≡◌, ℕ, Bool, true, false, List, [], ◌∷◌, ◌++◌, Option, Some, None, refl, option_and_then, option_map, slice_get, IsSomeAnd}
 use Rattle.std.specs.Prelude.{if◌then◌else◌}
 use Rattle.std.proofs.Common.{ap, subst, ◌∙◌}
@@ -24,13 +24,13 @@ pub record IsPlaced (code : Code) (f k : ℕ) (i : Instr) : Type 0 where
   pub at : slice_get function.instrs k ≡ Some i
   pub lawful : IsLawfulFunction code function
 
--- each instruction of lawful code is
+-- each instruction of lawful code is at its place
 pub placed : (code : Code) (f k : ℕ) (i : Instr) → IsLawful code → instr_at code f k ≡ Some i → IsPlaced code f k i
 placed code f k i lawful at =
     option_and_then_some (λ g. slice_get g.instrs k) (slice_get code.functions f) i at
     (λ g there here. record { function = g; there = there; at = here; lawful = lawful.functions f g there })
 
--- what a thread does next is at its place
+-- a thread's next instruction is at its place
 unless : {A : Type 0} (b : Bool) (o : Option A) (x : A) → (if b then None else o) ≡ Some x → o ≡ Some x
 unless true o x h = absurd (none-some x h)
 unless false o x h = h
@@ -49,13 +49,13 @@ module _ {B : Type 0} (ops : BufferOps B) (code : Code) where
   and_then-and_then None xs ys h = refl
   and_then-and_then (Some u) xs ys h = h u
 
-  -- the moves of a list, and then those of another
+  -- a run of joined moves is a run of the first and then of the others
   pub run_from-append : (s : State B) (xs ys : List Move)
       → run_from ops code s (xs ++ ys) ≡ option_and_then (λ u. run_from ops code u ys) (run_from ops code s xs)
   run_from-append s [] ys = refl
   run_from-append s (x ∷ xs) ys = and_then-and_then (step ops code s x) xs ys (λ u. run_from-append u xs ys)
 
-  -- a run, and one step more
+  -- a run, and one more step
   pub run_from-step : (s u v : State B) (ms : List Move) (m : Move) → run_from ops code s ms ≡ Some u → step ops code u m ≡ Some v
       → run_from ops code s (ms ++ m ∷ []) ≡ Some v
   run_from-step s u v ms m h one =
@@ -71,7 +71,7 @@ module _ {B : Type 0} (ops : BufferOps B) (code : Code) where
       option_and_then_some (λ v. run_from ops code v ms) (step ops code s m) u h
       (λ v one rest. kept_by_run P keeps v u ms rest (keeps s v m one p))
 
-  -- a run reaches the state that it begins in, and with a state each one that a step from there leads to
+  -- a run reaches its first state, and each step from a reached state leads to one
   pub opening_is_reached : IsReached ops code (opening ops code)
   opening_is_reached = record { moves = []; leads = refl }
 
@@ -79,7 +79,7 @@ module _ {B : Type 0} (ops : BufferOps B) (code : Code) where
   step_is_reached s u m one r =
       record { moves = r.moves ++ m ∷ []; leads = run_from-step (opening ops code) s u r.moves m r.leads one }
 
-  -- who failed at the end of a run that ends as a log says is the log's failing thread, if it has one
+  -- if a run ends as a log says, the failed thread is the log's failing thread, if it has one
   failed_there : (s : State B) (o : Option ThreadPath) → IsSomeAnd o (λ t. s.failed ≡ Some t.name) → s.failed ≡ option_map (λ t. t.name) o
   failed_there s None h = absurd h
   failed_there s (Some t) h = h

@@ -7,7 +7,7 @@ use Rattle.tc_code.specs.Listing.{spaced, row_text, instrs_text}
 use Rattle.tc_code.specs.declared.code.Func.{Func}
 use Rattle.tc_code.specs.declared.instr.Instr.{Instr}
 
--- parts after a first one: each after a blank
+-- the parts after the first, each after a blank
 pub spaced_after : {X : Type 0} (f : X → List ℕ) (w : List ℕ) (xs : List X) → spaced (w ∷ map f xs) ≡ w ++ flat_map (λ x. codes " " ++ f x) xs
 spaced_after f w [] = sym (append-nil w)
 spaced_after f w (x ∷ xs) = ap (λ t. w ++ (codes " " ++ t)) (spaced_after f (f x) xs)
@@ -36,11 +36,11 @@ rows_more n (line ∷ lines) (i ∷ is) (suc k) d lined within =
     (rows_more (n + 1) lines is k d (omega (arith, lined)) (omega (arith, within)) ∙ ap (λ m. rows (n + 1) lines (take k is) ++ row m) same)
     ∙ sym (append_assoc (row_text n line i) (rows (n + 1) lines (take k is)) (row (n + suc k)))
 
--- what was written before any row
+-- the text before any row
 pub row_none : (start : List ℕ) (lines : List ℕ) (is : List Instr) → start ≡ start ++ rows 0 lines (take 0 is)
 row_none start lines is = sym (append-nil start) ∙ ap (λ t. start ++ t) (sym (no_rows 0 lines))
 
--- what was written, and one row more
+-- the text with one more row
 pub row_added : (start out : List ℕ) (lines : List ℕ) (is : List Instr) (k : ℕ) (d : Instr) → k < length lines → k < length is
     → out ≡ start ++ rows 0 lines (take k is)
     → out ++ row_text k (slice_index_or lines k 0) (slice_index_or is k d) ≡ start ++ rows 0 lines (take (k + 1) is)

@@ -89,54 +89,54 @@ request t Stbar = Bar
 request t Exit = Finish
 
 -- the thread after a step, at the same place
-abbrev pub stepped : Local → Local
-stepped t = record t { steps = t.steps + 1 }
+abbrev pub step_in_place : Local → Local
+step_in_place t = record t { steps = t.steps + 1 }
 
 -- the thread after a step, at the next place
-abbrev pub next : Local → Local
-next t = record (stepped t) { instruction = t.instruction + 1 }
+abbrev pub step_to_next : Local → Local
+step_to_next t = record (step_in_place t) { instruction = t.instruction + 1 }
 
 -- the thread after a step, at another place
-abbrev pub jumped : Local → ℕ → Local
-jumped t to = record (stepped t) { instruction = to }
+abbrev pub step_to_place : Local → ℕ → Local
+step_to_place t to = record (step_in_place t) { instruction = to }
 
 -- the thread after a branch: it records the outcome, and jumps to the target if that is false
-abbrev pub branched : Local → Bool → ℕ → Local
-branched t true to = record (next t) { outcomes = t.outcomes ++ true ∷ [] }
-branched t false to = record (jumped t to) { outcomes = t.outcomes ++ false ∷ [] }
+abbrev pub step_by_branch : Local → Bool → ℕ → Local
+step_by_branch t true to = record (step_to_next t) { outcomes = t.outcomes ++ true ∷ [] }
+step_by_branch t false to = record (step_to_place t to) { outcomes = t.outcomes ++ false ∷ [] }
 
 -- the thread after a step that acquires or releases a mutex
-abbrev pub holding : Local → ℕ → Bool → Local
-holding t m b = record (next t) { held = slice_set t.held m b }
+abbrev pub step_with_mutex : Local → ℕ → Bool → Local
+step_with_mutex t m b = record (step_to_next t) { held = slice_set t.held m b }
 
 -- the thread after an instruction that didn't fail; v is the value loaded from memory, if any
 abbrev pub local_after : Local → Instr → ℤ → Local
-local_after t (Set k e) v = record (next t) { slots = slice_set t.slots k (value_in t e) }
-local_after t (Load k c) v = record (next t) { slots = slice_set t.slots k v }
-local_after t (LoadAt k a len i) v = record (next t) { slots = slice_set t.slots k v }
-local_after t (Store c e) v = next t
-local_after t (StoreAt a len i e) v = next t
-local_after t (Inside len i) v = next t
-local_after t (Branch e to) v = branched t (is_nonzero (value_in t e)) to
-local_after t (Goto to) v = jumped t to
-local_after t (Holds m) v = next t
-local_after t (Lock m) v = holding t m true
-local_after t (Unlock m) v = holding t m false
-local_after t (Sleep c m) v = holding t m false
-local_after t (Wake c m) v = holding t m true
-local_after t (Signal c) v = next t
-local_after t (Broadcast c) v = next t
-local_after t (Create h g es) v = record (next t) { handles = slice_set t.handles h (Child (t.children + 1)); children = t.children + 1 }
-local_after t (Ready h) v = next t
-local_after t (Join h) v = record (next t) { handles = slice_set t.handles h (Joined (child_number (handle_of t h))) }
-local_after t (Assert e) v = next t
-local_after t (Nonzero e) v = next t
-local_after t (InRange e) v = next t
-local_after t (Swap k c e) v = record (next t) { slots = slice_set t.slots k v }
-local_after t (Cas k c e new) v = record (next t) { slots = slice_set t.slots k v }
-local_after t Fence v = next t
-local_after t Stbar v = next t
-local_after t Exit v = record (next t) { has_exited = true }
+local_after t (Set k e) v = record (step_to_next t) { slots = slice_set t.slots k (value_in t e) }
+local_after t (Load k c) v = record (step_to_next t) { slots = slice_set t.slots k v }
+local_after t (LoadAt k a len i) v = record (step_to_next t) { slots = slice_set t.slots k v }
+local_after t (Store c e) v = step_to_next t
+local_after t (StoreAt a len i e) v = step_to_next t
+local_after t (Inside len i) v = step_to_next t
+local_after t (Branch e to) v = step_by_branch t (is_nonzero (value_in t e)) to
+local_after t (Goto to) v = step_to_place t to
+local_after t (Holds m) v = step_to_next t
+local_after t (Lock m) v = step_with_mutex t m true
+local_after t (Unlock m) v = step_with_mutex t m false
+local_after t (Sleep c m) v = step_with_mutex t m false
+local_after t (Wake c m) v = step_with_mutex t m true
+local_after t (Signal c) v = step_to_next t
+local_after t (Broadcast c) v = step_to_next t
+local_after t (Create h g es) v = record (step_to_next t) { handles = slice_set t.handles h (Child (t.children + 1)); children = t.children + 1 }
+local_after t (Ready h) v = step_to_next t
+local_after t (Join h) v = record (step_to_next t) { handles = slice_set t.handles h (Joined (child_number (handle_of t h))) }
+local_after t (Assert e) v = step_to_next t
+local_after t (Nonzero e) v = step_to_next t
+local_after t (InRange e) v = step_to_next t
+local_after t (Swap k c e) v = record (step_to_next t) { slots = slice_set t.slots k v }
+local_after t (Cas k c e new) v = record (step_to_next t) { slots = slice_set t.slots k v }
+local_after t Fence v = step_to_next t
+local_after t Stbar v = step_to_next t
+local_after t Exit v = record (step_to_next t) { has_exited = true }
 
 -- the arguments that a create passes to the child
 abbrev pub arguments_of : Local → Instr → List ℤ
@@ -250,23 +250,23 @@ module _ {B : Type 0} (ops : BufferOps B) where
   loaded s t c = unwrap_or (ops.forward t.buffer c) (in_memory s c)
 
   -- the state after the thread's instruction, which loaded v from memory
-  abbrev pub done : State B → Name → Thread B → Instr → ℤ → State B
-  done s n t i v = with_thread s n (record t { local = local_after t.local i v })
+  abbrev pub state_after_read : State B → Name → Thread B → Instr → ℤ → State B
+  state_after_read s n t i v = with_thread s n (record t { local = local_after t.local i v })
 
   -- the state after the thread's instruction, which loaded nothing
-  abbrev pub did : State B → Name → Thread B → Instr → State B
-  did s n t i = done s n t i (pos 0)
+  abbrev pub state_after_step : State B → Name → Thread B → Instr → State B
+  state_after_step s n t i = state_after_read s n t i (pos 0)
 
   -- the state after a store: to the thread's buffer if the model has buffers, otherwise to memory
-  abbrev pub stored : State B → Name → Thread B → Instr → ℕ → ℤ → State B
-  stored s n t i c v =
+  abbrev pub state_after_store : State B → Name → Thread B → Instr → ℕ → ℤ → State B
+  state_after_store s n t i c v =
       if ops.buffered
       then with_thread s n (record { local = local_after t.local i (pos 0); buffer = ops.issue t.buffer c v })
-      else record (did s n t i) { memory = slice_set s.memory c v }
+      else record (state_after_step s n t i) { memory = slice_set s.memory c v }
 
   -- the state after an exchange: in one step, the thread loads the cell and stores v to it
-  abbrev pub exchanged : State B → Name → Thread B → Instr → ℕ → ℤ → State B
-  exchanged s n t i c v = record (done s n t i (in_memory s c)) { memory = slice_set s.memory c v }
+  abbrev pub state_after_exchange : State B → Name → Thread B → Instr → ℕ → ℤ → State B
+  state_after_exchange s n t i c v = record (state_after_read s n t i (in_memory s c)) { memory = slice_set s.memory c v }
 
   -- a new thread: its first slots are the arguments, and everything else is 0, unset or free
   abbrev pub born : Code → ℕ → List ℤ → Thread B
@@ -287,45 +287,45 @@ module _ {B : Type 0} (ops : BufferOps B) where
 
   -- the state after a request is carried out
   abbrev pub perform : Code → State B → Name → Thread B → Instr → Request → State B
-  perform code s n t i Silent = did s n t i
-  perform code s n t i (Read c) = done s n t i (loaded s t c)
-  perform code s n t i (Write c v) = stored s n t i c v
-  perform code s n t i (Exchange c v) = exchanged s n t i c v
-  perform code s n t i (CompareExchange c e v) = exchanged s n t i c (replaced (in_memory s c) e v)
+  perform code s n t i Silent = state_after_step s n t i
+  perform code s n t i (Read c) = state_after_read s n t i (loaded s t c)
+  perform code s n t i (Write c v) = state_after_store s n t i c v
+  perform code s n t i (Exchange c v) = state_after_exchange s n t i c v
+  perform code s n t i (CompareExchange c e v) = state_after_exchange s n t i c (replaced (in_memory s c) e v)
   perform code s n t i Bar = with_thread s n (record { local = local_after t.local i (pos 0); buffer = ops.bar t.buffer })
-  perform code s n t i (Acquire m) = record (did s n t i) { owners = slice_set s.owners m (Some n) }
-  perform code s n t i (Release m) = record (did s n t i) { owners = slice_set s.owners m None }
+  perform code s n t i (Acquire m) = record (state_after_step s n t i) { owners = slice_set s.owners m (Some n) }
+  perform code s n t i (Release m) = record (state_after_step s n t i) { owners = slice_set s.owners m None }
   perform code s n t i (BeginWait c m) =
-      record (did s n t i) { owners = slice_set s.owners m None; waiters = slice_set s.waiters c (set.insert (waiting_on s c) n) }
-  perform code s n t i (EndWait c m) = record (did s n t i) { owners = slice_set s.owners m (Some n) }
-  perform code s n t i (WakeOne c) = did s n t i
-  perform code s n t i (WakeAll c) = record (did s n t i) { waiters = slice_set s.waiters c set.empty }
-  perform code s n t i (Start f) = with_thread (did s n t i) (child n (t.local.children + 1)) (born code f (arguments_of t.local i))
-  perform code s n t i (Await k) = did s n t i
-  perform code s n t i OrderStores = did s n t i
-  perform code s n t i Finish = did s n t i
-  perform code s n t i Fail = record (with_thread s n (record t { local = stepped t.local })) { failed = Some n }
+      record (state_after_step s n t i) { owners = slice_set s.owners m None; waiters = slice_set s.waiters c (set.insert (waiting_on s c) n) }
+  perform code s n t i (EndWait c m) = record (state_after_step s n t i) { owners = slice_set s.owners m (Some n) }
+  perform code s n t i (WakeOne c) = state_after_step s n t i
+  perform code s n t i (WakeAll c) = record (state_after_step s n t i) { waiters = slice_set s.waiters c set.empty }
+  perform code s n t i (Start f) = with_thread (state_after_step s n t i) (child n (t.local.children + 1)) (born code f (arguments_of t.local i))
+  perform code s n t i (Await k) = state_after_step s n t i
+  perform code s n t i OrderStores = state_after_step s n t i
+  perform code s n t i Finish = state_after_step s n t i
+  perform code s n t i Fail = record (with_thread s n (record t { local = step_in_place t.local })) { failed = Some n }
 
   -- the state after a thread's instruction, if its request is allowed
   abbrev pub run_of : Code → State B → Name → Thread B → Instr → Option (State B)
   run_of code s n t i = if allows s n t (request t.local i) then Some (perform code s n t i (request t.local i)) else None
 
   -- the state after thread n signals condition c and wakes thread u
-  abbrev pub woken : State B → Name → Name → Thread B → ℕ → State B
-  woken s n u t c = record (did s n t (Signal c)) { waiters = slice_set s.waiters c (set.remove (waiting_on s c) u) }
+  abbrev pub state_after_wake : State B → Name → Name → Thread B → ℕ → State B
+  state_after_wake s n u t c = record (state_after_step s n t (Signal c)) { waiters = slice_set s.waiters c (set.remove (waiting_on s c) u) }
 
   abbrev pub wake_of : State B → Name → Name → Thread B → Instr → Option (State B)
-  wake_of s n u t (Signal c) = if ops.is_empty t.buffer && set.contains (waiting_on s c) u then Some (woken s n u t c) else None
+  wake_of s n u t (Signal c) = if ops.is_empty t.buffer && set.contains (waiting_on s c) u then Some (state_after_wake s n u t c) else None
   wake_of s n u t _ = None
 
   -- the state after a buffered store of the thread reaches memory
-  abbrev pub drained : State B → Name → Thread B → Option ℕ → State B
-  drained s n t form =
+  abbrev pub state_after_drain : State B → Name → Thread B → Option ℕ → State B
+  state_after_drain s n t form =
       let out = ops.drain t.buffer form in
       record (with_thread s n (record t { buffer = out.rest })) { memory = slice_set s.memory out.entry.cell out.entry.value }
 
   abbrev pub drain_of : State B → Name → Thread B → Option ℕ → Option (State B)
-  drain_of s n t form = if ops.may_drain t.buffer form then Some (drained s n t form) else None
+  drain_of s n t form = if ops.may_drain t.buffer form then Some (state_after_drain s n t form) else None
 
   -- the state after a move, if it is enabled, where no thread has failed yet
   abbrev pub move_of : Code → State B → Move → Option (State B)

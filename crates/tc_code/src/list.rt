@@ -5,10 +5,10 @@ ghost use Rattle.tc_code.specs.Listing.{listing_of, head_text, instrs_text, row_
 use crate::{Code, Func, Instr};
 use std::alloc::{AllocError, Global};
 
-/// The listing of code: for each function, a line with its name and how many parameters, int slots
-/// and handles it has, and then a line for each instruction, with its number in the function, its
-/// line in the text and what it does. Cells, slots, mutexes, conditions, functions and places are
-/// given by number.
+/// The listing of code. For each function, it has a line with the name and the numbers of
+/// parameters, int slots and handles. A line for each instruction follows, with its number in the
+/// function, its line in the text and what it does. Cells, slots, mutexes, conditions, functions
+/// and places are given by number.
 pub fn listing(alloc: Global, code: &Code) -> Result<Vec<u8>, AllocError>
     ensures { IfOk result (λ bytes. bytes.items ≡ listing_of code.now) }
 {

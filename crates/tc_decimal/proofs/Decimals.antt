@@ -1,4 +1,4 @@
--- Numbers, and how they are written.
+-- Numbers and their decimal notation.
 use Rattle.std.proofs.Common.{
   ◌≡◌,
   ◌<◌,
@@ -53,7 +53,7 @@ tells_digits = search rules
 own_digits : IsNumeralModel (λ ds. list_all is_digit ds ≡ true) (digits_value 10)
 own_digits = numerals_by_value _ tells_digits
 
--- How a number is written.
+-- The notation of a number.
 
 pub decimal_digits : (n : ℕ) → n < 2 ^ 32 → list_all is_digit (decimal n) ≡ true
 decimal_digits n h = digits_decimal own_digits n (omega arith)
@@ -80,7 +80,7 @@ decimal_leads (suc n) h = no_zero_leads (decimal (suc n)) (first_decimal (suc n)
 
 -- A word and its number.
 
--- what a number is written as is read as the number
+-- the decimal notation of a number is read as the number
 pub number_again : (last n : ℕ) → n ≤ last → last < 2 ^ 32 → number_of last (decimal n) ≡ Some n
 number_again last n h small =
     let v = digits_value-decimal own_digits n (omega arith) in
@@ -92,7 +92,7 @@ number_again last n h small =
       le-leb n last h,
     ) refl
 
--- what a word must be to be read
+-- the words that are read as a number
 pub record IsNumber (last : ℕ) (word : List ℕ) (n : ℕ) : Type 0 where
   pub digits : list_all is_digit word ≡ true
   pub within : n ≤ last
@@ -103,7 +103,7 @@ alone [] n h e = absurd (omega arith)
 alone (b ∷ []) n h e = refl
 alone (b ∷ c ∷ bs) n h e = absurd (eqb-false b 48 h e)
 
--- a word that is read is how its number is written
+-- a word that is read is the decimal notation of its number
 pub number_is : (last : ℕ) (word : List ℕ) (n : ℕ) → last < 2 ^ 32 → number_of last word ≡ Some n → IsNumber last word n
 number_is last word n small e =
     let g = cond_some _ (digits_value 10 word) n e in
@@ -121,7 +121,7 @@ number_is last word n small e =
 
 -- The front of a text and its number.
 
--- no digit stands at the front
+-- the text doesn't begin with a digit
 abbrev pub ends_number : List ℕ → Bool
 ends_number [] = true
 ends_number (b ∷ _) = not (is_digit b)
@@ -130,7 +130,7 @@ no_digits : (rest : List ℕ) → ends_number rest ≡ true → prefix_len is_di
 no_digits [] h = refl
 no_digits (b ∷ bs) h = grind (arith, nat_tests)
 
--- what a number is written as is read at the front
+-- the decimal notation of a number at the front of a text is read as the number
 pub front_again : (low last n : ℕ) (rest : List ℕ) → low ≤ n → n ≤ last → last < 2 ^ 32 → ends_number rest ≡ true
     → number_at low last (decimal n ++ rest) ≡ Some (n, rest)
 unfolding number_at
@@ -144,13 +144,13 @@ front_again low last n rest l h small e =
       le-leb low n l,
     ) refl
 
--- what the front of a text must be to be read
+-- the fronts of a text that are read as a number
 pub record IsFront (low last : ℕ) (bytes : List ℕ) (n : ℕ) (rest : List ℕ) : Type 0 where
   pub parts : bytes ≡ decimal n ++ rest
   pub above : low ≤ n
   pub below : n ≤ last
 
--- a front that is read is how its number is written
+-- a front that is read is the decimal notation of its number
 pub front_is : (low last : ℕ) (bytes : List ℕ) (n : ℕ) (rest : List ℕ) → last < 2 ^ 32 → number_at low last bytes ≡ Some (n, rest)
     → IsFront low last bytes n rest
 unfolding number_at

@@ -3,7 +3,7 @@ use Rattle.std.proofs.Common.{◌≡◌, ◌+◌, ℕ, suc, Bool, true, List, []
 use Rattle.std.specs.List.{list_all, prefix_len}
 use Rattle.std.proofs.lemmas.Bool.{cases_Bool, and_parts, and_from, cond-true, cond-false}
 
--- a run of bytes that pass, and then none that does
+-- the length of a run of bytes that pass, before a rest that begins with none that passes
 pub prefix_len_run : (p : ℕ → Bool) (run rest : List ℕ) → list_all p run ≡ true → prefix_len p rest ≡ 0 → prefix_len p (run ++ rest) ≡ length run
 prefix_len_run p [] rest h e = e
 prefix_len_run p (b ∷ bs) rest h e =

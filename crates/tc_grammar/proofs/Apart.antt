@@ -1,4 +1,4 @@
--- In a program no two comparisons stand side by side.
+-- A program has no two neighbouring comparisons.
 use Rattle.std.proofs.Common.{◌≡◌, Bool, true, false, List, [], ◌∷◌, refl}
 use Rattle.int_ops.specs.declared.arith.UnOp.TheVariants.{Neg, Not, Inv}
 use Rattle.tc_lexer.specs.declared.token.Keyword.TheVariants as keyword
@@ -70,7 +70,7 @@ abbrev pub begins_comparing : List Word → Bool
 begins_comparing [] = false
 begins_comparing (w ∷ ws) = compares w
 
--- no comparison stands right after another
+-- no comparison follows another directly
 abbrev pub AreApart : List Word → Type 0
 AreApart [] = Unit {0}
 AreApart (w ∷ ws) = (compares w ≡ true → begins_comparing ws ≡ false) × AreApart ws

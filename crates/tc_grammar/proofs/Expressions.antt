@@ -1,4 +1,4 @@
--- Words begin with one expression at most.
+-- Words begin with at most one expression.
 use Rattle.std.proofs.Common.{◌≡◌, Bool, true, false, List, [], ◌∷◌, Option, Some, None, refl, sym, ap, ◌∙◌}
 use Rattle.int_ops.specs.declared.arith.UnOp.{UnOp}
 use Rattle.int_ops.specs.declared.arith.UnOp.TheVariants.{Neg, Not, Inv}
@@ -77,7 +77,7 @@ no_paren Inv e = cc
 bracket_opens : (r ws : List Word) → r ≡ ASign sign.OpenBracket ∷ ws → opens r ≡ false → ⊥
 bracket_opens r ws e h = let yes : opens r ≡ true = ap opens e in cc
 
--- no operator is next where one isn't
+-- words that begin with an operator's sign have a next operator
 none_next : (r ws : List Word) (op : Operator) → r ≡ ASign (binary_sign op) ∷ ws → next_operator r ≡ None → ⊥
 none_next r ws op e h = let some : next_operator r ≡ Some op = ap next_operator e ∙ operator_is op in cc
 
@@ -117,7 +117,7 @@ mutual
       let y = chain_same c d r s o p m n cc in
       (cc, y.1)
 
--- no expression goes on with these
+-- no expression continues with these words
 pub record IsPast (rest : List Word) : Type 0 where
   pub no_bracket : opens rest ≡ false
   pub no_operator : next_operator rest ≡ None

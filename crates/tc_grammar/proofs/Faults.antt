@@ -1,4 +1,4 @@
--- Words are a program, or have one fault.
+-- Words are a program or have exactly one fault.
 use Rattle.std.proofs.Common.{
   ◌≡◌,
   ℕ,
@@ -40,7 +40,7 @@ use Rattle.tc_syntax.proofs.Places.{one_more, are_of, is_syntax_fault}
 
 -- ---- one fault
 
--- what begins a program's words begins them with fewer words too
+-- a front of words with which a program begins is such words too
 begins_fewer : (language : ℕ) (front more : List Word) → Begins language (front ++ more) → Begins language front
 begins_fewer language front more b = record {
   program = b.program;
@@ -69,7 +69,7 @@ ends_by : (x : Expected) (s : List Expected) (b : Bool) → skips x ≡ b → at
 ends_by x s true e h rest = skip_more x s [] e (rest h)
 ends_by x s false e h rest = absurd cc
 
--- nothing stands where the text may end
+-- the empty list of words fits where the text may end
 ends : (s : List Expected) → at_end (may_end s) ≡ None → Stands s []
 ends [] h = refl
 ends (x ∷ s) h = ends_by x s (skips x) refl h (ends s)
@@ -79,7 +79,7 @@ stands_by : (w : Word) (ws : List Word) (o : Option (List Expected)) → fault o
 stands_by w ws None h rest = absurd cc
 stands_by w ws (Some s) h rest = rest s h
 
--- words without a fault stand
+-- words without a fault fit
 all_stand : (s : List Expected) (ws : List Word) → fault (Some s) ws ≡ None → Stands s ws
 all_stand s [] h = ends s h
 all_stand s (w ∷ ws) h = one_more s w ws (stands_by w ws (step s w) h (λ t. all_stand t ws))

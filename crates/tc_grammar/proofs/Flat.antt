@@ -1,4 +1,4 @@
--- An expression as what stands between its operators, in a row.
+-- An expression as a row of operators and their operands.
 use Rattle.std.proofs.Common.{◌≡◌, ℕ, ◌<◌, ◌≤◌, nat_le, if◌then◌else◌, List, ◌∷◌, refl, sym, ap, ◌∙◌, arith}
 use Rattle.std.proofs.lemmas.Bool.{cond-true, cond-false, le-leb, lt-leb}
 use Rattle.int_ops.specs.declared.arith.UnOp.{UnOp}
@@ -26,7 +26,7 @@ use Rattle.tc_tree.specs.Grammar.{
 use Rattle.tc_syntax.proofs.Attached.{level_small}
 
 mutual
-  -- what an operator stands beside
+  -- an operand of an operator
   pub data Factor : Type 0 where
     FactorNumber : (number : TreeNumber) → Factor
     FactorVariable : (name : Name) → Factor
@@ -98,7 +98,7 @@ flat_then (Binary op a b) rest g =
 
 -- ---- back from a chain to its expression
 
--- an operand more at the right
+-- an expression with one more operand at its right
 abbrev pub with_operand : Expression → Operator → Expression → Expression
 with_operand (Binary o a b) op e = if nat_le (level op) (level o) then Binary op (Binary o a b) e else Binary o a (with_operand b op e)
 with_operand a op e = Binary op a e
@@ -115,7 +115,7 @@ abbrev mutual
   chain_tree (One f) = factor_tree f
   chain_tree (More f op c) = grown (factor_tree f) op c
 
-  -- an expression and the chain after it
+  -- an expression, with the chain after it
   pub grown : Expression → Operator → Chain → Expression
   grown e op (One f) = with_operand e op (factor_tree f)
   grown e op (More f o c) = grown (with_operand e op (factor_tree f)) o c
@@ -128,7 +128,7 @@ joined_tree : (c : Chain) (op : Operator) (d : Chain) → chain_tree (joined c o
 joined_tree (One f) op d = refl
 joined_tree (More f o c) op d = grown_joined (factor_tree f) o c op d
 
--- what binds no tighter than the whole takes it as its left side
+-- an operator that binds no tighter than an expression takes all of it as its left side
 takes_whole : (a : Expression) (op : Operator) (e : Expression) → level op ≤ tightness a → with_operand a op e ≡ Binary op a e
 takes_whole (Number n) op e h = refl
 takes_whole (Variable x) op e h = refl
@@ -137,7 +137,7 @@ takes_whole (Paren a) op e h = refl
 takes_whole (Unary u a) op e h = refl
 takes_whole (Binary o a b) op e h = cond-true _ _ _ (le-leb (level op) (level o) h)
 
--- what binds tighter goes to the right side
+-- an operator that binds tighter goes to the right side
 goes_right : (o : Operator) (a x : Expression) (op : Operator) (e : Expression) → level o < level op
     → with_operand (Binary o a x) op e ≡ Binary o a (with_operand x op e)
 goes_right o a x op e h = cond-false _ _ _ (lt-leb (level op) (level o) h)
@@ -171,7 +171,7 @@ grown_whole a op (One f) h t = takes_whole a op (factor_tree f) h
 grown_whole a op (More f o c) h t =
     ap (λ (e : Expression). grown e o c) (takes_whole a op (factor_tree f) h) ∙ grown_right op a (factor_tree f) o c t.0 t.1
 
--- a grouped expression is the one that its chain makes
+-- a grouped expression is the expression of its chain
 pub flat_tree : (e : Expression) → IsGrouped e → chain_tree (flat e) ≡ e
 flat_tree (Number n) g = refl
 flat_tree (Variable x) g = refl

@@ -1,4 +1,4 @@
--- Words begin with one statement at most.
+-- Words begin with at most one statement.
 use Rattle.std.proofs.Common.{◌≡◌, true, false, List, ◌∷◌, drop, refl, sym, ap}
 use Rattle.std.specs.Prelude.{None}
 use Rattle.tc_lexer.specs.declared.place.Place.{Place}
@@ -42,7 +42,7 @@ use Rattle.tc_tree.specs.Grammar.{
 use Rattle.tc_syntax.proofs.Trees.{opens, is_else, statements_begin}
 use Rattle.tc_grammar.proofs.Expressions.{next_operator, expression_same, no_expression, list_same}
 
--- an expression up to a sign that it doesn't go on with
+-- an expression ends before a sign with which it doesn't continue
 before_sign : (k : Sign) → ((rest : List Word) → opens (ASign k ∷ rest) ≡ false) → ((rest : List Word) → next_operator (ASign k ∷ rest) ≡ None)
     → (e f : Expression) (r s : List Word) → IsGrouped e → IsGrouped f → expression_then e (ASign k ∷ r) ≡ expression_then f (ASign k ∷ s) → (e ≡ f) × (r ≡ s)
 before_sign k no_bracket no_operator e f r s g h is =
@@ -66,7 +66,7 @@ before_semicolon : (e f : Expression) (r s : List Word) → IsGrouped e → IsGr
     → expression_then e (ASign sign.Semicolon ∷ r) ≡ expression_then f (ASign sign.Semicolon ∷ s) → (e ≡ f) × (r ≡ s)
 before_semicolon e f r s g h is = before_sign sign.Semicolon (λ rest. refl) (λ rest. refl) e f r s g h is
 
--- a keyword begins no expression
+-- no expression begins with a keyword
 no_keyword : (e : Expression) (rest ws : List Word) (k : AnyKeyword) → expression_then e rest ≡ AKeyword k ∷ ws → ⊥
 no_keyword e rest ws k is = no_expression e rest (AKeyword k ∷ ws) is refl
 
@@ -118,12 +118,12 @@ guard_same e f r s g h is =
     let condition = before_paren e f (ASign sign.OpenBrace ∷ r) (ASign sign.OpenBrace ∷ s) g h (ap (drop 1) is) in
     (condition.0, cc)
 
--- no value is a `create`, a `swap` or a `cas`
+-- no value begins with `create`, `swap` or `cas`
 no_value : (x y : Name) (e : Expression) (r ws : List Word) (k : AnyKeyword)
     → statement_then (Assign x e) r ≡ AName y ∷ ASign sign.Assign ∷ AKeyword k ∷ ws → ⊥
 no_value x y e r ws k is = no_keyword e (ASign sign.Semicolon ∷ r) ws k (ap (drop 2) is)
 
--- a statement begins with no closing brace, and with no `else`
+-- no statement begins with a closing brace or with `else`
 no_end : (a : Statement) (p : Place) (r rest : List Word) → statement_then a rest ≡ AnEnd p ∷ r → ⊥
 no_end (Assign x e) p r rest is = cc
 no_end (Store a i e) p r rest is = cc

@@ -1,4 +1,4 @@
--- Bytes that a reader is known to give, and that a writer is known to have.
+-- The known bytes that a reader will give, and those that a writer has taken.
 use Rattle.std.proofs.Common.{
   ◌≡◌,
   ◌∙◌,
@@ -34,25 +34,25 @@ use Rattle.std.proofs.lemmas.List.{take_rest}
 use Rattle.std.proofs.KnownBytes.{Appends-trans, Appends-kept}
 use Rattle.std.specs.Io.KnownBytes.{Consumes, IsAtEnd, Appends, Keeps, WriteAppends}
 
--- bytes after bytes
+-- two readings one after the other
 pub consumes_more : (a b c : Option (List ℕ)) (xs ys : List ℕ) → Consumes a b xs → Consumes b c ys → Consumes a c (xs ++ ys)
 consumes_more None b c xs ys h k = tt
 consumes_more (Some gs) None c xs ys h k = absurd h
 consumes_more (Some gs) (Some bs) None xs ys h k = absurd k
 consumes_more (Some gs) (Some bs) (Some cs) xs ys h k = h ∙ ap (λ zs. xs ++ zs) k ∙ sym (append_assoc xs ys cs)
 
--- none yet
+-- a reading of no bytes
 pub consumes_none : (a : Option (List ℕ)) → Consumes a a []
 consumes_none None = tt
 consumes_none (Some gs) = refl
 
--- at the end they are all
+-- bytes that were read up to the end are all of them
 pub consumes_all : (a b : Option (List ℕ)) (xs : List ℕ) → Consumes a b xs → IsAtEnd b → IfSome a (λ all. xs ≡ all)
 consumes_all None b xs h e = tt
 consumes_all (Some gs) None xs h e = absurd h
 consumes_all (Some gs) (Some bs) xs h e = sym (h ∙ ap (λ zs. xs ++ zs) e ∙ append-nil xs)
 
--- they are no more than all
+-- if more bytes than a limit were read, all bytes are more than the limit
 pub consumes_some : (a b : Option (List ℕ)) (xs : List ℕ) (limit : ℕ) → Consumes a b xs → limit < length xs → IfSome a (λ all. limit < length all)
 consumes_some None b xs limit h lt = tt
 consumes_some (Some gs) None xs limit h lt = absurd h
@@ -70,7 +70,7 @@ appends_more a b c all front rest n e p q = (
   Appends-trans a b c front (take n rest) p q,
 )
 
--- a write that took nothing or failed left the bytes
+-- after a write that took nothing or failed, the bytes are unchanged
 pub keeps_unless_taken : {E : Type 0} (a b : Option (List ℕ)) (r : Result ℕ E) (rest : List ℕ) → WriteAppends a b r rest
     → ((n : ℕ) → r ≡ Ok n → n ≡ 0) → Keeps a b
 keeps_unless_taken a b (Err e) rest p none = p
@@ -78,7 +78,7 @@ keeps_unless_taken None b (Ok n) rest p none = tt
 keeps_unless_taken (Some x) None (Ok n) rest p none = absurd p
 keeps_unless_taken (Some x) (Some y) (Ok n) rest p none = p ∙ ap (λ k. x ++ take k rest) (none n refl) ∙ append-nil x
 
--- then the front that was written stands
+-- then a front of the whole text was appended
 pub appends_front : (a b c : Option (List ℕ)) (all front rest : List ℕ) → all ≡ front ++ rest → Appends a b front → Keeps b c
     → (n : ℕ) × Appends a c (take n all)
 appends_front a b c all front rest e p k =

@@ -23,7 +23,7 @@ use Rattle.std.proofs.Common.{
 use Rattle.std.specs.Io.KnownBytes.{Consumes, IsAtEnd}
 use Rattle.tc_io.specs.Files.{PlainOpen, ReadOn}
 
--- a reading that has a name is open
+-- a reading with a name is open
 pub is_open : {X Y : Type 0} (f : X → Y) (o : Option X) → IsSome (option_map f o) → IsSome o
 is_open f None h = h
 is_open f (Some x) h = refl

@@ -32,8 +32,8 @@ use Rattle.tc_io.specs.Outside.{
   Reading,
   bytes_at,
   told_under,
-  counted_on,
-  closed,
+  capped_sum,
+  without_reading,
   FailedAfter,
   FailedToOpen,
   Opened,
@@ -44,10 +44,10 @@ use Rattle.tc_io.specs.Outside.{
   FailedReading,
 }
 
-counted_twice : (count a b : ℕ) → counted_on (counted_on count a) b ≡ counted_on count (a + b)
+counted_twice : (count a b : ℕ) → capped_sum (capped_sum count a) b ≡ capped_sum count (a + b)
 counted_twice count a b = omega arith
 
--- known bytes behind none, and behind others
+-- known bytes after no bytes, and after others
 behind_none : (rest : Option (List ℕ)) → prepend_known [] rest ≡ rest
 behind_none None = refl
 behind_none (Some xs) = refl
@@ -56,7 +56,7 @@ behind_two : (a b : List ℕ) (rest : Option (List ℕ)) → prepend_known a (pr
 behind_two a b None = refl
 behind_two a b (Some xs) = ap Some (sym (append_assoc a b xs))
 
--- at the end the bytes are all
+-- at the end the given bytes are all bytes of the file
 all_at_end : (held : Option Files) (name bytes : List ℕ) (rest : Option (List ℕ)) → told_under held name ≡ prepend_known bytes rest → IsAtEnd rest
     → (rest ≡ option_map (λ _. []) held) × IfSome held (λ files. bytes ≡ bytes_at files name)
 all_at_end None name bytes None e end = (refl, tt)
@@ -67,7 +67,7 @@ all_at_end (Some files) name bytes (Some xs) e end =
     let all : bytes_at files name ≡ bytes ++ xs = cc in
     (ap Some end, sym (all ∙ ap (λ ys. bytes ++ ys) end ∙ append-nil bytes))
 
--- bytes that were given, and some of those to come, are no more than all
+-- given bytes, with some of those to come, are at most all bytes of the file
 no_more_than_all : (held : Option Files) (name bytes : List ℕ) (rest : Option (List ℕ)) (count : ℕ) → told_under held name ≡ prepend_known bytes rest
     → IfSome rest (λ xs. count ≤ length xs) → IfSome held (λ files. length bytes + count ≤ length (bytes_at files name))
 no_more_than_all None name bytes rest count e within = tt
@@ -81,38 +81,38 @@ none_of_all : (held : Option Files) (name : List ℕ) → IfSome held (λ files.
 none_of_all None name = tt
 none_of_all (Some files) name = omega arith
 
--- a reading that was opened gave nothing yet
+-- a reading that was just opened has given nothing
 pub begins : (old new : ShelfTells) (name : List ℕ) → Opened old new name → GaveSoFar old new name []
 begins old new name opened =
     let rest : new.reading ≡ told_under old.held name = ap (λ s. s.reading) opened in
-    let none : old.taken ≡ counted_on old.taken 0 = omega arith in (
+    let none : old.taken ≡ capped_sum old.taken 0 = omega arith in (
       opened ∙ ap₂ (λ taken reading. record old { taken = taken; open_name = Some name; reading = reading }) none (sym rest),
       sym (behind_none new.reading ∙ rest),
     )
 
--- with a piece it gave that too
+-- after a piece the reading has given that piece too
 pub gives : (old s new : ShelfTells) (name bytes piece : List ℕ) → GaveSoFar old s name bytes → GavePiece s new piece → GaveSoFar old new name (bytes ++ piece)
 gives old s new name bytes piece so_far gave =
     let count = length bytes in
-    let total : counted_on (counted_on old.taken count) (length piece) ≡ counted_on old.taken (length (bytes ++ piece)) =
-    counted_twice old.taken count (length piece) ∙ ap (counted_on old.taken) (sym (length-append bytes piece)) in (
-      gave.0 ∙ ap (λ (t : ShelfTells). record t { taken = counted_on t.taken (length piece); reading = new.reading }) so_far.0
+    let total : capped_sum (capped_sum old.taken count) (length piece) ≡ capped_sum old.taken (length (bytes ++ piece)) =
+    counted_twice old.taken count (length piece) ∙ ap (capped_sum old.taken) (sym (length-append bytes piece)) in (
+      gave.0 ∙ ap (λ (t : ShelfTells). record t { taken = capped_sum t.taken (length piece); reading = new.reading }) so_far.0
           ∙ ap (λ taken. record old { taken = taken; open_name = Some name; reading = new.reading }) total,
       so_far.1 ∙ ap (prepend_known bytes) gave.1 ∙ behind_two bytes piece new.reading,
     )
 
--- with a piece of no bytes it has given all
+-- after an empty piece the reading has given all bytes
 pub gave_all : (old s new : ShelfTells) (name bytes : List ℕ) → GaveSoFar old s name bytes → GavePiece s new [] → GaveReading old new name bytes
 gave_all old s new name bytes so_far gave =
     let more = subst (GaveSoFar old new name) (append-nil bytes) (gives old s new name bytes [] so_far gave) in
     let all = all_at_end old.held name bytes new.reading more.1 (gave.2 refl) in
-    (more.0 ∙ ap (λ reading. record old { taken = counted_on old.taken (length bytes); open_name = Some name; reading = reading }) all.0, all.1)
+    (more.0 ∙ ap (λ reading. record old { taken = capped_sum old.taken (length bytes); open_name = Some name; reading = reading }) all.0, all.1)
 
 -- a reading that couldn't be opened failed
 pub open_failed : (old new : ShelfTells) (name : List ℕ) → FailedToOpen old new name → FailedReading old new name
 open_failed old new name failed = (0, none_of_all old.held name, failed)
 
--- and so did one of which a piece couldn't be given
+-- a reading that couldn't give a piece failed
 pub piece_failed : (old s new : ShelfTells) (name bytes : List ℕ) (most : ℕ) → GaveSoFar old s name bytes → FailedToGivePiece s new most
     → FailedReading old new name
 piece_failed old s new name bytes most so_far failed =
@@ -120,10 +120,10 @@ piece_failed old s new name bytes most so_far failed =
     let last = subst (λ o. IsSomeAnd o (λ name.
     (count : ℕ) × (count ≤ most) × IfSome s.reading (λ rest. count ≤ length rest) × FailedAfter s new name count)) opened failed in
     let count = last.0 in
-    let total : counted_on (counted_on old.taken (length bytes)) count ≡ counted_on old.taken (length bytes + count) =
+    let total : capped_sum (capped_sum old.taken (length bytes)) count ≡ capped_sum old.taken (length bytes + count) =
     counted_twice old.taken (length bytes) count in (
       length bytes + count,
       no_more_than_all old.held name bytes s.reading count so_far.1 last.2,
-      last.3 ∙ ap (λ (t : ShelfTells). record (closed t) { faults = counted_on t.faults 1; taken = counted_on t.taken count; last_fault = Some (Reading name) }) so_far.0
-          ∙ ap (λ taken. record (closed old) { faults = counted_on old.faults 1; taken = taken; last_fault = Some (Reading name) }) total,
+      last.3 ∙ ap (λ (t : ShelfTells). record (without_reading t) { faults = capped_sum t.faults 1; taken = capped_sum t.taken count; last_fault = Some (Reading name) }) so_far.0
+          ∙ ap (λ taken. record (without_reading old) { faults = capped_sum old.faults 1; taken = taken; last_fault = Some (Reading name) }) total,
     )

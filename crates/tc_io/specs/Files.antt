@@ -2,13 +2,13 @@
 use Rattle.std.specs.Prelude.{◌≡◌, ℕ, ◌≤◌, List, [], length, Option, Some, None, IsSomeAnd, option_map}
 use Rattle.std.specs.Io.KnownBytes.{Consumes, IsAtEnd}
 use Rattle.tc_io.specs.Faults.{PlainFaults, no_faults}
-use Rattle.tc_io.specs.Outside.{ShelfTells, counted_on}
+use Rattle.tc_io.specs.Outside.{ShelfTells, capped_sum}
 
 -- the reader gave at most `limit` bytes, all counted; if its rest is known, it lost just these
 pub record GaveAtMost (limit : ℕ) (old new : Option (List ℕ)) (before now : ℕ) : Type 0 where
   pub bytes : List ℕ
   pub most : length bytes ≤ limit
-  pub counted : now ≡ counted_on before (length bytes)
+  pub counted : now ≡ capped_sum before (length bytes)
   pub lost : Consumes old new bytes
 
 -- a file that is open for reading, and its name

@@ -23,8 +23,8 @@ abbrev pub told_under : Option Files → List ℕ → Option (List ℕ)
 told_under held name = option_map (λ files. bytes_at files name) held
 
 -- a count plus this many, capped at 2 ^ 64 - 1
-abbrev pub counted_on : ℕ → ℕ → ℕ
-counted_on count more = count + min more (2 ^ 64 - 1 - count)
+abbrev pub capped_sum : ℕ → ℕ → ℕ
+capped_sum count more = count + min more (2 ^ 64 - 1 - count)
 
 -- what a shelf reports
 pub record ShelfTells : Type 0 where
@@ -42,17 +42,17 @@ pub record ShelfTells : Type 0 where
   pub reading : Option (List ℕ)
 
 -- the same report with no open reading
-abbrev pub closed : ShelfTells → ShelfTells
-closed shelf = record shelf { open_name = None; reading = None }
+abbrev pub without_reading : ShelfTells → ShelfTells
+without_reading shelf = record shelf { open_name = None; reading = None }
 
 -- `count` bytes were taken, no reading is open, and nothing else changed
 abbrev pub Took : ShelfTells → ShelfTells → ℕ → Type 0
-Took old new count = new ≡ record (closed old) { taken = counted_on old.taken count }
+Took old new count = new ≡ record (without_reading old) { taken = capped_sum old.taken count }
 
 -- a read of the name failed after `count` bytes: both are counted, and no reading is open
 abbrev pub FailedAfter : ShelfTells → ShelfTells → List ℕ → ℕ → Type 0
 FailedAfter old new name count =
-    new ≡ record (closed old) { faults = counted_on old.faults 1; taken = counted_on old.taken count; last_fault = Some (Reading name) }
+    new ≡ record (without_reading old) { faults = capped_sum old.faults 1; taken = capped_sum old.taken count; last_fault = Some (Reading name) }
 
 -- `count` is at most the limit plus 1, and at most the bytes under the name, if those are known
 abbrev pub MayTake : Option Files → List ℕ → (limit count : ℕ) → Type 0
@@ -80,7 +80,7 @@ put_under name bytes held = option_map (λ files. insert files name bytes) held
 
 -- the name has these bytes now, no reading is open, and nothing else changed
 abbrev pub Kept : ShelfTells → ShelfTells → List ℕ → List ℕ → Type 0
-Kept old new name bytes = new ≡ record (closed old) { held = put_under name bytes old.held }
+Kept old new name bytes = new ≡ record (without_reading old) { held = put_under name bytes old.held }
 
 -- the contents are unchanged, or the name has a prefix of the bytes now, maybe none or all
 abbrev pub HoldsPart : Option Files → Option Files → List ℕ → List ℕ → Type 0
@@ -89,7 +89,7 @@ HoldsPart old new name bytes = (new ≡ old) ⊎ ((count : ℕ) × (new ≡ put_
 -- a keep failed, which is counted: the name has its old bytes or a prefix of the new ones
 abbrev pub KeptPart : ShelfTells → ShelfTells → List ℕ → List ℕ → Type 0
 KeptPart old new name bytes = (held : Option Files) × HoldsPart old.held held name bytes
-    × (new ≡ record (closed old) { held = held; faults = counted_on old.faults 1; last_fault = Some (Writing name) })
+    × (new ≡ record (without_reading old) { held = held; faults = capped_sum old.faults 1; last_fault = Some (Writing name) })
 
 -- Readings: once opened, they give the bytes under a name piece by piece.
 
@@ -103,7 +103,7 @@ FailedToOpen old new name = FailedAfter old new name 0
 
 -- the open reading gave these bytes, its next ones; it gives none only at its end
 abbrev pub GavePiece : ShelfTells → ShelfTells → List ℕ → Type 0
-GavePiece old new bytes = (new ≡ record old { taken = counted_on old.taken (length bytes); reading = new.reading })
+GavePiece old new bytes = (new ≡ record old { taken = capped_sum old.taken (length bytes); reading = new.reading })
     × (old.reading ≡ prepend_known bytes new.reading) × (bytes ≡ [] → IsAtEnd new.reading)
 
 -- the open reading failed to give a piece, after at most `most` bytes and no more than it had left
@@ -113,13 +113,13 @@ FailedToGivePiece old new most =
 
 -- a reading of the name was opened and gave these bytes so far; nothing else changed
 abbrev pub GaveSoFar : ShelfTells → ShelfTells → List ℕ → List ℕ → Type 0
-GaveSoFar old new name bytes = (new ≡ record old { taken = counted_on old.taken (length bytes); open_name = Some name; reading = new.reading })
+GaveSoFar old new name bytes = (new ≡ record old { taken = capped_sum old.taken (length bytes); open_name = Some name; reading = new.reading })
     × (told_under old.held name ≡ prepend_known bytes new.reading)
 
 -- a reading of the name gave these bytes to its end: all that the name has, if those are known
 abbrev pub GaveReading : ShelfTells → ShelfTells → List ℕ → List ℕ → Type 0
 GaveReading old new name bytes =
-    (new ≡ record old { taken = counted_on old.taken (length bytes); open_name = Some name; reading = option_map (λ _. []) old.held })
+    (new ≡ record old { taken = capped_sum old.taken (length bytes); open_name = Some name; reading = option_map (λ _. []) old.held })
     × IfSome old.held (λ files. bytes ≡ bytes_at files name)
 
 -- a reading of the name failed, at its opening or after no more bytes than the name has
@@ -138,4 +138,4 @@ Wrote old new text = new ≡ record old { written = option_map (λ written. writ
 -- a put failed, which is counted: a prefix of the text was written, maybe none or all
 abbrev pub WrotePart : SinkTells → SinkTells → List ℕ → Type 0
 WrotePart old new text =
-    (count : ℕ) × (new ≡ record { written = option_map (λ written. written ++ take count text) old.written; faults = counted_on old.faults 1 })
+    (count : ℕ) × (new ≡ record { written = option_map (λ written. written ++ take count text) old.written; faults = capped_sum old.faults 1 })

@@ -1,7 +1,7 @@
 //! The faults of a shelf.
 ghost use Rattle.std.specs.Prelude.{◌≡◌, Some, string_bytes};
 ghost use Rattle.tc_io.specs.Faults.{no_faults, fault_of};
-ghost use Rattle.tc_io.specs.Outside.{counted_on};
+ghost use Rattle.tc_io.specs.Outside.{capped_sum};
 
 use std::marker::Model;
 
@@ -41,7 +41,7 @@ impl Faults {
 
     /// Counts a failed call with this name.
     pub fn add(&mut self, access: Access, name: String)
-        ensures { self.new ≡ record { count = counted_on self.old.count 1; last = Some (fault_of access (string_bytes name)) } }
+        ensures { self.new ≡ record { count = capped_sum self.old.count 1; last = Some (fault_of access (string_bytes name)) } }
     {
         self.count = self.count.saturating_add(1);
         self.last = Some((access, name));

@@ -9,7 +9,7 @@
 ghost use Rattle.std.specs.Prelude.{◌≡◌, ◌≢◌, ◌+◌, ◌≤◌, ◌<◌, ◌⊎◌, length, take, IfOk, IfSome, IsSome, OnOk, IsErrOf, Err, None, ℕ};
 ghost use Rattle.std.specs.Io.KnownBytes.{Appends, Consumes, IsAtEnd};
 ghost use Rattle.tc_io.specs.Files.{GaveAtMost, ReadOn, file_tells, new_file_shelf};
-ghost use Rattle.tc_io.specs.Outside.{Gave, FailedToGive, WasTooLong, TookPart, Kept, KeptPart, GavePiece, FailedToGivePiece, closed, counted_on};
+ghost use Rattle.tc_io.specs.Outside.{Gave, FailedToGive, WasTooLong, TookPart, Kept, KeptPart, GavePiece, FailedToGivePiece, without_reading, capped_sum};
 
 use crate::faults::{Access, Faults};
 use crate::{FetchFault, KeepFault, OpenFault, PieceFault, PutFault, Shelf, Sink};
@@ -110,7 +110,7 @@ impl<R: Files + Drop> Shelf for FileShelf<R> {
     fn keep(&mut self, alloc: Global, name: &str, bytes: &[u8]) -> Result<(), KeepFault>
         ensures ok { OnOk result (Kept (file_tells self.old) (file_tells self.new) name.now bytes.now) }
         ensures failed { IsErrOf result KeepFault.Failed → KeptPart (file_tells self.old) (file_tells self.new) name.now bytes.now }
-        ensures memory { IsErrOf result KeepFault.Memory → file_tells self.new ≡ closed (file_tells self.old) }
+        ensures memory { IsErrOf result KeepFault.Memory → file_tells self.new ≡ without_reading (file_tells self.old) }
 
         // A file was opened, and took all of the bytes, where files tell that.
         ensures opened { OnOk result ((file : R.File) × (new : R.File) × Appends (R.File.contents file) (R.File.contents new) bytes.now) }
@@ -190,10 +190,10 @@ pub fn read_up_to<R: Read>(
 ) -> Result<Vec<u8>, FetchFault>
     ensures gave { GaveAtMost (limit + 1) (R.remaining from.old) (R.remaining from.new) taken.old taken.new }
     ensures within { IfOk result (λ bytes. length bytes.items ≤ limit) }
-    ensures counted { IfOk result (λ bytes. taken.new ≡ counted_on taken.old (length bytes.items)) }
-    // Where the reader tells what it has left, these are all its bytes, and it has none now.
+    ensures counted { IfOk result (λ bytes. taken.new ≡ capped_sum taken.old (length bytes.items)) }
+    // If the reader tells what it has left, these are all its bytes, and it has none now.
     ensures all { IfOk result (λ bytes. IfSome (R.remaining from.old) (λ all. bytes.items ≡ all)) }
-    ensures too_long { IsErrOf result FetchFault.TooLong → taken.new ≡ counted_on taken.old (limit + 1) }
+    ensures too_long { IsErrOf result FetchFault.TooLong → taken.new ≡ capped_sum taken.old (limit + 1) }
     ensures longer { IsErrOf result FetchFault.TooLong → IfSome (R.remaining from.old) (λ all. limit < length all) }
 {
     let mut bytes = Vec::new(alloc);
@@ -271,7 +271,7 @@ impl<W: Write + Drop> Sink for StdSink<W> {
 
     fn put(&mut self, bytes: &[u8]) -> Result<(), PutFault>
         ensures ok { OnOk result (self.new.1 ≡ self.old.1) }
-        ensures failed { IsErrOf result PutFault.Failed → self.new.1 ≡ counted_on self.old.1 1 }
+        ensures failed { IsErrOf result PutFault.Failed → self.new.1 ≡ capped_sum self.old.1 1 }
         ensures memory { result ≢ Err PutFault.Memory }
 
         // What the writer tells that it has grows by the bytes, and by a front of them where the put failed.

@@ -10,7 +10,7 @@ ghost use Rattle.std.specs.Prelude.{◌≡◌, ◌≤◌, ◌<◌, length, take,
 ghost use Rattle.tc_io.specs.Outside.{
   ShelfTells,
   SinkTells,
-  closed,
+  without_reading,
   Gave,
   FailedToGive,
   WasTooLong,
@@ -102,7 +102,7 @@ pub trait Shelf {
     fn keep(&mut self, alloc: Global, name: &str, bytes: &[u8]) -> Result<(), KeepFault>
         ensures ok { OnOk result (Kept (tells self.old) (tells self.new) name.now bytes.now) }
         ensures failed { IsErrOf result KeepFault.Failed → KeptPart (tells self.old) (tells self.new) name.now bytes.now }
-        ensures memory { IsErrOf result KeepFault.Memory → tells self.new ≡ closed (tells self.old) };
+        ensures memory { IsErrOf result KeepFault.Memory → tells self.new ≡ without_reading (tells self.old) };
 
     /// Opens a reading of the bytes under a name.
     ///
@@ -110,7 +110,7 @@ pub trait Shelf {
     fn open(&mut self, alloc: Global, name: &str) -> Result<(), OpenFault>
         ensures ok { OnOk result (Opened (tells self.old) (tells self.new) name.now) }
         ensures failed { IsErrOf result OpenFault.Failed → FailedToOpen (tells self.old) (tells self.new) name.now }
-        ensures memory { IsErrOf result OpenFault.Memory → tells self.new ≡ closed (tells self.old) };
+        ensures memory { IsErrOf result OpenFault.Memory → tells self.new ≡ without_reading (tells self.old) };
 
     /// Puts the next bytes of the open reading in front of the buffer, and returns how many they
     /// are: none only at its end.

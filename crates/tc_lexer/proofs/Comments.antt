@@ -7,11 +7,11 @@ use Rattle.std.proofs.lemmas.Bool.Decides.{Decides-eqb}
 use Rattle.std.proofs.lemmas.Slice.Eq.{starts_is}
 use Rattle.tc_lexer.specs.helpers.Reading.{before_close}
 
--- no `*/` stands in the body
+-- the body has no `*/`
 abbrev pub HasNoClose : List ℕ → Type 0
 HasNoClose body = (front back : List ℕ) → body ≡ front ++ (codes "*/" ++ back) → ⊥
 
--- what a map of an option gave
+-- the value from which a map of an option made a result
 pub mapped : {X Y : Type 0} (f : X → Y) (o : Option X) (y : Y) → option_map f o ≡ Some y → (x : X) × (o ≡ Some x) × (f x ≡ y)
 mapped f None y e = absurd cc
 mapped f (Some x) y e = (x, refl, cc)
@@ -30,7 +30,7 @@ begins_so bytes rest e = (starts_is Decides-eqb bytes (codes "*/") (starts_with 
 is_begun : (bytes : List ℕ) → starts_with nat_eq bytes (codes "*/") ≡ true → bytes ≡ codes "*/" ++ drop 2 bytes
 is_begun bytes h = (starts_is Decides-eqb bytes (codes "*/") (starts_with nat_eq bytes (codes "*/")) refl).0 h
 
--- one byte more in front, where no `*/` begins
+-- with one more byte in front, at which no `*/` begins, the body has no `*/`
 more_no_close : (b : ℕ) (body after : List ℕ) → starts_with nat_eq (b ∷ (body ++ (codes "*/" ++ after))) (codes "*/") ≡ false → HasNoClose body
     → HasNoClose (b ∷ body)
 more_no_close b body after h none [] back e =
@@ -41,7 +41,7 @@ more_no_close b body after h none (c ∷ front) back e =
     let tail : body ≡ front ++ (codes "*/" ++ back) = cc in
     none front back tail
 
--- what stands before the first `*/` has none, and a `*/` stands after it
+-- the text before the first `*/` contains none, and a `*/` follows it
 pub close_is : (bytes body : List ℕ) → before_close bytes ≡ Some body → (after : List ℕ) × (bytes ≡ body ++ (codes "*/" ++ after)) × HasNoClose body
 close_is [] body e = absurd cc
 close_is (b ∷ bs) body e = elim (cases_Bool (starts_with nat_eq (b ∷ bs) (codes "*/"))) [
@@ -70,7 +70,7 @@ no_early_close b (c ∷ body) after none h =
     let two : b ∷ c ∷ body ≡ codes "*/" ++ body = cc in
     none [] body two
 
--- a body that has no `*/` is found
+-- a body without a `*/` is found before one
 pub close_found : (body after : List ℕ) → HasNoClose body → before_close (body ++ (codes "*/" ++ after)) ≡ Some body
 close_found [] after none = refl
 close_found (b ∷ body) after none =

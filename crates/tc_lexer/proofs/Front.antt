@@ -1,4 +1,4 @@
--- The piece at the front of some bytes is the one that the reader finds there.
+-- The piece at the front of some bytes is the piece that the reader finds there.
 use Rattle.std.proofs.Common.{◌≡◌, ◌+◌, ◌<◌, ◌≤◌, ◌^◌, ℕ, ℤ, pos, negsuc, Bool, true, false, List, [], ◌∷◌, ◌++◌, length, take, drop, refl, sym, ap, inl, inr}
 use Rattle.std.proofs.Common.{◌∙◌, subst, arith, Option, Some, None, append_assoc, length-take}
 use Rattle.std.specs.Prelude.{codes, nat_eq, option_map, slice_get, ◌==◌, ◌&&◌, ◌||◌, not}
@@ -67,7 +67,7 @@ ends_at_once : (language : ℕ) (p : Piece) → ((b : ℕ) → continues languag
 ends_at_once language p h [] = tt
 ends_at_once language p h (b ∷ bs) = ap not (h b)
 
--- What stands at the front is found.
+-- The reader finds the piece at the front.
 
 line_front : (language : ℕ) (body rest : List ℕ) → list_all (λ b. not (is_line_feed b)) body ≡ true → EndsBefore language (LineComment body) rest
     → front language (written (LineComment body) ++ rest) ≡ Some (LineComment body)
@@ -125,7 +125,7 @@ slash_alone b bs e =
     let p = or_parts (b == 47) (b == 42) (not-true _ e) in
     (and_left _ _ (eq_swapped 47 b ∙ p.0), and_left _ _ (eq_swapped 42 b ∙ p.1))
 
--- a sign begins no blank and no word
+-- no blank and no word begins with a sign
 pub sign_front : (language : ℕ) (s : AnySign) (rest : List ℕ) → SignEnds language s rest
     → front language (sign_text s ++ rest) ≡ option_map (λ (t : AnySign). Token (Sign t)) (sign_at language (sign_text s ++ rest))
 sign_front language OpenParen rest e = refl
@@ -190,13 +190,13 @@ piece_front language (LineComment body) rest h e = line_front language body rest
 piece_front language (BlockComment body) rest h e = block_front language body rest h
 piece_front language (Token t) rest h e = token_front language t rest h e
 
--- the piece at the front is found
+-- the reader finds the piece at the front
 pub found : (language : ℕ) (bytes : List ℕ) (p : Piece) (rest : List ℕ) → Begins language bytes p rest → front language bytes ≡ Some p
 found language bytes p rest x = ap (front language) x.split ∙ piece_front language p rest x.piece x.ends
 
--- What is found stands at the front.
+-- The piece that the reader finds is at the front.
 
--- the token is what this word writes
+-- this word is the text of the token
 pub record Writes (language : ℕ) (t : PlainToken) (word : List ℕ) : Type 0 where
   pub token : IsToken language t
   pub spelled : spelling t ≡ word
@@ -316,7 +316,7 @@ mark_is language bytes p e = elim (cases_Bool (starts_with nat_eq bytes (codes "
           },
         )
 
--- what is found is the piece at the front
+-- the piece that the reader finds is at the front
 pub is_found : (language : ℕ) (bytes : List ℕ) (p : Piece) → front language bytes ≡ Some p → BeginsSo language bytes p
 is_found language [] p e = absurd cc
 is_found language (b ∷ bs) p e = elim (cases_Bool (is_space b)) [
@@ -332,7 +332,7 @@ is_found language (b ∷ bs) p e = elim (cases_Bool (is_space b)) [
   ]
 ]
 
--- What the reader's calls give.
+-- Results of the reader's calls.
 
 pub front_word : (bytes : List ℕ) (b : ℕ) → Some b ≡ slice_get bytes 0 → is_space b ≡ false → is_word b ≡ true → front 3 bytes ≡ word_piece 3 bytes
 front_word [] b e h k = absurd cc

@@ -1,4 +1,4 @@
--- Keywords, by how they are written.
+-- Keywords and their texts.
 use Rattle.std.proofs.Common.{◌≡◌, ◌≤◌, ℕ, Bool, true, List, [], ◌∷◌, refl, sym, ap, inl, inr, ◌∙◌, subst, Option, Some, None}
 use Rattle.std.specs.Prelude.{◌&&◌, nat_le, bytes_eq}
 use Rattle.std.specs.List.{list_all, find}
@@ -10,7 +10,7 @@ use Rattle.tc_lexer.specs.declared.token.Keyword.TheVariants.{Broadcast, Fence, 
 use Rattle.tc_lexer.specs.Tokens.{keyword_text, keyword_since, is_word, begins_with_letter}
 use Rattle.tc_lexer.specs.helpers.Reading.{keywords, keyword_of}
 
--- what is found passes
+-- an element that was found passes
 pub find_passes : {X : Type 0} (p : X → Bool) (xs : List X) (x : X) → find p xs ≡ Some x → p x ≡ true
 find_passes p [] x e = absurd cc
 find_passes {X} p (y ∷ ys) x e = elim (cases_Bool (p y)) [
@@ -21,7 +21,7 @@ find_passes {X} p (y ∷ ys) x e = elim (cases_Bool (p y)) [
   | inr h ↦ find_passes p ys x (sym (cond-false (p y) (Some y) (find p ys) h) ∙ e)
 ]
 
--- the keyword that is written so is found
+-- the keyword with this text is found
 pub keyword_found : (language : ℕ) (k : Keyword) → keyword_since k ≤ language → keyword_of language (keyword_text k) ≡ Some k
 keyword_found language Int h = cond-true _ _ _ (le-leb _ _ h)
 keyword_found language Mutex h = cond-true _ _ _ (le-leb _ _ h)
@@ -45,14 +45,14 @@ keyword_found language Swap h = cond-true _ _ _ (le-leb _ _ h)
 keyword_found language Cas h = cond-true _ _ _ (le-leb _ _ h)
 keyword_found language Stbar h = cond-true _ _ _ (le-leb _ _ h)
 
--- and what is found is written so
+-- a keyword that was found has this text
 pub keyword_is : (language : ℕ) (word : List ℕ) (k : Keyword) → keyword_of language word ≡ Some k → (keyword_text k ≡ word) × (keyword_since k ≤ language)
 keyword_is language word k e =
     let p = and_parts (bytes_eq (keyword_text k) word) (nat_le (keyword_since k) language)
     (find_passes (λ j. bytes_eq (keyword_text j) word && nat_le (keyword_since j) language) keywords k e) in
     ((bytes_eq-Decides (keyword_text k) word).0 p.0, leb-true _ _ p.1)
 
--- each keyword is letters
+-- each keyword consists of letters
 pub keyword_letters : (k : Keyword) → (begins_with_letter (keyword_text k) && list_all is_word (keyword_text k)) ≡ true
 keyword_letters Int = refl
 keyword_letters Mutex = refl
@@ -81,12 +81,12 @@ no_keyword_from : (language : ℕ) (word : List ℕ) (o : Option Keyword) → ke
 no_keyword_from language word None e h = refl
 no_keyword_from language word (Some k) e h = let x = keyword_is language word k e in absurd (h k x.1 x.0)
 
--- a name is found to be no keyword
+-- no keyword is found for a name
 pub name_no_keyword : (language : ℕ) (word : List ℕ) → ((k : Keyword) → keyword_since k ≤ language → keyword_text k ≡ word → ⊥)
     → keyword_of language word ≡ None
 name_no_keyword language word h = no_keyword_from language word (keyword_of language word) refl h
 
--- where no keyword is found, the word is none
+-- if no keyword is found, the word isn't a keyword
 pub no_keyword_is : (language : ℕ) (word : List ℕ) → keyword_of language word ≡ None → (k : Keyword) → keyword_since k ≤ language → keyword_text k ≡ word → ⊥
 no_keyword_is language word e k h w =
     let found : keyword_of language word ≡ Some k = subst (λ (s : List ℕ). keyword_of language s ≡ Some k) w (keyword_found language k h) in

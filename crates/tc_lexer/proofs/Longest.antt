@@ -1,4 +1,4 @@
--- A piece of a text is the longest that can stand there.
+-- A piece of a text is the longest one possible at its place.
 use Rattle.std.proofs.Common.{◌≡◌, ◌+◌, ◌<◌, ◌≤◌, ℕ, pos, negsuc, Bool, true, List, [], ◌∷◌, ◌++◌, length, take, refl, sym, ap, ◌∙◌, arith, Option, Some}
 use Rattle.std.proofs.Common.{length-take}
 use Rattle.std.specs.Prelude.{option_map, not}
@@ -30,7 +30,7 @@ run_holds belongs (b ∷ bs) rest h =
     let more = run_holds belongs bs rest p.1 in
     omega arith
 
--- what is found at the front is as long as this
+-- a piece that is found at the front has at least this length
 abbrev LongEnough : ℕ → List ℕ → ℕ → Type 0
 LongEnough language bytes n = (p : Piece) → front language bytes ≡ Some p → n ≤ length (written p)
 

@@ -68,7 +68,7 @@ keywords_of_3 Swap = inr refl
 keywords_of_3 Cas = inr refl
 keywords_of_3 Stbar = inr refl
 
--- the byte after a piece belongs to it in the one language where it does in the other
+-- the byte after a piece continues it in both languages or in neither
 ends_same : (m n : ℕ) (p : Piece) → ((b : ℕ) → continues n p b ≡ continues m p b) → (after : List ℕ) → EndsBefore m p after → EndsBefore n p after
 ends_same m n p h [] e = tt
 ends_same m n p h (b ∷ bs) e = ap not (h b) ∙ e
@@ -85,7 +85,7 @@ piece_1_2 (Token (Number (negsuc n))) h = h
 piece_1_2 (Token (Keyword k)) h = omega arith
 piece_1_2 (Token (Sign s)) h = omega arith
 
--- a sign of language 1 that begins so makes a shift with the sign before it
+-- a sign of language 1 that begins with this byte makes a shift with the sign before it
 shift_after : (more : ℕ) (b : Bool) (c : Bool) (long longer short s : AnySign) → makes_shift (Sign short) (Sign long) ≡ true
     → makes_shift (Sign short) (Sign short) ≡ true → cond (b && true) (Some long) (cond (c && false) (Some longer) (Some short)) ≡ Some s
     → makes_shift (Sign short) (Sign s) ≡ true
@@ -100,7 +100,7 @@ greater_after : (bs : List ℕ) (s : AnySign) → sign_at 1 (62 ∷ bs) ≡ Some
 greater_after bs s e =
     shift_after 0 (pointwise nat_eq (61 ∷ []) (take 1 bs)) (pointwise nat_eq (62 ∷ []) (take 1 bs)) GreaterEqual ShiftRight Greater s refl refl e
 
--- so no such sign stands right after `<` or `>` where no two neighbours make a shift
+-- thus no such sign follows `<` or `>` directly if no two neighbours make a shift
 apart : (b : ℕ) (short : AnySign) (bs : List ℕ) → front 1 (b ∷ bs) ≡ option_map (λ (s : AnySign). Token (Sign s)) (sign_at 1 (b ∷ bs))
     → ((s : AnySign) → sign_at 1 (b ∷ bs) ≡ Some s → makes_shift (Sign short) (Sign s) ≡ true) → (ps : List Piece) → ArePieces 1 (b ∷ bs) ps []
     → have_no_shift (Sign short ∷ plain_among ps) ≡ true → ⊥

@@ -1,4 +1,4 @@
--- One list of tokens or one fault; tokens as spans of their text.
+-- A text has one list of tokens or one fault, and tokens are spans of their text.
 use Rattle.std.proofs.Common.{◌≡◌, ◌+◌, ◌-◌, ◌<◌, ℕ, List, [], ◌∷◌, ◌++◌, length, take, drop, refl, sym, ap, ◌∙◌, subst, arith, append_assoc, length-append}
 use Rattle.std.specs.Prelude.{All, slice_range}
 use Rattle.std.proofs.lemmas.List.{append_cancel_right, take_at, drop_at}
@@ -91,7 +91,7 @@ plain_among [] = []
 plain_among (Token t ∷ ps) = t ∷ plain_among ps
 plain_among (_ ∷ ps) = plain_among ps
 
--- what is known of the tokens among the pieces that stand after these bytes
+-- facts on the tokens among the pieces after these bytes
 record AreSpans (language : ℕ) (text before : List ℕ) (ps : List Piece) : Type 0 where
   spans : All (IsSpan language text) (tokens_after before ps)
   plain : plain_tokens text (tokens_after before ps) ≡ plain_among ps

@@ -46,7 +46,7 @@ place_after-append (b ∷ bs) before =
     ap place_after (sym (append_assoc before (b ∷ []) bs))
     ∙ (place_after-append bs (before ++ b ∷ []) ∙ ap (λ (p : Place). place_from p bs) (place_more before b))
 
--- a place is no further than the bytes before it
+-- the line of a place is at most 1 plus the number of bytes before it
 pub place_after-line : (before : List ℕ) → (place_after before).line ≤ 1 + length before
 place_after-line before = omega (arith, count_by-le-length is_line_feed before)
 

@@ -50,7 +50,7 @@ pub begins_shorter : (language : ℕ) (bytes : List ℕ) (p : Piece) (rest : Lis
     → (0 < length (written p)) × (length (written p) + length rest ≡ length bytes)
 begins_shorter language bytes p rest x = (written_some language p (written p) refl x.piece, sym (ap length x.split ∙ length-append (written p) rest))
 
--- One list of pieces leads to where none begins.
+-- At most one list of pieces ends where no piece begins.
 
 pub same_pieces : (language : ℕ) (bytes : List ℕ) (ps qs : List Piece) (r s : List ℕ) → ArePieces language bytes ps r → ArePieces language bytes qs s
     → BeginsNone language r → BeginsNone language s → (ps ≡ qs) × (r ≡ s)
@@ -62,7 +62,7 @@ same_pieces language bytes (p ∷ ps) (q ∷ qs) r s x y no_r no_s =
     let rest = same_pieces language x.0 ps qs r s x.2 (subst (λ (t : List ℕ). ArePieces language t qs s) (sym one.1) y.2) no_r no_s in
     (ap (λ (t : Piece). t ∷ ps) one.0 ∙ ap (λ (ts : List Piece). q ∷ ts) rest.0, rest.1)
 
--- some bytes, read as far as pieces begin
+-- some bytes, divided into pieces up to where no piece begins
 pub record ReadsTo (language : ℕ) (bytes : List ℕ) : Type 0 where
   pub pieces : List Piece
   pub rest : List ℕ
@@ -103,7 +103,7 @@ pub pieces_more : (language : ℕ) (bytes : List ℕ) (ps : List Piece) (rest : 
 pieces_more language bytes [] rest p after x y = (after, subst (λ (s : List ℕ). Begins language s p after) (sym x) y, refl)
 pieces_more language bytes (q ∷ ps) rest p after x y = (x.0, x.1, pieces_more language x.0 ps rest p after x.2 y)
 
--- the token that a piece is, where these bytes stand before it
+-- the token of a piece, if it has one, with these bytes before it
 abbrev pub token_among : List ℕ → Piece → List SpannedToken
 token_among before (Token t) = token_after before t ∷ []
 token_among before _ = []
@@ -124,7 +124,7 @@ tokens_more before (q ∷ ps) p =
     ∙ (ap (λ (ts : List SpannedToken). ts ++ token_among ((before ++ written q) ++ all_written ps) p) (sym (tokens_one before q ps))
     ∙ ap (λ (s : List ℕ). tokens_after before (q ∷ ps) ++ token_among s p) (append_assoc before (written q) (all_written ps)))))
 
--- the text up to a byte is pieces, of which these are the tokens
+-- the text up to a byte is divided into pieces with these tokens
 pub record IsRead (language : ℕ) (text : List ℕ) (tokens : List SpannedToken) (start : ℕ) (place : Place) : Type 0 where
   pub pieces : List Piece
   pub read : ArePieces language text pieces (drop start text)
@@ -166,14 +166,14 @@ read_more language text tokens start place p after r x =
           ∙ (sym (place_after-append (written p) (take start text)) ∙ ap place_after (sym front_is));
     }
 
--- where all is read, the tokens are the text's
+-- if everything is read, the tokens are the text's
 pub read_all : (language : ℕ) (text : List ℕ) (tokens : List SpannedToken) (start : ℕ) (place : Place) → IsRead language text tokens start place
     → length text ≤ start → AreTokens language text tokens
 read_all language text tokens start place r h =
     let nothing : drop start text ≡ [] = nil_from_length (drop start text) (omega (arith, length-drop start text)) in
     record { pieces = r.pieces; whole = subst (λ (s : List ℕ). ArePieces language text r.pieces s) nothing r.read; tokens_are = r.tokens_are }
 
--- where no piece begins before the end, the fault is there
+-- if no piece begins before the end, the fault is there
 pub read_fault : (language : ℕ) (text : List ℕ) (tokens : List SpannedToken) (start : ℕ) (place : Place) → IsRead language text tokens start place
     → start < length text → BeginsNone language (drop start text) → IsFault language text (fault_at place (drop start text))
 read_fault language text tokens start place r h none =
@@ -188,7 +188,7 @@ read_fault language text tokens start place r h none =
       fault_is = ap (λ (q : Place). fault_at q (drop start text)) r.place_is;
     }
 
--- What the reader's calls give.
+-- Results of the reader's calls.
 
 pub rest_is : (text : List ℕ) (start : ℕ) → take (length text - start) (drop start text) ≡ drop start text
 rest_is text start = take_all (length text - start) (drop start text) (omega (arith, length-drop start text))

@@ -1,4 +1,4 @@
--- Signs, by how they are written.
+-- Signs and their texts.
 use Rattle.std.proofs.Common.{◌≡◌, ◌≤◌, ℕ, Bool, true, false, cond, List, [], ◌∷◌, ◌++◌, length, drop, refl, sym, ap, inl, inr, ◌∙◌, arith, Option, Some, None}
 use Rattle.std.specs.Prelude.{◌&&◌, ◌||◌, ◌==◌, not, nat_le, nat_eq, IsTrue}
 use Rattle.std.specs.List.{starts_with}
@@ -22,7 +22,7 @@ abbrev pub SignEnds : ℕ → Sign → List ℕ → Type 0
 SignEnds language s [] = Unit {0}
 SignEnds language s (b ∷ _) = IsTrue (not (sign_continues language s b))
 
--- whether these two bytes are a sign that came with this language
+-- whether two bytes are equal, and the language has the sign of both
 abbrev is_pair : ℕ → ℕ → ℕ → ℕ → Bool
 is_pair language since b c = nat_eq c b && true && nat_le since language
 
@@ -35,7 +35,7 @@ no_late_pair language since b c h = elim (and_cases (b == c) (nat_le since langu
   | inr e ↦ and_right _ _ e
 ]
 
--- past one longer sign, or two
+-- if the bytes differ, they aren't the longer sign, and the sign is the shorter one
 one_longer : (language b c : ℕ) (long short : Sign) → 1 ≤ language → not (b == c) ≡ true
     → cond (is_pair language 1 b c) (Some long) (cond (nat_le 1 language) (Some short) None) ≡ Some short
 one_longer language b c long short h e = cond-false _ _ _ (no_pair language 1 b c (not-true _ e)) ∙ cond-true _ _ _ (le-leb _ _ h)
@@ -85,7 +85,7 @@ sign_found language Or (b ∷ bs) h e = one_longer language b 124 OrOr Or h e
 sign_found language AndAnd rest h e = cond-true _ _ _ (le-leb _ _ h)
 sign_found language OrOr rest h e = cond-true _ _ _ (le-leb _ _ h)
 
--- where a shorter sign was found, the longer one isn't there
+-- if a shorter sign was found, the longer one isn't at this place
 no_longer : (language b c since : ℕ) (long short : Sign) (later : Option Sign) → (long ≡ short → ⊥)
     → cond (is_pair language since b c) (Some long) later ≡ Some short → (b == c && nat_le since language) ≡ false
 no_longer language b c since long short later n e = elim (cases_Bool (b == c && nat_le since language)) [
@@ -124,7 +124,7 @@ two_end language b c d long longer short later h n m e =
     let second = no_longer language b d 2 longer short later m (past language b c 1 long short _ n e) in
     not_from_false _ (or_from _ _ first second)
 
--- a sign that is found at the front is as long as it can be, but for a comment
+-- a sign that was found at the front is as long as possible, unless a comment begins there
 pub sign_ends : (language : ℕ) (s : Sign) (rest : List ℕ) → sign_since s ≤ language → sign_at language (sign_text s ++ rest) ≡ Some s
     → (s ≡ Slash → SignEnds language s rest) → SignEnds language s rest
 sign_ends language OpenParen rest h e c = ends_alone language OpenParen (λ b. refl) rest
@@ -163,7 +163,7 @@ sign_ends language Or (b ∷ bs) h e c = one_ends language b 124 OrOr Or _ h (λ
 sign_ends language AndAnd rest h e c = ends_alone language AndAnd (λ b. refl) rest
 sign_ends language OrOr rest h e c = ends_alone language OrOr (λ b. refl) rest
 
--- what is found stands at the front
+-- a sign that was found is at the front
 pub sign_is : (language : ℕ) (bytes : List ℕ) (s : Sign) → sign_at language bytes ≡ Some s
     → (bytes ≡ sign_text s ++ drop (length (sign_text s)) bytes) × (sign_since s ≤ language)
 sign_is language bytes s e =

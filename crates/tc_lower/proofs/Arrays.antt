@@ -57,7 +57,7 @@ use Rattle.tc_lower.specs.Lowering.{memory_of}
 use Rattle.tc_lower.proofs.Parts.{all_append, all_weaker, both_true}
 use Rattle.tc_lower.proofs.Sound.{lt_true, le_true}
 
--- the arrays of globals, in order, where so many cells come before
+-- the arrays of globals, in order, with `n` cells before them
 abbrev pub arrays_from : ℕ → List Global → List Array
 arrays_from n [] = []
 arrays_from n (Int x i ∷ gs) = arrays_from (n + 1) gs
@@ -124,7 +124,7 @@ pub arrays_zero : (gs : List Global) (j k : ℕ) (a : Array) → slice_get (arra
     → slice_get (memory_of gs) (a.first + k) ≡ Some (pos 0)
 arrays_zero gs j k a there within = arrays_zero_at 0 gs j k a there within (a.first + k) (omega arith)
 
--- ---- cells that are named by number
+-- ---- single cells
 
 left_true : (a b : Bool) → IsTrue a → IsTrue (a || b)
 left_true true b h = refl
@@ -134,7 +134,7 @@ right_true : (a b : Bool) → IsTrue b → IsTrue (a || b)
 right_true true b h = refl
 right_true false b h = h
 
--- a cell before all of them
+-- a cell before all arrays is outside each of them
 outside_later : (c n : ℕ) (gs : List Global) → c < n → IsTrue (list_all (is_outside c) (arrays_from n gs))
 outside_later c n [] low = refl
 outside_later c n (Int x i ∷ gs) low = outside_later c (n + 1) gs (omega (arith, low))
@@ -152,13 +152,13 @@ ends_by n a = nat_le (a.first + a.length) n
 later_end : (n m : ℕ) → n ≤ m → (a : Array) → IsTrue (ends_by n a) → IsTrue (ends_by m a)
 later_end n m up a h = grind (arith, nat_tests, up, h)
 
--- the arrays of the globals so far and those of the globals that are left make up all
+-- the arrays so far, with those of the remaining globals, are all arrays
 pub record ArraysSoFar (all : List Array) (n : ℕ) (rest : List Global) : Type 0 where
   pub before : List Array
   pub ended : IsTrue (list_all (ends_by n) before)
   pub whole : all ≡ before ++ arrays_from n rest
 
--- the next cell, where it is an int's, is none of theirs
+-- the next cell is in no array if it is an int's
 pub outside_all : (all : List Array) (n : ℕ) (x : Name) (i : Initial) (gs : List Global) → ArraysSoFar all n (Int x i ∷ gs)
     → IsTrue (list_all (is_outside n) all)
 outside_all all n x i gs o =
@@ -181,7 +181,7 @@ is_among [] after a =
 is_among (b ∷ before) after a =
     right_true (b.first == a.first && b.length == a.length) (is_array (before ++ a ∷ after) a.first a.length) (is_among before after a)
 
--- the next cells, where they are an array's, are one of them
+-- the next cells are one of the arrays if they are an array's
 pub among_all : (all : List Array) (n : ℕ) (x : Name) (size : Number) (gs : List Global) → ArraysSoFar all n (global.Array x size ∷ gs)
     → IsTrue (is_array all n (elements size.value))
 among_all all n x size gs o =

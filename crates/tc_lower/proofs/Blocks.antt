@@ -1,4 +1,4 @@
--- Blocks of instructions: what they keep, and how they are put together.
+-- Blocks of instructions: their invariants, and their composition.
 use Rattle.std.proofs.Common.{
   ◌≡◌,
   ℕ,
@@ -32,7 +32,7 @@ use Rattle.tc_code.specs.declared.instr.Instr.TheVariants.{Set, Load, LoadAt, St
 use Rattle.tc_code.specs.declared.instr.Instr.TheVariants.{Signal, Broadcast, Create, Ready, Join, Assert, Nonzero, InRange, Swap, Cas, Fence, Stbar, Exit}
 use Rattle.tc_code.specs.Lawful.{target, is_bound, keeps, StandsBefore}
 
--- whether an instruction goes only with the one before it: no jump leads to it
+-- whether an instruction belongs to the one before it: no jump leads to it
 abbrev pub is_glued : Instr → Bool
 is_glued (LoadAt t a len i) = true
 is_glued i = is_bound i
@@ -41,13 +41,13 @@ is_glued i = is_bound i
 abbrev pub IsFree : List Instr → ℕ → Type 0
 IsFree all k = (i : Instr) → slice_get all k ≡ Some i → is_glued i ≡ false
 
--- a jump leads into a block, or to its end
+-- a jump leads into a block or to its end
 pub record Lands (all : List Instr) (s e to : ℕ) : Type 0 where
   pub low : s ≤ to
   pub high : to ≤ e
   pub free : to < e → IsFree all to
 
--- the test of an index stands for the access at k, as far as the block goes
+-- within the block, the access at k comes after a test of its index
 pub record IsTested (all : List Instr) (s e k len : ℕ) (index : Expr) : Type 0 where
   pub place : ℕ
   pub low : s ≤ place
@@ -57,7 +57,7 @@ pub record IsTested (all : List Instr) (s e k len : ℕ) (index : Expr) : Type 0
   pub enters : (from to : ℕ) (i : Instr) → s ≤ from → from < e → slice_get all from ≡ Some i → target i ≡ Some to → place < to → to ≤ k
       → (place < from) × (from < k)
 
--- an instruction may stand at a place of a block
+-- a block may have this instruction at this place
 abbrev pub May : List Instr → ℕ → ℕ → ℕ → Instr → Type 0
 May all s e k (Unlock m) = StandsBefore all k (Holds m)
 May all s e k (Sleep c m) = StandsBefore all k (Holds m) × (slice_get all (k + 1) ≡ Some (Wake c m))
@@ -86,7 +86,7 @@ May all s e k (Cas t c v w) = Unit {0}
 May all s e k Fence = Unit {0}
 May all s e k Stbar = Unit {0}
 
--- each instruction from s up to e may stand there, and a jump may lead to the first
+-- the block may have each instruction from s up to e at its place, and a jump may lead to the first
 pub record Block (all : List Instr) (s e : ℕ) : Type 0 where
   pub ends : s ≤ e
   pub stands : (k : ℕ) (i : Instr) → s ≤ k → k < e → slice_get all k ≡ Some i → May all s e k i
@@ -103,7 +103,7 @@ pub block_lands : (all : List Instr) (s e k : ℕ) (i : Instr) (to : ℕ) → Bl
     → Lands all s e to
 block_lands all s e k i to b low high at leads = lands all s e k i to (b.stands k i low high at) leads
 
--- a jump from elsewhere leads past a block, or to its first instruction
+-- a jump from elsewhere leads past a block or to its first instruction
 abbrev pub Spares : List Instr → ℕ → ℕ → ℕ → ℕ → Type 0
 Spares all s e s' e' = (from to : ℕ) (i : Instr) → s ≤ from → from < e → (from < s') ⊎ (e' ≤ from) → slice_get all from ≡ Some i → target i ≡ Some to
     → (to ≤ s') ⊎ (e' ≤ to)
@@ -176,7 +176,7 @@ inner : (all : List Instr) (s e s' e' : ℕ) → s ≤ s' → e' ≤ e → (e' <
     → (k : ℕ) (i : Instr) → s' ≤ k → k < e' → slice_get all k ≡ Some i → May all s e k i
 inner all s e s' e' low high free spares b k i above below at = larger all s e s' e' k i low high free spares below (b.stands k i above below at)
 
--- ---- blocks that are put together
+-- ---- composition of blocks
 
 pub no_block : (all : List Instr) (s : ℕ) → Block all s s
 no_block all s = record {
@@ -185,11 +185,11 @@ no_block all s = record {
   starts = λ less. absurd (omega (arith, less));
 }
 
--- an instruction that is there is the one that stands there
+-- two instructions at one place are equal
 pub there_is : (all : List Instr) (k : ℕ) (i j : Instr) → slice_get all k ≡ Some i → slice_get all k ≡ Some j → i ≡ j
 there_is all k i j h g = same_Some i j (sym h ∙ g)
 
--- a place that has an instruction to which a jump may lead
+-- a jump may lead to an instruction that doesn't belong to the one before it
 free_at : (all : List Instr) (k : ℕ) (j : Instr) → slice_get all k ≡ Some j → is_glued j ≡ false → IsFree all k
 free_at all k j at unglued i there = ap is_glued (there_is all k i j there at) ∙ unglued
 
@@ -202,7 +202,7 @@ jump_is : (all : List Instr) (k : ℕ) (j i : Instr) (t to : ℕ) → slice_get 
     → target i ≡ Some to → t ≡ to
 jump_is all k j i t to at is there leads = same_Some t to (sym is ∙ ap target (there_is all k j i at there) ∙ leads)
 
--- one after the other
+-- two blocks, one after the other
 pub both_blocks : (all : List Instr) (s m e : ℕ) → Block all s m → Block all m e → Block all s e
 both_blocks all s m e a b =
     let spares_a : Spares all s e s m = λ from to i above below outside at leads.
@@ -251,7 +251,7 @@ skipped all s e c at a =
       starts = λ some. free_at all s (Branch c e) at refl;
     }
 
--- what stands at a place, where that is known
+-- a fact on the known instruction at a place holds for any instruction there
 stands_there : (all : List Instr) (s e p k : ℕ) (j i : Instr) → p ≡ k → slice_get all p ≡ Some j → slice_get all k ≡ Some i → May all s e k j → May all s e k i
 stands_there all s e p k j i same at there may =
     subst (May all s e k) (there_is all k j i (subst (λ n. slice_get all n ≡ Some j) same at) there) may
@@ -262,7 +262,7 @@ leads_there : (all : List Instr) (p from : ℕ) (j i : Instr) (t to : ℕ) → p
 leads_there all p from j i t to same at is there leads =
     jump_is all p j i t to at is (subst (λ n. slice_get all n ≡ Some i) (sym same) there) leads
 
--- a test with a block for each answer
+-- a test with a block for each result
 pub forked : (all : List Instr) (s m e : ℕ) (c : Expr) → slice_get all s ≡ Some (Branch c (m + 1)) → slice_get all m ≡ Some (Goto e)
     → Block all (s + 1) m → Block all (m + 1) e → Block all s e
 forked all s m e c first past a b =
@@ -316,7 +316,7 @@ forked all s m e c first past a b =
       starts = λ some. free_at all s (Branch c (m + 1)) first refl;
     }
 
--- a test, a body and back, from the start of what finds the test's value
+-- a loop: the value of the test, the test, the body, and the jump back
 pub looped_back : (all : List Instr) (s m n : ℕ) (c : Expr) → slice_get all m ≡ Some (Branch c (n + 1)) → slice_get all n ≡ Some (Goto s)
     → Block all s m → Block all (m + 1) n → Block all s (n + 1)
 looped_back all s m n c test back a b =
@@ -383,7 +383,7 @@ looped_back all s m n c test back a b =
       starts = λ some. free_s;
     }
 
--- the test of an index, what finds a value and leaves the index as it is, and the store
+-- after the test of an index, instructions that don't change the index, and then the store
 pub stored_after : (all : List Instr) (s m first len : ℕ) (index value : Expr) → slice_get all s ≡ Some (Inside len index)
     → slice_get all m ≡ Some (StoreAt first len index value)
     → ((at : ℕ) (i : Instr) → slice_get all at ≡ Some i → s < at → at < m → IsTrue (keeps index i)) → Block all (s + 1) m → Block all s (m + 1)
@@ -432,7 +432,7 @@ stored_after all s m first len index value test write kept a =
 
 -- ---- blocks of one, two and three
 
--- an instruction that goes with no other
+-- an instruction that doesn't belong to another
 pub one_block : (all : List Instr) (s : ℕ) (j : Instr) → slice_get all s ≡ Some j → is_glued j ≡ false
     → ((k : ℕ) → May all s (s + 1) k j) → Block all s (s + 1)
 one_block all s j at unglued may = record {
@@ -441,7 +441,7 @@ one_block all s j at unglued may = record {
   starts = λ some. free_at all s j at unglued;
 }
 
--- an instruction, and one that goes only with it
+-- an instruction, and one that belongs to it
 pub two_block : (all : List Instr) (s : ℕ) (j g : Instr) → slice_get all s ≡ Some j → slice_get all (s + 1) ≡ Some g → is_glued j ≡ false
     → ((k : ℕ) → May all s (s + 2) k j) → May all s (s + 2) (s + 1) g → Block all s (s + 2)
 two_block all s j g at next unglued may after = record {
@@ -456,7 +456,7 @@ two_block all s j g at next unglued may after = record {
   starts = λ some. free_at all s j at unglued;
 }
 
--- directly before the next place
+-- an instruction is directly before the next place
 pub before_next : (all : List Instr) (s : ℕ) (j : Instr) → slice_get all s ≡ Some j → StandsBefore all (s + 1) j
 before_next all s j at = subst (λ n. StandsBefore all n j) (sym (add-one s)) at
 

@@ -97,7 +97,7 @@ filled-last : (end : ℕ) (ks : List ℕ) (k : ℕ) (is : List Instr) → filled
 filled-last end [] k is = refl
 filled-last end (j ∷ ks) k is = filled-last end ks k (set is j (Goto end))
 
--- ---- what was written, and what is left
+-- ---- the written part and the rest
 
 pub record SoFar (start w : Body) (jumps : List ℕ) (all left : Lowered) : Type 0 where
   pub instrs : start.code.draft ++ all.instrs ≡ filled (length w.code.draft + length left.instrs) jumps w.code.draft ++ left.instrs
@@ -114,7 +114,7 @@ joined first others = record { instrs = first.instrs ++ others.instrs; lines = f
 pub begin_so_far : (start : Body) (all : Lowered) → IsReady start all → SoFar start start [] all all
 begin_so_far start all r = record { instrs = refl; lines = refl; free = refl; even = r.even; room = r.room; below = tt }
 
--- what is left fits
+-- the rest fits
 pub left_fits : (start w : Body) (jumps : List ℕ) (all left : Lowered) → SoFar start w jumps all left
     → length start.code.draft + length all.instrs < 2 ^ 18 → length w.code.draft + length left.instrs < 2 ^ 18
 left_fits start w jumps all left o fits =
@@ -277,7 +277,7 @@ chain_next scope start w new jumps all b o more e so_far h =
 
 -- ---- lines
 
--- a statement without statements inside was written, and got its line
+-- a statement without statements inside was written, and its line was recorded
 pub marked : {A E : Type 0} (old mid new : Body) (all : Written) (line : ℕ) (r : Result A E) → length old.lines.items ≡ length old.code.draft
     → mid.lines.items ≡ old.lines.items → IsAdded old.code mid.code all → new.code ≡ mid.code
     → OnOk r (new.lines.items ≡ mid.lines.items ++ replicate (length mid.code.draft - length mid.lines.items) line)
@@ -306,7 +306,7 @@ marked old mid new all line (Ok a) even same h code lines =
       room = omega (arith, ap (λ w. w.free) code, ap (λ w. length w.draft) code, h.room);
     }
 
--- a test, its body and what ends it
+-- a test, its body and the instructions after the body
 abbrev pub tested_body : ℕ → Evaluated → Expr → ℕ → Lowered → List Instr → Lowered
 tested_body line test condition target body tail = record {
   instrs = test.instrs ++ Branch condition target ∷ [] ++ body.instrs ++ tail;
@@ -494,7 +494,7 @@ module _ (scope : Name → Option Thing) (start w : Body) (jumps : List ℕ) (al
         subst (λ n. SoFar start mid jumps all (record { instrs = []; lines = []; free = n })) (sym h.free)
         (part_written start w mid jumps all left rest (subst (SoFar start w jumps all) whole end_of_chain) h)
 
--- whether more stands after a body
+-- before the last branch, a chain goes on
 pub goes_on_first : (xs : List TreeBranch) (n : ℕ) (last : Option SeenBlock) → n < length xs → goes_on (otherwise_of (map branch_of (drop n xs)) last) ≡ true
 goes_on_first [] n last h = absurd (omega (arith, h))
 goes_on_first (x ∷ xs) zero last h = refl

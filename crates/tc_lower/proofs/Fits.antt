@@ -1,4 +1,4 @@
--- What a program's words leave room for.
+-- The limits hold for a program with few words.
 use Rattle.std.proofs.Common.{ℕ, ◌+◌, ◌*◌, ◌≤◌, List, [], ◌∷◌, length, arith}
 use Rattle.tc_limits.specs.declared.limits.TheConstants.{PROGRAM_BYTES}
 use Rattle.tc_tree.specs.declared.expression.Name.{Name}
@@ -25,7 +25,7 @@ use Rattle.tc_tree.specs.Grammar.{
   statements_then,
 }
 use Rattle.tc_lower.specs.declared.things.Named.{Named}
-use Rattle.tc_lower.specs.Things.{scope, own_things, ints}
+use Rattle.tc_lower.specs.Things.{thing_in_scope, own_things, ints}
 use Rattle.tc_lower.specs.Statements.{all_lowered}
 use Rattle.tc_lower.specs.helpers.Programs.{BodyFits, ThreadsFit}
 use Rattle.tc_lower.proofs.Widths.{statements_width}
@@ -53,15 +53,15 @@ globals_width (Mutex m ∷ gs) rest = omega (arith, globals_width gs rest)
 globals_width (Condition c ∷ gs) rest = omega (arith, globals_width gs rest)
 
 module _ (source : List ℕ) (all : List Named) where
-  -- a body, and what stands after it
+  -- a body, and the words after it
   body_width : (parameters : List Name) (b : Body) (rest : List Word)
-      → length (all_lowered (scope source (own_things parameters b.locals) all) 0 (length parameters + ints b.locals) b.statements).instrs + 3 * length b.locals
+      → length (all_lowered (thing_in_scope source (own_things parameters b.locals) all) 0 (length parameters + ints b.locals) b.statements).instrs + 3 * length b.locals
       + 3 * length rest ≤ 3 * length (body_then b rest)
   body_width parameters b rest =
       omega (
         arith,
         locals_width b.locals (statements_then b.statements (AnEnd b.end ∷ rest)),
-        statements_width (scope source (own_things parameters b.locals) all) 0 (length parameters + ints b.locals) b.statements (AnEnd b.end ∷ rest),
+        statements_width (thing_in_scope source (own_things parameters b.locals) all) 0 (length parameters + ints b.locals) b.statements (AnEnd b.end ∷ rest),
       )
 
   body_fits : (parameters : List Name) (b : Body) (rest : List Word) (n : ℕ) → length parameters + length (body_then b rest) ≤ n → n ≤ PROGRAM_BYTES
@@ -89,7 +89,7 @@ module _ (source : List ℕ) (all : List Named) where
         body_width t.parameters t.body (threads_then ts rest),
       )
 
--- what a program of few words has
+-- what a program with few words has
 pub record HasFew (source : List ℕ) (all : List Named) (p : Program) : Type 0 where
   pub globals : length p.globals ≤ PROGRAM_BYTES
   pub threads : length p.threads ≤ PROGRAM_BYTES

@@ -1,4 +1,4 @@
--- A body that is a block, and then the exit, are a lawful function.
+-- A block followed by the exit is a lawful function.
 use Rattle.std.proofs.Common.{
   ◌≡◌,
   ℕ,
@@ -44,7 +44,7 @@ use Rattle.tc_lower.proofs.Ints.{AllFine, fine_append, fine_at, none}
 use Rattle.tc_lower.proofs.Parts.{IsAt, at_right, at_first, all_append, all_pass, first_true, second_true}
 use Rattle.tc_lower.proofs.Sound.{names_apart}
 
--- what isn't bound to the one before it for a jump's sake isn't bound
+-- an instruction to which a jump may lead isn't bound to the one before it
 unbound : (i : Instr) → is_glued i ≡ false → is_bound i ≡ false
 unbound (LoadAt t a len index) h = refl
 unbound (Unlock m) h = h
@@ -53,13 +53,13 @@ unbound (Wake c m) h = h
 unbound (Join h) g = g
 unbound _ h = refl
 
--- there is an instruction at each place
+-- each place below the length has an instruction
 pub there_at : (all : List Instr) (k : ℕ) → k < length all → (i : Instr) × (slice_get all k ≡ Some i)
 there_at [] k within = absurd (omega (arith, within))
 there_at (i ∷ all) zero within = (i, refl)
 there_at (i ∷ all) (suc k) within = there_at all k (omega (arith, within))
 
--- the place that something stands before
+-- the place directly before a place, with its instruction
 before_is : (all : List Instr) (k : ℕ) (i : Instr) → StandsBefore all k i → (p : ℕ) × (p + 1 ≡ k) × (slice_get all p ≡ Some i)
 before_is all zero i h = absurd h
 before_is all (suc p) i h = (p, add-one p, h)
@@ -145,7 +145,7 @@ module _ (code : Code) (f : Func) (body : List Instr) (whole : f.instrs ≡ body
         },
       )
 
-  -- each instruction names what is there, and keeps the arrays apart
+  -- each instruction names existing things, and treats the arrays as separate
   each_names : (arrays : List lawful.Array) → IsTrue (list_all (names_apart arrays code f) body) → (k : ℕ) (i : Instr) → slice_get f.instrs k ≡ Some i
       → IsTrue (names_apart arrays code f i)
   each_names arrays named k i there =

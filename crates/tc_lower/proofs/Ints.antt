@@ -1,4 +1,4 @@
--- The code of a program whose numbers are ints has ints alone.
+-- If the numbers of a program are ints, those of its code are ints.
 use Rattle.std.proofs.Common.{◌≡◌, ℕ, zero, suc, ◌+◌, Bool, true, false, cond, nat_eq, List, [], ◌∷◌, ◌++◌, length, replicate, Option, Some, None, pos, arith}
 use Rattle.std.proofs.Common.{slice_get, subst}
 use Rattle.std.specs.List.{All}
@@ -182,7 +182,7 @@ record AllInts (a : Arguments) : Type 0 where
   instrs : AllFine a.instrs
 
 module _ (scope : Name → Option Thing) where
-  -- an expression, and what stands after it
+  -- an expression, and the words after it
   expression_ints : (e : Expression) (rest : List Word) → AreInts (expression_then e rest)
       → ((at free : ℕ) → Ints (evaluated scope at free e)) × AreInts rest
   expression_ints (Number n) rest h = (λ at free. record { value = h.0; instrs = tt }, h.1)
@@ -435,7 +435,7 @@ parameters_ints : (xs : List Name) (rest : List Word) → AreInts (parameters_th
 parameters_ints [] rest h = h
 parameters_ints (x ∷ xs) rest h = other_parameters_ints xs rest h.1.1
 
--- wherever the statements of the body are written, and in whatever scope
+-- for each scope and each place of the statements
 abbrev pub BodyInts : Body → Type 0
 BodyInts b = (scope : Name → Option Thing) (at free : ℕ) → AllFine (all_lowered scope at free b.statements).instrs
 

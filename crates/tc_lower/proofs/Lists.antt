@@ -4,13 +4,13 @@ use Rattle.std.proofs.Common.{ap, sym, ◌∙◌, append_assoc, arith, add-one, 
 use Rattle.std.proofs.Math.Seq.{drop-cons, take-length, set-append_seam}
 use Rattle.std.proofs.lemmas.List.{map-set, length-map, length-replicate}
 
--- what computes over lists that are written one after another
+-- laws of lists that are written one after another
 pub ruleset rows = (length-append, append_assoc, map-set, length-map)
 
--- what computes over the lines of instructions
+-- laws of the lines of instructions
 pub ruleset lined = (rows, length-replicate)
 
--- the room of a branch is taken, between the two sides of `&&` or `||`
+-- a branch is put into its reserved place, between the two sides of `&&` or `||`
 pub set-choice : {A : Type 0} (old p q : List A) (decided room branch last : A) (place : ℕ) → place ≡ length (old ++ p) + 1
     → set ((((old ++ p) ++ decided ∷ room ∷ []) ++ q) ++ last ∷ []) place branch
     ≡ old ++ (p ++ decided ∷ branch ∷ [] ++ q ++ last ∷ [])
@@ -24,7 +24,7 @@ set-choice old p q decided room branch last place e =
 
 pub ruleset choices = (rows, set-choice)
 
--- one element further in a list
+-- the rest of a list from one of its elements on
 pub drop-here : {A : Type 0} (xs : List A) (k : ℕ) (x : A) → k < length xs → x ≡ get_or xs k x → drop k xs ≡ x ∷ drop (k + 1) xs
 drop-here xs k x within is =
     drop-cons xs k x within ∙ ap (λ y. y ∷ drop (suc k) xs) (sym is) ∙ ap (λ n. x ∷ drop n xs) (sym (add-one k))
@@ -33,7 +33,7 @@ pub drop-next : {A B : Type 0} (f : A → B) (xs : List A) (k : ℕ) (x : A) →
     → map f (drop k xs) ≡ f x ∷ map f (drop (k + 1) xs)
 drop-next f xs k x within is = ap (map f) (drop-here xs k x within is)
 
--- the first element and those after it
+-- a list that isn't empty is its first element and the rest
 pub rest_is : {A : Type 0} (rest : List A) (x : A) → 1 ≤ length rest → rest ≡ get_or rest 0 x ∷ take (length rest - 1) (drop 1 rest)
 rest_is [] x some = absurd (omega (arith, some))
 rest_is (y ∷ ys) x some =

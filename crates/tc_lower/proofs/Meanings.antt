@@ -24,7 +24,7 @@ use Rattle.tc_lower.specs.declared.things.Thing.{Thing}
 use Rattle.tc_lower.specs.Things.{
   thing_in,
   own_first,
-  scope,
+  thing_in_scope,
   past_global,
   globals_from,
   no_numbers,
@@ -103,7 +103,7 @@ module _ (source : List ℕ) (x : Name) where
 
 pub names_agree : (source : List ℕ) (p : Program) (parameters : List Name) (b : Body) (x : Name)
     → Agree (meaning_in source (own_declarations parameters b.locals ++ program_declarations p) x)
-    (scope source (own_things parameters b.locals) (program_things p.globals p.threads) x)
+    (thing_in_scope source (own_things parameters b.locals) (program_things p.globals p.threads) x)
 names_agree source p parameters b x =
     scope_alike source x (own_declarations parameters b.locals) (own_things parameters b.locals) (program_declarations p)
     (program_things p.globals p.threads)

@@ -44,7 +44,7 @@ memory_split (Array a n) gs = ap (λ zs. zs ++ memory_of gs) (sym (append-nil _)
 memory_split (Mutex m) gs = refl
 memory_split (Condition c) gs = refl
 
--- the cells so far and those of the globals that are left make up all
+-- the cells so far, with those of the remaining globals, are all cells
 pub record CellsSoFar (all : List Global) (memory : List ℤ) (rest : List Global) : Type 0 where
   pub written : memory ++ memory_of rest ≡ memory_of all
   pub few : length memory + cells rest ≤ CELLS
@@ -66,7 +66,7 @@ pub cell_fits : (all : List Global) (memory : List ℤ) (rest : List Global) (x 
     → length memory + cells_of (get_or rest 0 x) ≤ CELLS
 cell_fits all memory rest x o some = omega (arith, o.few, ap cells (rest_is rest x some))
 
--- the functions so far and those of the threads that are left make up all
+-- the functions so far, with those of the remaining threads, are all functions
 pub record FunctionsSoFar (source : List ℕ) (all : List Named) (threads : List TreeThread) (functions : List Func) (rest : List TreeThread) : Type 0 where
   pub written : functions ++ map (thread_function source all) (map thread_of rest) ≡ map (thread_function source all) (map thread_of threads)
   pub fit : ThreadsFit source all (map thread_of rest)

@@ -47,7 +47,7 @@ few_conditions n (Array a size) = omega arith
 few_conditions n (Mutex m) = omega arith
 few_conditions n (Condition c) = omega arith
 
--- the names so far and those of the globals that are left make up all
+-- the names so far, with those of the remaining globals, are all names
 pub record GlobalsSoFar (start : List Named) (all : List Global) (names : List Named) (n : Numbers) (rest : List Global) : Type 0 where
   pub things : names ++ globals_from n rest ≡ start ++ globals_from no_numbers all
   pub cells : n.cells + cells rest ≡ cells all

@@ -1,4 +1,4 @@
--- Instructions that stand in a function from a place on.
+-- Instructions of a function from a place on.
 use Rattle.std.proofs.Common.{
   ◌≡◌,
   ℕ,
@@ -59,7 +59,7 @@ at_right all s a b h = record {
   place = length-append h.before a ∙ ap (λ n. n + length a) h.place;
 }
 
--- the first of them is there
+-- the first instruction is at this place
 pub at_first : (all : List Instr) (s : ℕ) (i : Instr) (is : List Instr) → IsAt all s (i ∷ is) → slice_get all s ≡ Some i
 at_first all s i is h =
     ap (slice_get all) (sym h.place) ∙ ap (λ js. slice_get js (length h.before)) h.whole ∙ seam h.before i (is ++ h.after)
@@ -79,7 +79,7 @@ pub both_true : (a b : Bool) → IsTrue a → IsTrue b → IsTrue (a && b)
 both_true true b h g = g
 both_true false b h g = absurd (false≢true h)
 
--- what all of them pass, each does at its place
+-- if all of them pass a test, each passes it at its place
 pub all_pass : (p : Instr → Bool) (all : List Instr) (s : ℕ) (is : List Instr) → IsAt all s is → IsTrue (list_all p is)
     → (k : ℕ) (i : Instr) → s ≤ k → k < s + length is → slice_get all k ≡ Some i → IsTrue (p i)
 all_pass p all s [] h passes k i low high there = absurd (omega (arith, low, high))
@@ -100,7 +100,7 @@ all_append p [] js h g = g
 all_append p (i ∷ is) js h g = both_true (p i) (list_all p (is ++ js)) (first_true (p i) (list_all p is) h)
     (all_append p is js (second_true (p i) (list_all p is) h) g)
 
--- what follows from passing
+-- a weaker test passes too
 pub all_weaker : {A : Type 0} (p q : A → Bool) → ((i : A) → IsTrue (p i) → IsTrue (q i)) → (is : List A) → IsTrue (list_all p is) → IsTrue (list_all q is)
 all_weaker p q f [] h = refl
 all_weaker p q f (i ∷ is) h =

@@ -1,4 +1,4 @@
--- Statements: their instructions are a block, and name what is there.
+-- Statements: their instructions are a block and name existing things.
 use Rattle.std.proofs.Common.{
   ◌≡◌,
   ℕ,
@@ -122,7 +122,7 @@ module _ (arrays : List lawful.Array) (code : Code) (f : Func) (base : ℕ) wher
         (both_blocks all at (at + length is) (at + length is + length js) (a.block all (at_left all at is js h)) (b.block all (at_right all at is js h)));
   }
 
-  -- one that goes with no other
+  -- an instruction that doesn't belong to another
   one_piece : (at free next : ℕ) (i : Instr) → free ≤ next → (next ≤ f.ints → IsTrue (names_apart arrays code f i)) → is_glued i ≡ false
       → ((all : List Instr) (k : ℕ) → May all at (at + 1) k i) → Piece arrays code f at free next (i ∷ [])
   one_piece at free next i up named unglued may = record {
@@ -131,7 +131,7 @@ module _ (arrays : List lawful.Array) (code : Code) (f : Func) (base : ℕ) wher
     block = λ all h. one_block all at i (at_first all at i [] h) unglued (may all);
   }
 
-  -- and one that goes with the one before it
+  -- an instruction with one that belongs to it
   two_piece : (at free : ℕ) (i j : Instr) → IsTrue (names_apart arrays code f i) → IsTrue (names_apart arrays code f j) → is_glued i ≡ false
       → ((all : List Instr) (k : ℕ) → May all at (at + 2) k i)
       → ((all : List Instr) → slice_get all at ≡ Some i → May all at (at + 2) (at + 1) j) → Piece arrays code f at free free (i ∷ j ∷ [])
@@ -251,10 +251,10 @@ module _ (arrays : List lawful.Array) (code : Code) (f : Func) (base : ℕ) wher
       created_if at free (nat_eq n (length es)) h g n es refl handle function named
   creation_piece at free _ _ es handle function named = no_piece at free
 
-  -- ---- in a scope whose things are there
+  -- ---- in a scope of existing things
 
   module _ (scope : Name → Option Thing) (there : (x : Name) → IfThere arrays code f base (scope x)) where
-    -- a value, and what is done with it
+    -- a value, and the use of it
     value_and : (at free next : ℕ) (e : Expression) (is : List Instr) → base ≤ free
         → Piece arrays code f (at + length (evaluated scope at free e).instrs) (evaluated scope at free e).free next is
         → Piece arrays code f at free next ((evaluated scope at free e).instrs ++ is)
@@ -270,7 +270,7 @@ module _ (arrays : List lawful.Array) (code : Code) (f : Func) (base : ℕ) wher
         value_and at free v.free e (assignment (scope x) v.value) low
         (assignment_piece (at + length v.instrs) v.free (scope x) v.value (omega (arith, low, s.grows)) (there x) s.value)
 
-    -- an array's store, as the array is one or not
+    -- the store to an array, or to no array
     store_piece : (at free : ℕ) (o : Option Thing) (i e : Expression) → base ≤ free → IfThere arrays code f base o
         → let index = evaluated scope at free i in
         let test = test_of_index o index.value in
@@ -338,7 +338,7 @@ module _ (arrays : List lawful.Array) (code : Code) (f : Func) (base : ℕ) wher
         (subst (λ n. Piece arrays code f n index.free v.free v.instrs) place (value_piece (at + length index.instrs + 0) index.free v b)))
         (no_piece (at + length (index.instrs ++ [] ++ v.instrs)) v.free)
 
-    -- arguments, and that they name slots that are there
+    -- arguments, all of which name existing slots
     record Given (at free : ℕ) (given : Arguments) : Type 0 where
       piece : Piece arrays code f at free given.free given.instrs
       values : IsTrue (list_all (names_slots given.free) given.values)
@@ -399,7 +399,7 @@ module _ (arrays : List lawful.Array) (code : Code) (f : Func) (base : ℕ) wher
 
     -- ---- statements of statements
 
-    -- a piece, each instruction of which has its line
+    -- a piece in which each instruction has its line
     pub record Lined (at free : ℕ) (l : Lowered) : Type 0 where
       pub piece : Piece arrays code f at free l.free l.instrs
       pub lines : length l.lines ≡ length l.instrs

@@ -60,7 +60,7 @@ use Rattle.tc_names.specs.Names.{name_text}
 use Rattle.tc_lower.specs.Things.{
   thing_in,
   own_first,
-  scope,
+  thing_in_scope,
   past_global,
   globals_from,
   no_numbers,
@@ -98,7 +98,7 @@ seam : {A : Type 0} (xs : List A) (y : A) (ys : List A) → slice_get (xs ++ y �
 seam [] y ys = refl
 seam (x ∷ xs) y ys = seam xs y ys
 
--- ---- things that are there
+-- ---- existing things
 
 abbrev pub AllThere : List lawful.Array → Code → Func → ℕ → List Named → Type 0
 AllThere arrays code f base [] = Unit {0}
@@ -120,7 +120,7 @@ module _ (arrays : List lawful.Array) (code : Code) (f : Func) (base : ℕ) wher
   first_there None q h g = g
 
   pub scope_there : (source : List ℕ) (own all : List Named) → AllThere arrays code f base own → AllThere arrays code f base all → (x : Name)
-      → IfThere arrays code f base (scope source own all x)
+      → IfThere arrays code f base (thing_in_scope source own all x)
   scope_there source own all h g x =
       first_there (thing_in source own x) (thing_in source all x) (found_there source own x h) (found_there source all x g)
 
@@ -185,7 +185,7 @@ memory_length (Condition c ∷ gs) = omega (arith, memory_length gs)
 
 -- ---- functions
 
--- a function is lawful, and keeps these arrays apart
+-- a function is lawful and treats these arrays as separate
 record IsLawfulWith (arrays : List lawful.Array) (code : Code) (f : Func) : Type 0 where
   pub lawful : IsLawfulFunction code f
   pub apart : (k : ℕ) (i : Instr) → slice_get f.instrs k ≡ Some i → IsTrue (keeps_apart arrays i)
@@ -212,8 +212,8 @@ module _ (source : List ℕ) (p : Program) (few : cells p.globals ≤ CELLS) (ha
       (parameters_there arrays code f base 0 parameters (omega arith))
       (locals_there arrays code f base (length parameters) 0 b.locals (omega arith) (omega arith)) in
       let there = scope_there arrays code f base source own all inner outer in
-      let written = all_lowered (scope source own all) 0 base b.statements in
-      let lined = all_lined arrays code f base (scope source own all) there 0 base b.statements (omega arith) in
+      let written = all_lowered (thing_in_scope source own all) 0 base b.statements in
+      let lined = all_lined arrays code f base (thing_in_scope source own all) there 0 base b.statements (omega arith) in
       let named = lined.piece.named (omega arith) in
       let is_at : IsAt f.instrs 0 written.instrs = record { before = []; after = Exit ∷ []; whole = refl; place = refl } in
       let block : Block f.instrs 0 (length written.instrs) =
@@ -221,7 +221,7 @@ module _ (source : List ℕ) (p : Program) (few : cells p.globals ≤ CELLS) (ha
       record {
         lawful = function_is_lawful code f written.instrs refl block arrays
             (omega (arith, lined.lines, length-append written.lines (b.end.line ∷ []), length-append written.instrs (Exit ∷ [])))
-            (omega (arith, lined.piece.grows)) named (fine (scope source own all) 0 base);
+            (omega (arith, lined.piece.grows)) named (fine (thing_in_scope source own all) 0 base);
         apart = function_keeps_apart code f written.instrs refl block arrays named;
       }
 

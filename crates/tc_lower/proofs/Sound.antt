@@ -1,4 +1,4 @@
--- Values: their instructions are a block, and name and write what they may.
+-- Values: their instructions are a block, and name and write only what they may.
 use Rattle.std.proofs.Common.{
   ◌≡◌,
   ℕ,
@@ -65,7 +65,7 @@ le_true a b h = grind (arith, nat_tests, h)
 slot_more : (k n m : ℕ) → n ≤ m → IsTrue (nat_lt k n) → IsTrue (nat_lt k m)
 slot_more k n m up h = grind (arith, nat_tests, up, h)
 
--- more slots have the same names
+-- names that exist among some slots exist among more
 pub names_more : (e : Expr) (n m : ℕ) → n ≤ m → IsTrue (names_slots n e) → IsTrue (names_slots m e)
 names_more (code_expr.Number z) n m up h = refl
 names_more (code_expr.Slot k) n m up h = slot_more k n m up h
@@ -111,7 +111,7 @@ kept_write : (free : ℕ) (e : Expr) (o : Option ℕ) → IsTrue (names_slots fr
 kept_write free e None named h = refl
 kept_write free e (Some k) named h = ap not (unnamed e free k (low_enough free k h) named)
 
--- what writes free slots leaves an expression over the others as it is
+-- a write to free slots doesn't change an expression over the others
 pub keeps_earlier : (free : ℕ) (e : Expr) (i : Instr) → IsTrue (names_slots free e) → IsTrue (writes_from free i) → IsTrue (keeps e i)
 keeps_earlier free e i named h = kept_write free e (written i) named h
 
@@ -125,11 +125,11 @@ stands_at all s s' is same h = subst (λ n. IsAt all n is) same h
 
 -- ---- things
 
--- whether all that an instruction names is there, and goes with these arrays
+-- whether all that an instruction names exists and fits these arrays
 abbrev pub names_apart : List lawful.Array → Code → Func → Instr → Bool
 names_apart arrays code f i = keeps_apart arrays i && names_what_is code f i
 
--- what is there, and goes with these arrays
+-- a thing exists and fits these arrays
 abbrev pub InBounds : List lawful.Array → Code → Func → ℕ → Thing → Type 0
 InBounds arrays code f base (Cell c) = (c < length code.memory) × IsTrue (list_all (is_outside c) arrays)
 InBounds arrays code f base (Array a len) = (a + len ≤ length code.memory) × IsTrue (is_array arrays a len)
@@ -152,7 +152,7 @@ pub record Sound (arrays : List lawful.Array) (code : Code) (f : Func) (at free 
   pub fresh : IsTrue (list_all (writes_from free) v.instrs)
   pub block : (all : List Instr) → IsAt all at v.instrs → Block all at (at + length v.instrs)
 
--- nothing is done for the value
+-- a value without instructions
 pub nothing_sound : (arrays : List lawful.Array) (code : Code) (f : Func) (at free : ℕ) (e : Expr) → IsTrue (names_slots free e)
     → Sound arrays code f at free (record { instrs = []; value = e; free = free })
 nothing_sound arrays code f at free e named =
@@ -165,7 +165,7 @@ nothing_sound arrays code f at free e named =
       block = λ all h. block_at all at at at (at + 0) refl end (no_block all at);
     }
 
--- one after the other
+-- two values, one after the other
 pub after_sound : (arrays : List lawful.Array) (code : Code) (f : Func) (at free : ℕ) (v w : Evaluated) → Sound arrays code f at free v
     → Sound arrays code f (at + length v.instrs) v.free w
     → Sound arrays code f at free (after v.instrs w)
@@ -241,7 +241,7 @@ module _ (arrays : List lawful.Array) (code : Code) (f : Func) (base : ℕ) wher
     block = λ all h. one_block all at (InRange q) (at_first all at (InRange q) [] h) refl (λ k. tt);
   }
 
-  -- one instruction that writes nothing, and goes with no other
+  -- one instruction that writes nothing and doesn't belong to another
   tests_sound : (at free : ℕ) (op : BinOp) (q v : Expr) → IsTrue (names_slots free q) → IsTrue (names_slots free v)
       → Sound arrays code f at free (record { instrs = tested op q; value = v; free = free })
   tests_sound at free binary.Div q v q_named v_named = nonzero_sound at free q v q_named v_named
@@ -328,7 +328,7 @@ module _ (arrays : List lawful.Array) (code : Code) (f : Func) (base : ℕ) wher
   joined_sound at free None op p right a b =
       choice_sound at free op p (right (at + length p.instrs + 2) (p.free + 1)) a (b (at + length p.instrs + 2) (p.free + 1) (omega (arith, a.grows)))
 
-  -- ---- in a scope whose things are there
+  -- ---- in a scope of existing things
 
   module _ (scope : Name → Option Thing) (there : (x : Name) → IfThere arrays code f base (scope x)) where
     pub evaluated_sound : (at free : ℕ) (e : Expression) → base ≤ free → Sound arrays code f at free (evaluated scope at free e)

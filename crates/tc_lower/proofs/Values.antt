@@ -30,7 +30,7 @@ use Rattle.tc_lower.specs.declared.value.Writer.{Writer}
 use Rattle.tc_lower.specs.Values.{evaluated, arguments}
 use Rattle.tc_lower.proofs.Lists.{drop-here}
 
--- the arguments that are left, and what was written, make up all
+-- the remaining arguments, with what was written, are all arguments
 pub record ArgumentsSoFar (scope : Name → Option Thing) (start w : Writer) (values : List Expr) (all rest : List Expression) : Type 0 where
   pub instrs : start.draft ++ (arguments scope (length start.draft) start.free all).instrs
       ≡ w.draft ++ (arguments scope (length w.draft) w.free rest).instrs
@@ -43,7 +43,7 @@ module _ (scope : Name → Option Thing) (start w : Writer) (values : List Expr)
   next_is : (drop k xs) ≡ x ∷ (drop (k + 1) xs)
   next_is = drop-here xs k x within is
 
-  -- the next one fits
+  -- the next argument fits
   pub argument_fits : length start.draft + length (arguments scope (length start.draft) start.free all).instrs < 2 ^ 18
       → length w.draft + length (evaluated scope (length w.draft) w.free x).instrs < 2 ^ 18
   argument_fits fits =
@@ -53,7 +53,7 @@ module _ (scope : Name → Option Thing) (start w : Writer) (values : List Expr)
       so_far.instrs ∙ ap (λ es. w.draft ++ (arguments scope (length w.draft) w.free es).instrs) next_is in
       omega (arith, fits, simp length-append at (ap length parts))
 
-  -- and is then among what was written
+  -- after the next argument, it is among what was written
   pub argument_next : (new : Writer) (v : Expr)
       → new.draft ≡ w.draft ++ (evaluated scope (length w.draft) w.free x).instrs
       → new.free ≡ (evaluated scope (length w.draft) w.free x).free

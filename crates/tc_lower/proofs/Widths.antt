@@ -1,4 +1,4 @@
--- Code is no longer than three instructions for each word of its program.
+-- Code has at most three instructions for each word of its program.
 use Rattle.std.proofs.Common.{ℕ, ◌+◌, ◌*◌, ◌≤◌, Bool, true, false, cond, nat_eq, List, [], ◌∷◌, ◌++◌, length, Option, Some, None, arith, length-append}
 use Rattle.int_ops.specs.declared.arith.BinOp.{BinOp}
 use Rattle.int_ops.specs.declared.arith.BinOp.TheVariants as binary

@@ -1,4 +1,4 @@
--- Things of the kinds in the rules for names.
+-- The kind of each thing, by the rules for names.
 use Rattle.std.specs.Prelude.{◌≡◌, Option, Some, None}
 use Rattle.tc_names.specs.declared.scope.Meaning.{Meaning}
 use Rattle.tc_names.specs.declared.scope.Meaning.TheVariants as meaning
@@ -17,7 +17,7 @@ IsOfKind meaning.Local (Slot k) = Unit {0}
 IsOfKind meaning.Handle (Handle h) = Unit {0}
 IsOfKind _ _ = ⊥
 
--- a name with a meaning stands for a thing of that kind, and any other name for nothing
+-- a name with a meaning denotes a thing of that kind, and any other name denotes nothing
 abbrev pub Agree : Option Meaning → Option Thing → Type 0
 Agree None None = Unit {0}
 Agree (Some m) (Some t) = IsOfKind m t

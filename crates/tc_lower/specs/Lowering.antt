@@ -13,7 +13,7 @@ use Rattle.tc_tree.specs.Grammar.{Body, Thread, Program}
 use Rattle.tc_tree.specs.Counts.{elements, mutexes, conditions}
 use Rattle.tc_lower.specs.declared.things.Named.{Named}
 use Rattle.tc_names.specs.Names.{name_text}
-use Rattle.tc_lower.specs.Things.{scope, own_things, program_things, ints, handles}
+use Rattle.tc_lower.specs.Things.{thing_in_scope, own_things, program_things, ints, handles}
 use Rattle.tc_lower.specs.Statements.{all_lowered}
 
 abbrev pub initial_value : Initial → ℤ
@@ -33,7 +33,7 @@ memory_of (Condition c ∷ gs) = memory_of gs
 abbrev pub function_of : List ℕ → List Named → List ℕ → List Name → Body → Func
 function_of source all name parameters b =
     let own = own_things parameters b.locals in
-    let code = all_lowered (scope source own all) 0 (length parameters + ints b.locals) b.statements in
+    let code = all_lowered (thing_in_scope source own all) 0 (length parameters + ints b.locals) b.statements in
     record {
       name = name;
       params = length parameters;

@@ -1,4 +1,4 @@
--- What the names of a program stand for in its code.
+-- The things that the names of a program denote in its code.
 use Rattle.std.specs.Prelude.{ℕ, ◌+◌, List, [], ◌∷◌, ◌++◌, length, Option, Some, None, bytes_eq, if◌then◌else◌}
 use Rattle.tc_names.specs.Names.{name_text}
 use Rattle.tc_tree.specs.declared.expression.Name.{Name}
@@ -16,7 +16,7 @@ use Rattle.tc_lower.specs.declared.things.Thing.TheVariants as thing
 abbrev pub named : Name → Thing → Named
 named x t = record { name = x; thing = t }
 
--- what a name of this text stands for: the first thing with that name
+-- the thing that a name of this text denotes: the first thing with that name
 abbrev pub thing_in : List ℕ → List Named → Name → Option Thing
 thing_in source [] x = None
 thing_in source (n ∷ ns) x = if bytes_eq (name_text source n.name) (name_text source x) then Some n.thing else thing_in source ns x
@@ -26,9 +26,9 @@ abbrev pub own_first : Option Thing → Option Thing → Option Thing
 own_first (Some t) other = Some t
 own_first None other = other
 
--- what a name in a body stands for
-abbrev pub scope : List ℕ → List Named → List Named → Name → Option Thing
-scope source own all x = own_first (thing_in source own x) (thing_in source all x)
+-- the thing that a name in a body denotes
+abbrev pub thing_in_scope : List ℕ → List Named → List Named → Name → Option Thing
+thing_in_scope source own all x = own_first (thing_in source own x) (thing_in source all x)
 
 -- the thing of a global, after these counts: an int is the next cell, an array the next few
 abbrev pub global_thing : Numbers → Global → Named
@@ -79,10 +79,10 @@ handles [] = 0
 handles (LocalInt x ∷ ls) = handles ls
 handles (Handle x ∷ ls) = 1 + handles ls
 
--- what a body's own names stand for
+-- the things that a body's own names denote
 abbrev pub own_things : List Name → List Local → List Named
 own_things parameters locals = parameters_from 0 parameters ++ locals_from (length parameters) 0 locals
 
--- what the program's names stand for
+-- the things that the program's names denote
 abbrev pub program_things : List Global → List Thread → List Named
 program_things globals threads = globals_from no_numbers globals ++ threads_from 0 threads

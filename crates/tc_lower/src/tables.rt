@@ -18,7 +18,7 @@ pub(crate) struct Numbers {
     pub(crate) conditions: u32,
 }
 
-/// What the names of a program stand for, and how many cells, mutexes and conditions there are.
+/// The things that a program's names mean, and the numbers of cells, mutexes and conditions.
 #[derive(Drop)]
 pub(crate) struct ProgramThings {
     pub(crate) names: Vec<Named>,
@@ -61,7 +61,7 @@ fn add_globals(names: &mut Vec<Named>, globals: &[Global]) -> Result<Numbers, Al
 }
 
 impl Numbers {
-    /// What the next global stands for.
+    /// What the next global denotes.
     fn declare(&mut self, global: &Global) -> Named
         requires cells { self.old.cells + count.cells_of global.now ≤ CELLS }
         requires mutexes { self.old.mutexes < PROGRAM_BYTES }
@@ -179,7 +179,7 @@ impl OwnThings {
         Ok(())
     }
 
-    /// What the next declaration of a body stands for.
+    /// What the next declaration of a body denotes.
     fn declare(&mut self, local: &Local) -> Named
         requires { self.old.slots + self.old.handles < PROGRAM_BYTES }
         ensures names { self.new.names ≡ self.old.names }

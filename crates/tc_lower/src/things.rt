@@ -5,7 +5,7 @@ ghost use Rattle.tc_lower.specs.helpers.Seen.{plain_scope};
 
 use tc_tree::Name;
 
-/// What a name stands for.
+/// What a name denotes.
 #[derive(Clone, Copy, Debug, PartialEq, Eq)]
 pub(crate) enum Thing {
     /// A global int: its cell.
@@ -24,7 +24,7 @@ pub(crate) enum Thing {
     Handle(u32),
 }
 
-/// A name and what it stands for.
+/// A name and what it denotes.
 #[derive(Clone, Copy, Debug)]
 pub(crate) struct Named {
     pub(crate) name: Name,
@@ -64,7 +64,7 @@ fn find(source: &[u8], names: &[Named], name: &Name) -> Option<Thing>
     None
 }
 
-/// What a name stands for, if it has a declaration.
+/// What a name denotes, if it has a declaration.
 pub(crate) fn thing_of(scope: Scope, name: &Name) -> Option<Thing>
     ensures { result ≡ plain_scope scope.entry name.now }
 {

@@ -20,7 +20,7 @@ pub(crate) struct Writer {
     pub(crate) free: u32,
 }
 
-/// What is open of an `&&` or `||` until its right side is written.
+/// What an `&&` or `||` keeps until its right side is written.
 #[derive(Drop)]
 struct Choice {
     /// The slot that takes its value.

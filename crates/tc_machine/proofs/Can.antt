@@ -25,7 +25,7 @@ use Rattle.run_laws.proofs.Guards.{index_is_within}
 use Rattle.run_laws.proofs.Created.{child_is_new}
 use Rattle.run_laws.specs.Counters.{CountersAreBelowLast}
 
--- what a function names, one of the same size names
+-- an instruction that names what a function has names what a thread of the same size has
 names-sized : (code : Code) (f : Func) (t : Local) (i : Instr) → length t.slots ≡ f.ints → length t.handles ≡ f.handles
     → IsTrue (names_what_is code f i) → IsTrue (names_what_is code (sized f t) i)
 names-sized code f t i slots handles h =
@@ -51,14 +51,14 @@ starts code f t (Nonzero e) lawful h = site_starts code t (Nonzero e) _
 starts code f t (InRange e) lawful h = site_starts code t (InRange e) _
 starts code f t i lawful h = tt
 
--- a branch asks for nothing
+-- a branch has a silent request
 branch_asks_nothing : (t : Local) (i : Instr) → IsTrue (is_branch i) → request t i ≡ Silent
 branch_asks_nothing t (Branch e to) h = refl
 branch_asks_nothing t i h = absurd (false≢true h)
 
 module _ {B : Type 0} (ops : BufferOps B) (code : Code) (s : State B) (n : Name) (t : Thread B) (i : Instr) (lawful : IsLawful code)
     (reached : IsReached ops code s) (there : fin.get s.threads n ≡ Some t) (at : instr_of code t.local ≡ Some i) where
-  -- what the instruction names is there
+  -- everything that the instruction names exists
   pub can_ask : CanAsk code t.local i
   can_ask =
       let whole = (reached_is_whole ops code s lawful reached).threads n t there in
@@ -78,7 +78,7 @@ module _ {B : Type 0} (ops : BufferOps B) (code : Code) (s : State B) (n : Name)
     pub can_do : CanDo code t.local i
     can_do = record { asks = can_ask; room = record { place = next; counters = counters n t there } }
 
-    -- where there is room for the next, the thread can do it
+    -- if there is room for one more, the thread can do the instruction
     pub can_perform : CanPerform code s n i (request t.local i) t
     can_perform = record {
       thread = can_do;

@@ -1,4 +1,4 @@
--- The forms by which a buffer drains, among all that are tried.
+-- The forms in which a buffer drains, among all forms that are tried.
 use Rattle.std.proofs.Common.{◌≡◌, ◌∙◌, ◌⊎◌, inl, inr, ℕ, zero, suc, ◌+◌, ◌<◌, ◌≤◌, List, [], ◌∷◌, map, cond, Bool, true, false, ◌||◌, nat_eq}
 use Rattle.std.proofs.Common.{Option, Some, None, refl, ap, sym, arith}
 use Rattle.std.specs.List.{filter, list_any, range_with_len, AllByRecursion}
@@ -16,7 +16,7 @@ use Rattle.std.proofs.lemmas.Map.Keys.{sorted_head, sorted_tail}
 abbrev pub has : List (Option ℕ) → Option ℕ → Bool
 has fs f = list_any (option_eq nat_eq f) fs
 
--- the form of a cell that is at least a number
+-- the form names a cell from this number on
 abbrev IsFrom : ℕ → Option ℕ → Type 0
 IsFrom a None = ⊥
 IsFrom a (Some c) = a ≤ c
@@ -35,7 +35,7 @@ all_after : (c : ℕ) (fs : List (Option ℕ)) → AllByRecursion (λ f. option_
 all_after c [] h = tt
 all_after c (f ∷ fs) h = (after c f h.0, all_after c fs h.1)
 
--- after the form that names none there are cells alone
+-- after the form without a cell there are only forms with cells
 all_cells : (fs : List (Option ℕ)) → AllByRecursion (λ f. option_cmp nat_cmp None f ≡ Less) fs → AllByRecursion (IsFrom 0) fs
 all_cells [] h = tt
 all_cells (None ∷ fs) h = absurd (equal_not_less h.0)
@@ -53,7 +53,7 @@ unequal c d apart = tested (nat_eq c d) refl
     tested true e = absurd (apart ((Decides-eqb c d).0 e))
     tested false e = e
 
--- no cell below these is one of them, and none is the form that names no cell
+-- no lesser cell is among these forms, and neither is the form without a cell
 none_below : (a c : ℕ) (fs : List (Option ℕ)) → AllByRecursion (IsFrom a) fs → c < a → has fs (Some c) ≡ false
 none_below a c [] h lt = refl
 none_below a c (None ∷ fs) h lt = absurd h.0
@@ -78,7 +78,7 @@ has_first : (c : ℕ) (fs : List (Option ℕ)) → has (Some c ∷ fs) (Some c) 
 has_first c fs = ap (λ b. b || has fs (Some c)) (nat_eq_equiv.refl c)
 
 module _ (p : Option ℕ → Bool) where
-  -- what is none of the forms, and so doesn't pass, is left out
+  -- a form that isn't among these doesn't pass, so it is left out
   left_out : (f : Option ℕ) (fs rest : List (Option ℕ)) → (p f ≡ true → has fs f ≡ true) → has fs f ≡ false
       → cond (p f) (f ∷ filter p rest) (filter p rest) ≡ filter p rest
   left_out f fs rest h none = tested (p f) refl
@@ -90,7 +90,7 @@ module _ (p : Option ℕ → Bool) where
   abbrev cells_from : ℕ → ℕ → List (Option ℕ)
   cells_from a n = map (λ c. Some c) (range_with_len a n)
 
-  -- of rising cells in a range those that pass are those of the range that pass, where each that passes is one of them
+  -- the rising cells that pass are those of the range that pass, if all that pass are among them
   rising : (fs : List (Option ℕ)) (a n : ℕ) → IsStrictlySortedBy (option_cmp nat_cmp) fs → AllByRecursion (IsFrom a) fs
       → ((c : ℕ) → a ≤ c → p (Some c) ≡ true → has fs (Some c) ≡ true) → ((c : ℕ) → has fs (Some c) ≡ true → c < a + n)
       → filter p fs ≡ filter p (cells_from a n)
@@ -121,7 +121,7 @@ module _ (p : Option ℕ → Bool) where
             (ap (λ b. b || has fs (Some a)) (unequal a c (λ e. omega (arith, lt, e))) ∙ none_below (c + 1) a fs above (omega (arith, lt))))
       ]
 
-  -- of rising forms those that pass are those of all forms that pass, where each that passes is one of them
+  -- the rising forms that pass are all forms that pass, if all that pass are among them
   pub passing_forms : (fs : List (Option ℕ)) (n : ℕ) → IsStrictlySortedBy (option_cmp nat_cmp) fs → ((f : Option ℕ) → p f ≡ true → has fs f ≡ true)
       → ((c : ℕ) → has fs (Some c) ≡ true → c < n) → filter p fs ≡ filter p (None ∷ cells_from 0 n)
   passing_forms [] n sorted passes ends =

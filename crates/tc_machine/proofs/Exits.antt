@@ -1,4 +1,4 @@
--- Threads that are left.
+-- Threads that haven't exited.
 use Rattle.std.proofs.Common.{◌≡◌, ◌∙◌, ◌&&◌, ◌||◌, ℕ, zero, suc, Bool, true, false, List, [], ◌∷◌, Option, Some, IsSome, refl, ap, sym, subst, true≢false}
 use Rattle.std.specs.Prelude.{slice_get}
 use Rattle.std.specs.FinMap as fin
@@ -25,7 +25,7 @@ some_passes p (y ∷ ys) zero x e h = ap (λ b. b || list_any p ys) (subst (λ z
 some_passes p (y ∷ ys) (suc i) x e h = or_right (p y) (list_any p ys) (some_passes p ys i x e h)
 
 module _ {B : Type 0} (s : State B) where
-  -- a name that is listed is of a thread
+  -- a listed name is that of a thread
   pub listed_there : (i : ℕ) (n : Name) → slice_get (fin.keys s.threads) i ≡ Some n → IsSome (fin.get s.threads n)
   listed_there i n e =
       fin.contains_key-keys s.threads n ∙ some_passes (same n) (fin.keys s.threads) i n e ((eq_by_cmp_equiv nat_list_cmp_total).refl n)
@@ -33,7 +33,7 @@ module _ {B : Type 0} (s : State B) where
   exits : (n : Name) (t : Thread B) → fin.get s.threads n ≡ Some t → has_exited s n ≡ t.local.has_exited
   exits n t there = ap (λ (o : Option (Thread B)). option_map_or (λ u. u.local.has_exited) o false) there
 
-  -- where all have exited none is left
+  -- if all threads have exited, none is left
   pub none_is_left : all_have_exited s ≡ true → (n : Name) → IsLeft s n → ⊥
   none_is_left all n left =
       let listed = Contains-from_any tied n (fin.keys s.threads) (sym (fin.contains_key-keys s.threads n) ∙ some_is _ left.thread left.there) in
@@ -51,6 +51,6 @@ module _ {B : Type 0} (s : State B) where
           let t = some_value (fin.get s.threads n) (there 0 n refl) in
           (n, record { thread = t.0; there = t.1; going = sym (exits n t.0 t.1) ∙ e })
 
-  -- and else some thread is
+  -- otherwise some thread is left
   pub some_is_left : all_have_exited s ≡ false → (n : Name) × IsLeft s n
   some_is_left = left_in (fin.keys s.threads) listed_there

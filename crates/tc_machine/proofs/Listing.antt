@@ -1,4 +1,4 @@
--- Moves that are listed one after another, and that no enabled one is left out.
+-- Moves are listed one after another, and no enabled one is left out.
 use Rattle.std.proofs.Common.{◌≡◌, ◌+◌, ◌<◌, ◌≤◌, ◌&&◌, inl, inr, ℕ, zero, suc, List, [], ◌∷◌, ◌++◌, length, take, get_or, map, cond, Bool}
 use Rattle.std.proofs.Common.{true, false, Option, Some, None, refl, ap, sym, subst, ◌∙◌, append_assoc, arith, true≢false}
 use Rattle.std.specs.Prelude.{◌==◌, slice_get}
@@ -24,7 +24,7 @@ use Rattle.tc_code.specs.declared.instr.Instr.TheVariants.{Signal}
 use Rattle.tc_code.specs.Code.{Code}
 use Rattle.tc_code.specs.Lawful.{IsLawful}
 use Rattle.tc_code.specs.Run.{IsReached}
-use Rattle.tc_code.specs.Step.{step, wake_of, woken, drain_of, drained, move_of, instr_of, waiting_on}
+use Rattle.tc_code.specs.Step.{step, wake_of, state_after_wake, drain_of, state_after_drain, move_of, instr_of, waiting_on}
 use Rattle.std.proofs.lemmas.Bool.{and_parts}
 use Rattle.run_laws.proofs.Basics.{none_unless, unless, some_value}
 use Rattle.tc_machine.specs.Moves as choice
@@ -47,7 +47,7 @@ module _ {X : Type 0} (p : Move → Bool) where
       ∙ ap (λ m. start ++ filter p (map f (take i names ++ m ∷ []))) here
       ∙ ap (λ ns. start ++ filter p (map f ns)) (sym (take_more names i n lt))
 
-  -- the same, of one that is read at its place
+  -- the same for a candidate that is read at its place
   pub listed_next : (f : X → Move) (names : List X) (i : ℕ) (d : X) (start old new : List Move) → i < length names
       → old ≡ start ++ filter p (map f (take i names)) → new ≡ old ++ filter p (f (get_or names i d) ∷ [])
       → new ≡ start ++ filter p (map f (take (i + 1) names))
@@ -58,11 +58,11 @@ module _ {X : Type 0} (p : Move → Bool) where
   none_passes f [] h = refl
   none_passes f (n ∷ ns) h = ap (λ b. cond b (f n ∷ filter p (map f ns)) (filter p (map f ns))) (h n) ∙ none_passes f ns h
 
-  -- where none of the further candidates is enabled, the first is all
+  -- if no further candidate is enabled, the first is the only one
   pub first_only : (f : X → Move) (names : List X) (m : Move) → ((n : X) → p (f n) ≡ false) → filter p (m ∷ []) ≡ filter p (m ∷ map f names)
   first_only f names m h = ap (λ ms. cond (p m) (m ∷ ms) ms) (sym (none_passes f names h))
 
--- the first of threads with their names is one, and so are the others
+-- the first of the threads by name exists, and so do the others
 pub first_there : {B : Type 0} (m : ByName (Thread B)) (es rest : List (Name × Thread B)) (n : Name) (t : Thread B) → es ≡ (n, t) ∷ rest
     → All (λ e. fin.get m e.0 ≡ Some e.1) es → (fin.get m n ≡ Some t) × All (λ e. fin.get m e.0 ≡ Some e.1) rest
 first_there {B} m es rest n t is all =
@@ -70,7 +70,7 @@ first_there {B} m es rest n t is all =
     let there = subst (All P) is all in
     (All-head P (n, t) rest there, All-tail P (n, t) rest there)
 
--- once the moves of the first are listed, those of the others are left
+-- after the moves of the first thread, those of the others are to be listed
 pub listed_thread : {X : Type 0} (f : Name → List Move) (old new all : List Move) (es rest : List (Name × X)) (n : Name) (x : X) → es ≡ (n, x) ∷ rest
     → new ≡ old ++ f n → old ++ flat_map f (map (λ e. e.0) es) ≡ all → new ++ flat_map f (map (λ e. e.0) rest) ≡ all
 listed_thread f old new all es rest n x is more so_far =
@@ -131,14 +131,14 @@ in_range f a (suc n) c low high = elim (same_or_more a c low) [
 ]
 
 module _ {B : Type 0} (ops : BufferOps B) (code : Code) (s : State B) (n : Name) where
-  -- where a thread may drain by a form, its buffer says so
+  -- a thread may drain in a form only if its buffer may
   drain_enabled : (t : Thread B) (form : Option ℕ) → fin.get s.threads n ≡ Some t → is_enabled ops code s (Drain n form) ≡ true
       → ops.may_drain t.buffer form ≡ true
   drain_enabled t form there enabled =
       let after = some_value (step ops code s (Drain n form)) enabled in
       option_and_then_some (λ u. drain_of ops s n u form) (fin.get s.threads n) after.0 (unless (is_some s.failed) _ after.0 after.1).1 (λ u here g.
       subst (λ (v : Thread B). ops.may_drain v.buffer form ≡ true) (same_Some u t (sym here ∙ there))
-      (cond_some (ops.may_drain u.buffer form) (drained ops s n u form) after.0 g).0)
+      (cond_some (ops.may_drain u.buffer form) (state_after_drain ops s n u form) after.0 g).0)
 
 module _ {B : Type 0} (ops : BufferOps B) (model : Model) (bound : Binding) (laws : Laws ops model bound) (code : Code) (lawful : IsLawful code) (s : State B)
     (reached : IsReached ops code s) where
@@ -191,7 +191,7 @@ module _ {B : Type 0} (ops : BufferOps B) (model : Model) (bound : Binding) (law
   woken_is_thread : (n u : Name) (t : Thread B) (i : Instr) (v : State B) → wake_of ops s n u t i ≡ Some v → IsSome (fin.get s.threads u)
   woken_is_thread n u t (Signal c) v h =
       waiters_are_threads ops code s reached u c (and_parts (ops.is_empty t.buffer) _
-      (cond_some (ops.is_empty t.buffer && set.contains (waiting_on s c) u) (woken ops s n u t c) v h).0).1
+      (cond_some (ops.is_empty t.buffer && set.contains (waiting_on s c) u) (state_after_wake ops s n u t c) v h).0).1
   woken_is_thread n u t i v h = absurd (none-some v h)
 
   listed_move : (m : Move) (v : State B) → move_of ops code s m ≡ Some v → is_enabled ops code s m ≡ true
@@ -206,7 +206,7 @@ module _ {B : Type 0} (ops : BufferOps B) (model : Model) (bound : Binding) (law
   listed_move (Drain n form) v h enabled =
       option_and_then_some (λ t. drain_of ops s n t form) (fin.get s.threads n) v h (λ t there g.
       drain_is_listed n (Drain n form) (subst IsSome (sym there) refl)
-      (drain_is_one n t form there (cond_some (ops.may_drain t.buffer form) (drained ops s n t form) v g).0) enabled)
+      (drain_is_one n t form there (cond_some (ops.may_drain t.buffer form) (state_after_drain ops s n t form) v g).0) enabled)
 
   -- every enabled move is listed
   pub every_enabled_move_is_listed : (m : Move) → IsSome (step ops code s m) → Contains (enabled_moves ops code s) m
@@ -214,7 +214,7 @@ module _ {B : Type 0} (ops : BufferOps B) (model : Model) (bound : Binding) (law
       let after = some_value (step ops code s m) h in
       listed_move m after.0 (unless (is_some s.failed) _ after.0 after.1).1 h
 
--- Moves that are listed are enabled.
+-- Listed moves are enabled.
 
 listed_filter : (p : Move → Bool) (ms : List Move) → list_all p (filter p ms) ≡ true
 listed_filter p [] = refl
@@ -246,13 +246,13 @@ module _ {B : Type 0} (ops : BufferOps B) (code : Code) (s : State B) where
       (listed_all (is_enabled ops code s) (moves_of ops code s) (fin.keys s.threads) (λ n. listed_filter (is_enabled ops code s) (steps_of ops code s n
       ++ drains_of ops code s n))) e
 
-  -- so where some move is listed, some move is enabled
+  -- if some move is listed, some move is enabled
   pub some_is_enabled : (choices : List Choice) → map choice.move_of choices ≡ enabled_moves ops code s → (length choices == 0) ≡ false
       → (m : Move) × IsSome (step ops code s m)
   some_is_enabled [] is some = absurd (true≢false some)
   some_is_enabled (x ∷ xs) is some = (choice.move_of x, listed_is_enabled 0 (choice.move_of x) (ap (λ ms. slice_get ms 0) (sym is)))
 
-  -- and where none is left out and none is listed, none is enabled
+  -- if none is left out and none is listed, none is enabled
   pub none_is_enabled : (choices : List Choice) → ((m : Move) → IsSome (step ops code s m) → Contains (map choice.move_of choices) m)
       → (length choices == 0) ≡ true → (m : Move) → step ops code s m ≡ None
   none_is_enabled [] all none m = none_unless (step ops code s m) (λ enabled. let c = all m enabled in omega (arith, c.1))

@@ -1,4 +1,4 @@
--- A move is enabled exactly where there is no reason against it.
+-- A move is enabled exactly if there is no reason against it.
 use Rattle.std.proofs.Common.{◌≡◌, ◌↔◌, Bool, true, false, None, Some, refl, IsSome, IsNone, is_some, cond, rules, ap, subst, sym, ◌∙◌}
 use Rattle.std.proofs.lemmas.Bool.{false≢true}
 use Rattle.tc_base.specs.Buffers.{BufferOps}
@@ -12,11 +12,11 @@ use Rattle.tc_machine.specs.declared.why.Why.{Why}
 use Rattle.tc_machine.specs.declared.why.Why.TheVariants.{Stopped}
 
 module _ {B : Type 0} (ops : BufferOps B) (code : Code) (s : State B) (m : Move) where
-  -- no reason, and a state
+  -- there is no reason exactly if there is a next state
   pub no_reason_where_enabled : IsNone (why ops code s m) ↔ IsSome (step ops code s m)
   no_reason_where_enabled = search rules
 
-  -- where there is no reason against a move it is enabled
+  -- a move without a reason against it is enabled
   pub enabled_without_reason : why ops code s m ≡ None → is_enabled ops code s m ≡ true
   enabled_without_reason e = no_reason_where_enabled.0 (subst IsNone (sym e) refl)
 
@@ -24,11 +24,11 @@ module _ {B : Type 0} (ops : BufferOps B) (code : Code) (s : State B) (m : Move)
   reason_stays false e w h = refl
   reason_stays true e w h = absurd (false≢true (sym (subst IsNone h (no_reason_where_enabled.1 e))))
 
-  -- and where there is one it isn't
+  -- a move with a reason against it isn't enabled
   pub disabled_with_reason : (w : Why) → why ops code s m ≡ Some w → is_enabled ops code s m ≡ false
   disabled_with_reason w h = reason_stays _ refl w h
 
-  -- where no thread has failed yet, and nothing else stands against it
+  -- if no thread has failed yet, a move without a reason against it is enabled
   pub enabled_while_running : s.failed ≡ None → why_not ops code s m ≡ None → IsSome (step ops code s m)
   enabled_while_running running e =
       no_reason_where_enabled.0 (subst IsNone (sym (ap (λ f. cond (is_some f) (Some Stopped) (why_not ops code s m)) running ∙ e)) refl)

@@ -1,4 +1,4 @@
--- In a state that a run of lawful code reaches, each buffered store is to a cell that is there.
+-- In a state that a run of lawful code reaches, each buffered store is to an existing cell.
 use Rattle.std.proofs.Common.{
   ◌≡◌,
   ◌∙◌,
@@ -43,7 +43,7 @@ use Rattle.tc_code.specs.declared.instr.Instr.{Instr}
 use Rattle.tc_code.specs.Code.{Code}
 use Rattle.tc_code.specs.Lawful.{IsLawful}
 use Rattle.tc_code.specs.Run.{IsReached}
-use Rattle.tc_code.specs.Step.{request, local_after, with_thread, did, perform, stored, drained, drain_of, born, step}
+use Rattle.tc_code.specs.Step.{request, local_after, with_thread, state_after_step, perform, state_after_store, state_after_drain, drain_of, born, step}
 use Rattle.run_laws.proofs.Basics.{some_value, unless}
 use Rattle.run_laws.proofs.Names.{get_put_cases}
 use Rattle.run_laws.proofs.Steps.{step_went, holds_in_reached}
@@ -65,7 +65,7 @@ within_append n [] qs h k = k
 within_append n (Store e ∷ ps) qs h k = (h.0, within_append n ps qs h.1 k)
 within_append n (PendingBar ∷ ps) qs h k = within_append n ps qs h k
 
--- so is each, and so are the others
+-- one of the stores is to such a cell, and so are the others
 within_one : (n : ℕ) (older : List Pending) (e : Entry) (newer : List Pending) → AreWithin n (older ++ Store e ∷ newer) → e.cell < n
 within_one n [] e newer h = h.0
 within_one n (Store d ∷ older) e newer h = within_one n older e newer h.1
@@ -85,7 +85,7 @@ named_cell bound k c h = some_named (bound false false) h
     some_named false h = same_Some k c h
 
 module _ {B : Type 0} (ops : BufferOps B) (model : Model) (bound : Binding) (laws : Laws ops model bound) where
-  -- a buffer stands for stores to cells below a number
+  -- a buffer represents stores to cells below a number
   record HoldsWithin (n : ℕ) (b : B) : Type 0 where
     pending : List Pending
     stands : Stands ops b pending
@@ -130,7 +130,7 @@ module _ {B : Type 0} (ops : BufferOps B) (model : Model) (bound : Binding) (law
           within = within_rest n some.older some.store some.newer (subst (AreWithin n) some.drains.there h.within);
         }
 
-    -- and so is the cell of the form
+    -- the cell of the form is below the number
     form_within : (c : ℕ) → form ≡ Some c → c < n
     form_within c is =
         let some = laws.may_drain_stands b h.pending form h.stands may in
@@ -147,12 +147,12 @@ module _ {B : Type 0} (ops : BufferOps B) (model : Model) (bound : Binding) (law
 
   module _ (code : Code) (n : ℕ) where
     stored_within : (s : State B) (q : Name) (t : Thread B) (i : Instr) (c : ℕ) (v : ℤ) → c < n → AllWithin n s.threads → HoldsWithin n t.buffer
-        → AllWithin n (stored ops s q t i c v).threads
+        → AllWithin n (state_after_store ops s q t i c v).threads
     stored_within s q t i c v lt all h = either_way ops.buffered refl
       where
         either_way : (b : Bool) → ops.buffered ≡ b
             → AllWithin n (cond b (with_thread s q (record { local = local_after t.local i (pos 0); buffer = ops.issue t.buffer c v }))
-            (record (did ops s q t i) { memory = slice_set s.memory c v })).threads
+            (record (state_after_step ops s q t i) { memory = slice_set s.memory c v })).threads
         either_way true e = all_put n s.threads q _ all (issued_within n t.buffer c v e lt h)
         either_way false e = all_put n s.threads q _ all h
 
@@ -179,7 +179,7 @@ module _ {B : Type 0} (ops : BufferOps B) (model : Model) (bound : Binding) (law
         (all_put (length code.memory) s.threads q _ all (all q w.thread w.there))
     went_within s u (move.Drain q form) reached one all =
         option_and_then_some (λ t. drain_of ops s q t form) (fin.get s.threads q) u (unless (is_some s.failed) _ u one).1 (λ t there g.
-        let may = cond_some (ops.may_drain t.buffer form) (drained ops s q t form) u g in
+        let may = cond_some (ops.may_drain t.buffer form) (state_after_drain ops s q t form) u g in
         subst (λ (v : State B). AllWithin (length code.memory) v.threads) may.1
         (all_put (length code.memory) s.threads q _ all (rest_within (length code.memory) t.buffer form (all q t there) may.0)))
 
@@ -192,23 +192,23 @@ module _ {B : Type 0} (ops : BufferOps B) (model : Model) (bound : Binding) (law
 
     module _ (s : State B) (reached : IsReached ops code s) (q : Name) (t : Thread B) (there : fin.get s.threads q ≡ Some t) (form : Option ℕ)
         (may : ops.may_drain t.buffer form ≡ true) where
-      -- the store that drains is to a cell that is there
+      -- the store that drains is to an existing cell
       pub drained_is_there : (ops.drain t.buffer form).entry.cell < length s.memory
       drained_is_there =
           subst (λ n. (ops.drain t.buffer form).entry.cell < n) (sym (reached_is_whole ops code s lawful reached).cells)
           (drains_within (length code.memory) t.buffer form (all_within s reached q t there) may)
 
-      -- and so is the cell that its form names
+      -- the cell that its form names exists
       pub form_is_there : (c : ℕ) → form ≡ Some c → c < length s.memory
       form_is_there c is =
           subst (λ n. c < n) (sym (reached_is_whole ops code s lawful reached).cells)
           (form_within (length code.memory) t.buffer form (all_within s reached q t there) may c is)
 
-    -- where a thread's drain is enabled, its store is to a cell that is there
+    -- if a thread's drain is enabled, its store is to an existing cell
     pub drains_within_memory : (s : State B) → IsReached ops code s → (q : Name) (form : Option ℕ) → IsSome (step ops code s (move.Drain q form))
         → IfSome (fin.get s.threads q) (λ t. (ops.drain t.buffer form).entry.cell < length s.memory)
     drains_within_memory s reached q form enabled =
         let after = some_value (step ops code s (move.Drain q form)) enabled in
         option_and_then_some (λ t. drain_of ops s q t form) (fin.get s.threads q) after.0 (unless (is_some s.failed) _ after.0 after.1).1 (λ t there g.
         subst (λ o. IfSome o (λ (t : Thread B). (ops.drain t.buffer form).entry.cell < length s.memory)) (sym there)
-        (drained_is_there s reached q t there form (cond_some (ops.may_drain t.buffer form) (drained ops s q t form) after.0 g).0))
+        (drained_is_there s reached q t there form (cond_some (ops.may_drain t.buffer form) (state_after_drain ops s q t form) after.0 g).0))

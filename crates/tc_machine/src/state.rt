@@ -5,7 +5,7 @@ ghost use Rattle.std.specs.FinMap as map;
 ghost use Rattle.std.specs.FinSet as set;
 ghost use Rattle.std.specs.List.{All};
 ghost use Rattle.tc_code.specs.declared.instr.Instr.TheVariants as flat;
-ghost use Rattle.tc_code.specs.Step.{opening, perform, did, loaded, stored, drained, stepped, with_thread, woken, waiting_on};
+ghost use Rattle.tc_code.specs.Step.{opening, perform, state_after_step, loaded, state_after_store, state_after_drain, step_in_place, with_thread, state_after_wake, waiting_on};
 ghost use Rattle.tc_code.specs.Step as plain;
 ghost use Rattle.tc_threads.specs.CanDo.{CanAdvance, HasRoom, is_branch};
 ghost use Rattle.tc_machine.specs.Exits.{has_exited, all_have_exited};
@@ -290,7 +290,7 @@ impl<M: MemoryModel> State<M> {
         requires there { cell < length self.old.memory }
         requires no_branch { is_branch instr.now ≡ false }
         ensures ok { OnOk result (IfSome (map.get self.old.threads name.now)
-            (λ t. self.new ≡ stored M.ops self.old name.now t instr.now cell value)) }
+            (λ t. self.new ≡ state_after_store M.ops self.old name.now t instr.now cell value)) }
         ensures err { OnErr result (self.new ≡ self.old) }
     {
         if M::BUFFERED {
@@ -307,7 +307,7 @@ impl<M: MemoryModel> State<M> {
     fn fail(&mut self, name: &ThreadName) -> Result<(), AllocError>
         requires { IfSome (map.get self.old.threads name.now) (λ t. HasRoom t.local) }
         ensures ok { OnOk result (IfSome (map.get self.old.threads name.now)
-            (λ t. self.new ≡ record (with_thread self.old name.now (record t { local = stepped t.local })) { failed = Some name.now })) }
+            (λ t. self.new ≡ record (with_thread self.old name.now (record t { local = step_in_place t.local })) { failed = Some name.now })) }
         ensures err { OnErr result (self.new ≡ self.old) }
     {
         let failed = name.clone()?;
@@ -321,7 +321,7 @@ impl<M: MemoryModel> State<M> {
         requires can { CanAdvance self.old.threads name.now instr.now }
         requires there { mutex < length self.old.owners }
         ensures ok { OnOk result (IfSome (map.get self.old.threads name.now)
-            (λ t. self.new ≡ record (did M.ops self.old name.now t instr.now) { owners = slice_set self.old.owners mutex (Some name.now) })) }
+            (λ t. self.new ≡ record (state_after_step M.ops self.old name.now t instr.now) { owners = slice_set self.old.owners mutex (Some name.now) })) }
         ensures err { OnErr result (self.new ≡ self.old) }
     {
         let owner = name.clone()?;
@@ -343,7 +343,7 @@ impl<M: MemoryModel> State<M> {
         requires mutex { mutex < length self.old.owners }
         requires no_branch { is_branch instr.now ≡ false }
         ensures ok { OnOk result (IfSome (map.get self.old.threads name.now)
-            (λ t. self.new ≡ record (did M.ops self.old name.now t instr.now) {
+            (λ t. self.new ≡ record (state_after_step M.ops self.old name.now t instr.now) {
               owners = slice_set self.old.owners mutex None;
               waiters = slice_set self.old.waiters condition (set.insert (waiting_on self.old condition) name.now);
             })) }
@@ -393,7 +393,7 @@ impl<M: MemoryModel> State<M> {
         requires there { condition < length self.old.waiters }
         requires signals { instr.now ≡ flat.Signal condition }
         ensures ok { OnOk result (IfSome (map.get self.old.threads name.now)
-            (λ t. self.new ≡ woken M.ops self.old name.now waiter.now t condition)) }
+            (λ t. self.new ≡ state_after_wake M.ops self.old name.now waiter.now t condition)) }
         ensures err { OnErr result (self.new ≡ self.old) }
     {
         self.threads.advance(name, instr, Effect::Takes(0))?;
@@ -406,7 +406,7 @@ impl<M: MemoryModel> State<M> {
         requires can { IsSomeAnd (map.get self.old.threads name.now) (λ t. M.ops.may_drain t.buffer form ≡ true) }
         requires within { IfSome (map.get self.old.threads name.now)
             (λ t. (M.ops.drain t.buffer form).entry.cell < length self.old.memory) }
-        ensures { IfSome (map.get self.old.threads name.now) (λ t. self.new ≡ drained M.ops self.old name.now t form) }
+        ensures { IfSome (map.get self.old.threads name.now) (λ t. self.new ≡ state_after_drain M.ops self.old name.now t form) }
     {
         let (cell, value) = self.threads.drain(name, form);
         self.memory[cell as usize] = value;

@@ -1,4 +1,4 @@
--- What the parts of a statement tell of it.
+-- Faults of the parts of a statement, and the fault of the statement.
 use Rattle.std.proofs.Common.{◌≡◌, List, [], ◌∷◌, length, map, Option, Some, None, option_map, Vec, Global, refl, sym, ap, ◌∙◌}
 use Rattle.tc_tree.specs.declared.expression.Name.{Name}
 use Rattle.tc_tree.specs.Grammar.{Expression}
@@ -24,7 +24,7 @@ use Rattle.tc_names.specs.helpers.Answers.{branch_fault, branches_fault}
 use Rattle.tc_tree.proofs.Views.{if_seen, create_seen}
 use Rattle.tc_names.proofs.Walks.{then-assoc}
 
--- ---- an `if`, its chain and what stands at its end
+-- ---- an `if`, its chain and what ends the chain
 
 abbrev pub last_fault : (Name → Option Meaning) → Option SeenBlock → Option NameFault
 last_fault scope None = None

@@ -1,4 +1,4 @@
--- Lists that are walked, and what names mean in two of them.
+-- Walks over lists, and the meaning of names in two lists.
 use Rattle.std.proofs.Common.{
   ◌≡◌,
   ℕ,
@@ -30,7 +30,7 @@ use Rattle.tc_names.specs.declared.scope.Declaration.{Declaration}
 use Rattle.tc_names.specs.declared.scope.Meaning.{Meaning}
 use Rattle.tc_names.specs.Names.{name_text, meaning_in}
 
--- one element further in a list
+-- a walk is one element further in a list
 pub record IsNext {A : Type 0} (xs : List A) (n : ℕ) (x : A) (later : List A) : Type 0 where
   pub taken : take (n + 1) xs ≡ take n xs ++ x ∷ []
   pub left : drop (n + 1) xs ≡ later
@@ -56,7 +56,7 @@ either : (b : Bool) (m : Meaning) (r s : Option Meaning) (n : Meaning) → (r �
 either true m r s n h e = e
 either false m r s n h e = h e
 
--- a name of the first list means the same in both
+-- a name that the first list declares means the same in both lists
 pub found_first : (source : List ℕ) (own all : List Declaration) (x : Name) (m : Meaning) → meaning_in source own x ≡ Some m
     → meaning_in source (own ++ all) x ≡ Some m
 found_first source [] all x m e = absurd cc
@@ -67,7 +67,7 @@ neither : (b : Bool) (m : Meaning) (r s t : Option Meaning) → (r ≡ None → 
 neither true m r s t h e = absurd cc
 neither false m r s t h e = h e
 
--- and another name means what it does in the second
+-- any other name means the same as in the second list
 pub found_second : (source : List ℕ) (own all : List Declaration) (x : Name) → meaning_in source own x ≡ None
     → meaning_in source (own ++ all) x ≡ meaning_in source all x
 found_second source [] all x e = refl

@@ -1,4 +1,4 @@
--- What the parts of a program tell of all of it.
+-- Faults of the parts of a program, and the fault of the program.
 use Rattle.std.proofs.Common.{◌≡◌, List, [], ◌∷◌, ◌++◌, length, map, take, drop, ℕ, Option, Some, None, Err, refl, sym, ap, ◌∙◌}
 use Rattle.tc_tree.specs.declared.program.Global.{Global}
 use Rattle.tc_tree.specs.declared.program.Thread.{Thread as TreeThread}
@@ -10,7 +10,7 @@ use Rattle.tc_names.specs.Answers.{TellsUnlessMemory}
 use Rattle.tc_names.specs.declared.scope.Declaration.{Declaration}
 use Rattle.tc_names.specs.Names.{◌then◌, global_declaration, thread_declaration, globals_fault, threads_fault, body_fault, names_fault, program_declarations}
 
--- after the globals of all declarations come the threads
+-- the threads follow the globals among all declarations
 pub threads_left : (gs : List Global) (ds : List Declaration) → drop (length gs) (map global_declaration gs ++ ds) ≡ ds
 threads_left [] ds = refl
 threads_left (g ∷ gs) ds = threads_left gs ds
@@ -43,7 +43,7 @@ same_threads source p all e =
     ap (λ (ds : List Declaration). threads_fault source ds (map global_declaration p.globals) p.threads) (sym e)
     ∙ ap (λ (ds : List Declaration). threads_fault source all ds p.threads) (sym (globals_of_all p all e))
 
--- a fault of the threads is the program's where the globals have none
+-- if the globals have no fault, a fault of the threads is the program's
 pub names_threads : (source : List ℕ) (p : Program) (all : List Declaration) (f : NameFault) → all ≡ program_declarations p
     → globals_fault source [] p.globals ≡ None → threads_fault source all (take (length p.globals) all) p.threads ≡ Some f
     → names_fault source p ≡ Some f
@@ -53,7 +53,7 @@ names_threads source p all f e clear bad =
     ap (λ (g : Option NameFault). g then (threads then main)) clear
     ∙ ap (λ (g : Option NameFault). g then main) (same_threads source p all e ∙ bad)
 
--- and one of main where the threads have none either
+-- if the threads have none either, a fault of main is the program's
 pub names_main : (source : List ℕ) (p : Program) (all : List Declaration) → all ≡ program_declarations p
     → globals_fault source [] p.globals ≡ None → threads_fault source all (take (length p.globals) all) p.threads ≡ None
     → names_fault source p ≡ body_fault source all [] p.main

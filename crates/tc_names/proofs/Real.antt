@@ -1,4 +1,4 @@
--- The rules on names tell of no want of memory.
+-- The rules on names never report a lack of memory.
 use Rattle.std.proofs.Common.{ℕ, Bool, true, false, if◌then◌else◌, List, [], ◌∷◌, ◌++◌, length, map, nat_eq, Option, Some, None}
 use Rattle.tc_lexer.specs.declared.place.Place.{Place}
 use Rattle.tc_names.specs.declared.fault.NameFault.{NameFault}

@@ -78,7 +78,7 @@ pub own_within : (source : List ℕ) (own : List Declaration) (count : ℕ) (res
     → OwnSoFar source own count rest → rest ≡ d ∷ later → count < length own
 own_within source own count rest d later o e = (next own count d later (o.left ∙ e)).within
 
--- what is left after the first of a list
+-- the rest of a list after its first element
 pub later_is : {A : Type 0} (x : A) (xs : List A) → take (length (x ∷ xs) - 1) (drop 1 (x ∷ xs)) ≡ xs
 later_is x xs = let e : length (x ∷ xs) - 1 ≡ length xs = omega arith in rw e (take-length xs)
 

@@ -33,7 +33,7 @@ pub enum Meaning {
 pub struct Declaration {
     /// The name, where it is declared.
     pub name: Name,
-    /// What the declaration says that it means.
+    /// The meaning of the declared name.
     pub meaning: Meaning,
 }
 

@@ -1,4 +1,4 @@
--- The first stretch that is too long, one token at a time.
+-- The first stretch that is too long, found one token at a time.
 use Rattle.std.proofs.Common.{◌≡◌, ℕ, suc, ◌+◌, ◌≤◌, List, [], ◌∷◌, length, map, drop, cond, refl, sym, ap, ◌∙◌, arith}
 use Rattle.std.proofs.Common.{Option, Some, None, inl, inr}
 use Rattle.std.specs.Prelude.{nat_lt}
@@ -9,11 +9,11 @@ use Rattle.tc_limits.specs.declared.limits.TheConstants.{STRETCH}
 use Rattle.tc_lexer.specs.declared.token.Token.{Token}
 use Rattle.tc_parser.specs.Programs.{ends_stretch, long_stretch}
 
--- the number where it is too many
+-- the number, if it is above the limit
 abbrev pub too_many : ℕ → Option ℕ → Option ℕ
 too_many n other = cond (nat_lt STRETCH n) (Some n) other
 
--- the first long stretch of these tokens, where so many of the first one's stand before them
+-- the first long stretch of these tokens, with `n` tokens of the first stretch before them
 abbrev pub long_after : ℕ → List Token → Option ℕ
 long_after n [] = too_many n None
 long_after n (t ∷ ts) = cond (ends_stretch t.kind) (too_many n (long_after 0 ts)) (long_after (n + 1) ts)
@@ -21,7 +21,7 @@ long_after n (t ∷ ts) = cond (ends_stretch t.kind) (too_many n (long_after 0 t
 abbrev long_among : List ℕ → Option ℕ
 long_among ns = find (λ n. nat_lt STRETCH n) ns
 
--- the first long one of the parts, where so many more belong to the first
+-- the first long one of the parts, with `n` more tokens in the first part
 abbrev long_of : ℕ → List (List Token) → Option ℕ
 long_of n [] = too_many n None
 long_of n (p ∷ ps) = long_among ((n + length p) ∷ map length ps)
@@ -50,7 +50,7 @@ long_parts n (t ∷ ts) =
           ∙ sym (cond-false _ _ _ h)
     ]
 
--- what is known of the tokens from one on
+-- facts on the tokens from one on
 pub record IsLeft (tokens : List Token) (i n : ℕ) : Type 0 where
   pub whole : long_stretch tokens ≡ long_after n (drop i tokens)
   pub within : n ≤ i

@@ -1,4 +1,4 @@
--- A text is one program, or has one fault.
+-- A text is one program or has exactly one fault.
 use Rattle.std.proofs.Common.{
   ◌≡◌,
   ℕ,
@@ -73,7 +73,7 @@ use Rattle.tc_names.proofs.Real.{IsReal, names_real}
 
 -- ---- the first cause of a fault
 
--- what a program's declarations are too many of
+-- the first kind of declaration of which a program has too many
 counts_fault : List Global → Option ParseFault
 counts_fault gs =
     if nat_lt CELLS (count.cells gs) then Some (Count Cells (count.cells gs))
@@ -88,7 +88,7 @@ after_names None gs = counts_fault gs
 tree_fault : List ℕ → Program → Option ParseFault
 tree_fault text p = after_names (names_fault text p) p.globals
 
--- the words are no program
+-- the words aren't a program
 record IsBroken (language : ℕ) (text : List ℕ) (tokens : List Token) (fault : ParseFault) : Type 0 where
   nested : IsNested tokens
   parted : long_stretch tokens ≡ None
@@ -96,7 +96,7 @@ record IsBroken (language : ℕ) (text : List ℕ) (tokens : List Token) (fault 
   is : IsSyntaxFault language (words_of tokens) place
   fault_is : fault ≡ Syntax (place_at text tokens place)
 
--- they are one, which has a fault
+-- the words are a program, which has a fault
 record IsLate (language : ℕ) (text : List ℕ) (tokens : List Token) (fault : ParseFault) : Type 0 where
   program : Program
   are_of : AreOfProgram language tokens program

@@ -1,4 +1,4 @@
--- How the parts' answers are put together.
+-- The composition of the parts' results.
 use Rattle.std.proofs.Common.{◌≡◌, ◌≢◌, ℕ, zero, suc, ◌-◌, ◌<◌, ◌≤◌, List, [], ◌∷◌, ◌++◌, length, None, refl, sym, ap, ◌∙◌, subst, arith, get_or}
 use Rattle.std.proofs.Common.{Err}
 use Rattle.std.proofs.lemmas.List.{length-map}
@@ -59,7 +59,7 @@ globals_within : (gs : List Global) (rest : List Word) → length gs ≤ length 
 globals_within [] rest = omega arith
 globals_within (g ∷ gs) rest = omega (arith, some_words g (globals_then gs rest), globals_within gs rest)
 
--- a program has no more words than its text has bytes
+-- a program has at most as many words as its text has bytes
 pub few_words : (language : ℕ) (text : List ℕ) (tokens : List Token) (p : Program) → AreTokens language text tokens
     → IsSpelled language (words_of tokens) p → length (program_words p) ≤ length text
 few_words language text tokens p read spelled =

@@ -17,7 +17,7 @@ open_more tokens i d h =
     ap open_after (take_more tokens i d h)
     ∙ fold-append (λ (m : ℕ) (t : Token). open_after_kind m t.kind) 0 (take i tokens) (get_or tokens i d ∷ [])
 
--- what is known of the tokens before one
+-- facts on the tokens before one
 pub record AreNestedBefore (tokens : List Token) (i m : ℕ) : Type 0 where
   pub open_is : m ≡ open_after (take i tokens)
   pub nested : (k : ℕ) → k ≤ i → open_after (take k tokens) ≤ BRACKETS

@@ -1,4 +1,4 @@
--- What the tokens of a text make of its words: each number is an int, and each word is of the language.
+-- The words of a text's tokens: each number is an int, and each word is of the language.
 use Rattle.std.proofs.Common.{◌≤◌, ℕ, List, [], ◌∷◌, pos, negsuc, subst, arith}
 use Rattle.std.specs.List.{All}
 use Rattle.std.proofs.lemmas.List.Elements.{All-head, All-tail}

@@ -1,4 +1,4 @@
--- What stands where a run ends, or goes on.
+-- What holds where a run ends, or goes on.
 use Rattle.std.proofs.Common.{◌≡◌, ◌∙◌, ◌||◌, ℕ, zero, suc, Bool, true, false, List, [], ◌∷◌, map, Option, Some, None, refl, ap, sym, subst, length}
 use Rattle.std.proofs.Common.{true≢false}
 use Rattle.std.specs.Prelude.{slice_get, is_some, nat_lt, if◌then◌else◌}
@@ -26,7 +26,7 @@ use Rattle.tc_record.specs.declared.end.Which.TheVariants.{Threads, Depth, Steps
 use Rattle.tc_record.specs.Ends.{limit_of, has_many_steps, some_is_deep, some_has_many_steps, end_at, end_without_moves}
 use Rattle.tc_record.specs.helpers.Turns.{IsEndAt}
 
--- none of those that fail a test passes it
+-- no element passes a test that fails for all
 pub none_passes : {X : Type 0} (p : X → Bool) (xs : List X) (i : ℕ) (x : X) → list_any p xs ≡ false → slice_get xs i ≡ Some x → p x ≡ false
 none_passes p [] i x h e = absurd (none-some x e)
 none_passes p (y ∷ ys) zero x h e = subst (λ z. p z ≡ false) (same_Some y x e) (or_parts (p y) (list_any p ys) h).0
@@ -45,11 +45,11 @@ module _ {B : Type 0} (ops : BufferOps B) (code : Code) (s : State B) where
   by_tests false false false true threads depth steps failed = (record { threads = threads; depth = depth; steps = steps }, failed)
   by_tests false false false false threads depth steps failed = (record { threads = threads; depth = depth; steps = steps }, unfailed failed)
 
-  -- what the tests say of a state stands there
+  -- the tests say how a run ends at a state
   pub told : IsEndAt ops code s (end_at s)
   told = by_tests _ _ _ _ refl refl refl refl
 
-  -- so does what is said where no move is enabled
+  -- the end found if no move is enabled is right
   pub told_still : IsEndAt ops code s None → ((m : Move) → step ops code s m ≡ None) → IsEndAt ops code s (Some (end_without_moves s))
   told_still going still = by_exits (all_have_exited s) refl
     where
@@ -78,7 +78,7 @@ module _ {B : Type 0} (ops : BufferOps B) (code : Code) where
     refl,
   )
 
--- the first of the threads has done too many instructions, or one of the others has
+-- the first thread has done too many instructions, or one of the others has
 pub first_decides : {B : Type 0} (s : State B) (es rest : List (Name × Thread B)) (n : Name) (t : Thread B) → es ≡ (n, t) ∷ rest
     → fin.get s.threads n ≡ Some t → list_any (has_many_steps s) (map (λ e. e.0) es)
     ≡ nat_lt (limit_of Steps) t.local.steps || list_any (has_many_steps s) (map (λ e. e.0) rest)

@@ -1,4 +1,4 @@
--- From what holds of a run and its log to what holds of what is answered.
+-- From facts on a run and its log to facts on the answer.
 use Rattle.std.proofs.Common.{Result, Ok, Err, List, inl, inr, subst, sym}
 use Rattle.memory_models.specs.declared.model.Model.{Model}
 use Rattle.tc_base.specs.declared.moves.Move.{Move}
@@ -12,7 +12,7 @@ use Rattle.tc_record.specs.Logged.{IsLogOf}
 use Rattle.tc_record.specs.Seeded.{Ended, HasLog, IsAnswer, IfLogged, IsRecordOf, IfRecorded}
 use Rattle.tc_record.specs.helpers.Recorded.{without_line}
 
--- a fact of the log of a run that has one is a fact of what is answered
+-- a fact on the log of a run that has one is a fact on the answer
 pub on_log : {B : Type 0} (model : Model) (code : Code) (run : Ended B) (P : StoredLog → List Move → Type 0)
     → ((x : StoredLog) → HasLog run → IsLogOf model run.state x → P x run.moves) → (r : Result Recorded SeededFault) → IsRecordOf model code run r → IfRecorded r P
 on_log model code run P each (Ok (Failed x moves line)) h = subst (P x) (sym h.1) (each x (inl h.0) h.2)
@@ -21,7 +21,7 @@ on_log model code run P each (Ok (Deadlock x moves)) h = subst (P x) (sym h.1) (
 on_log model code run P each (Ok (StepLimit moves)) h = tt
 on_log model code run P each (Err fault) h = tt
 
--- what is told with the line stands without it
+-- an answer still holds without its line
 pub answer_stands : {B : Type 0} (model : Model) (code : Code) (run : Ended B) (r : Result Recorded SeededFault) → IsRecordOf model code run r
     → IsAnswer model run (without_line r)
 answer_stands model code run (Ok (Failed log moves line)) h = (h.0, h.1, h.2)

@@ -32,7 +32,7 @@ use Rattle.tc_record.specs.helpers.Paths.{IsWithin}
 use Rattle.tc_record.proofs.Ends.{none_passes}
 use Rattle.tc_record.proofs.Reached.{children_fit}
 
--- A thread has no more outcomes than steps.
+-- A thread has at most as many outcomes as steps.
 
 after_outcomes : (t : Local) (i : Instr) (v : ℤ) → length (local_after t i v).outcomes ≤ length t.outcomes + 1
 after_outcomes t (Branch e to) v =
@@ -82,7 +82,7 @@ module _ {B : Type 0} (ops : BufferOps B) (code : Code) (s : State B) (r : IsRea
       let most = steps_outcomes code t.local.steps start in
       omega (arith, ap (λ (u : Local). length u.outcomes) alone.1, most)
 
-  -- the threads are no more than may be
+  -- there are at most as many threads as allowed
   abbrev Few : Type 0
   Few = fin.len s.threads ≤ THREADS
 
@@ -99,7 +99,7 @@ module _ {B : Type 0} (ops : BufferOps B) (code : Code) (s : State B) (r : IsRea
       let high = le-leb c.number 255 (omega (arith, c.created.last, fits, few)) in
       subst (λ m. list_all (is_within 1 255) m ≡ true) (sym c.name) (all_push (is_within 1 255) c.parent c.number parent (and_from _ _ low high))
 
-  -- the path of a thread that is there has a text
+  -- the path of a thread has a text
   thread_fits : Few → (n : Name) (t : Thread B) → fin.get s.threads n ≡ Some t → nat_lt DEPTH (length n) ≡ false → has_many_steps s n ≡ false
       → is_thread (named_path s n) ≡ true
   thread_fits few n t there depth steps =
@@ -127,7 +127,7 @@ module _ {B : Type 0} (ops : BufferOps B) (code : Code) (s : State B) (r : IsRea
       (le-leb _ 255 (omega (arith, count, length-map (fin.keys s.threads) (named_path s)))))
       (subst (λ (ts : List ThreadPath). list_all is_thread ts ≡ true) (sym is) paths)
 
-  -- and it is small
+  -- the log of the state is small
   pub small : IsWithin s → (threads : List ThreadPath) → threads ≡ map (named_path s) (fin.keys s.threads)
       → (nat_le (length threads) THREADS && list_all (λ (t : ThreadPath). nat_le (length t.name) DEPTH) threads) ≡ true
   small within threads is =

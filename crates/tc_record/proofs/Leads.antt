@@ -1,4 +1,4 @@
--- The moves of a seeded run lead to its state, and are no more than its words.
+-- The moves of a seeded run lead to its state, and are at most as many as its words.
 use Rattle.std.proofs.Common.{◌≡◌, ◌∙◌, ◌≤◌, ℕ, zero, suc, ◌+◌, List, [], ◌∷◌, length, Option, Some, None, refl, ap, sym, arith}
 use Rattle.std.specs.Prelude.{option_and_then}
 use Rattle.std.specs.Option.{option_map_or}
@@ -14,7 +14,7 @@ use Rattle.tc_code.specs.Run.{run, run_from}
 use Rattle.tc_record.specs.declared.end.End.{End}
 use Rattle.tc_record.specs.declared.end.End.TheVariants as end
 use Rattle.tc_record.specs.Ends.{end_at, end_without_moves}
-use Rattle.tc_record.specs.Seeded.{Ended, ended, behind, chosen, making, seeded_from, seeded_run}
+use Rattle.tc_record.specs.Seeded.{Ended, run_ended_at, with_moves_before, chosen_move, run_by_move, seeded_from, seeded_run}
 use Rattle.tc_record.proofs.Runs.{words, words_of_seed}
 
 module _ {B : Type 0} (ops : BufferOps B) (code : Code) where
@@ -22,56 +22,56 @@ module _ {B : Type 0} (ops : BufferOps B) (code : Code) where
   Leads s r = run_from ops code s r.moves ≡ Some r.state
 
   module _ (s u : State B) (m : Move) (one : step ops code s m ≡ Some u) where
-    leads_behind : (r : Ended B) → Leads u r → Leads s (behind (m ∷ []) r)
+    leads_behind : (r : Ended B) → Leads u r → Leads s (with_moves_before (m ∷ []) r)
     leads_behind r h = ap (option_and_then (λ v. run_from ops code v r.moves)) one ∙ h
 
-    leads_either : (o : Option End) (r : Ended B) → Leads u r → Leads s (behind (m ∷ []) (option_map_or (ended u) o r))
+    leads_either : (o : Option End) (r : Ended B) → Leads u r → Leads s (with_moves_before (m ∷ []) (option_map_or (run_ended_at u) o r))
     leads_either None r h = leads_behind r h
-    leads_either (Some e) r h = leads_behind (ended u e) refl
+    leads_either (Some e) r h = leads_behind (run_ended_at u e) refl
 
   module _ (s : State B) (on : State B → Ended B) (goes : (u : State B) → Leads u (on u)) where
     leads_made : (m : Move) (o : Option (State B)) → step ops code s m ≡ o
-        → Leads s (option_map_or (λ u. behind (m ∷ []) (option_map_or (ended u) (end_at u) (on u))) o (ended s end.StepLimit))
+        → Leads s (option_map_or (λ u. with_moves_before (m ∷ []) (option_map_or (run_ended_at u) (end_at u) (on u))) o (run_ended_at s end.StepLimit))
     leads_made m None e = refl
     leads_made m (Some u) e = leads_either s u m e (end_at u) (on u) (goes u)
 
-    leads_chosen : (o : Option Move) (e : End) → Leads s (option_map_or (making ops code s on) o (ended s e))
+    leads_chosen : (o : Option Move) (e : End) → Leads s (option_map_or (run_by_move ops code s on) o (run_ended_at s e))
     leads_chosen None e = refl
     leads_chosen (Some m) e = leads_made m (step ops code s m) refl
 
   leads_from : (ws : List ℕ) (s : State B) → Leads s (seeded_from ops code s ws)
   leads_from [] s = refl
-  leads_from (w ∷ ws) s = leads_chosen s (λ u. seeded_from ops code u ws) (leads_from ws) (chosen ops code s w) (end_without_moves s)
+  leads_from (w ∷ ws) s = leads_chosen s (λ u. seeded_from ops code u ws) (leads_from ws) (chosen_move ops code s w) (end_without_moves s)
 
   -- the moves of a seeded run lead to its state
   pub run_leads : (seed steps : ℕ) → run ops code (seeded_run ops code seed steps).moves ≡ Some (seeded_run ops code seed steps).state
   run_leads seed steps = leads_from (first_words mix_u64 steps seed) (opening ops code)
 
   few_either : (k : ℕ) (u : State B) (m : Move) (o : Option End) (r : Ended B) → length r.moves ≤ k
-      → length (behind (m ∷ []) (option_map_or (ended u) o r)).moves ≤ k + 1
+      → length (with_moves_before (m ∷ []) (option_map_or (run_ended_at u) o r)).moves ≤ k + 1
   few_either k u m None r h = omega (arith, h)
   few_either k u m (Some e) r h = omega arith
 
   module _ (k : ℕ) (s : State B) (on : State B → Ended B) (few : (u : State B) → length (on u).moves ≤ k) where
     few_made : (m : Move) (o : Option (State B))
-        → length (option_map_or (λ u. behind (m ∷ []) (option_map_or (ended u) (end_at u) (on u))) o (ended s end.StepLimit)).moves ≤ k + 1
+        → length (option_map_or (λ u. with_moves_before (m ∷ []) (option_map_or (run_ended_at u) (end_at u) (on u))) o (run_ended_at s end.StepLimit)).moves ≤ k + 1
     few_made m None = omega arith
     few_made m (Some u) = few_either k u m (end_at u) (on u) (few u)
 
-    few_chosen : (o : Option Move) (e : End) → length (option_map_or (making ops code s on) o (ended s e)).moves ≤ k + 1
+    few_chosen : (o : Option Move) (e : End) → length (option_map_or (run_by_move ops code s on) o (run_ended_at s e)).moves ≤ k + 1
     few_chosen None e = omega arith
     few_chosen (Some m) e = few_made m (step ops code s m)
 
   few_from : (ws : List ℕ) (s : State B) → length (seeded_from ops code s ws).moves ≤ length ws
   few_from [] s = omega arith
   few_from (w ∷ ws) s =
-      omega (arith, few_chosen (length ws) s (λ u. seeded_from ops code u ws) (few_from ws) (chosen ops code s w) (end_without_moves s))
+      omega (arith, few_chosen (length ws) s (λ u. seeded_from ops code u ws) (few_from ws) (chosen_move ops code s w) (end_without_moves s))
 
   so_many : (k : ℕ) (s : Stream) → length (words k s) ≡ k
   so_many zero s = refl
   so_many (suc k) s = ap suc (so_many k (next_u64 s).1)
 
-  -- they are no more than may be made
+  -- there are at most as many moves as allowed
   pub run_is_short : (seed steps : ℕ) → length (seeded_run ops code seed steps).moves ≤ steps
   run_is_short seed steps =
       let few = few_from (first_words mix_u64 steps seed) (opening ops code) in

@@ -1,4 +1,4 @@
--- A state has one log.
+-- A state has only one log.
 use Rattle.std.proofs.Common.{◌≡◌, ◌∙◌, inl, inr, ℕ, suc, Bool, true, false, List, [], ◌∷◌, map, Option, Some, None, IsSome, refl, ap, sym, subst}
 use Rattle.std.proofs.Common.{bytes_eq, true≢false, length, arith}
 use Rattle.std.specs.Prelude.{slice_get, option_map, option_and_then, IfSome, ◌||◌}
@@ -27,9 +27,9 @@ use Rattle.tc_record.specs.Logged.{IsLogOf}
 use Rattle.tc_record.specs.helpers.Paths.{named_path, HasThreads}
 use Rattle.tc_record.proofs.Paths.{log_there, paths_rise, paths_same}
 
--- Paths that rise by their names are determined by what is under each name.
+-- Paths with rising names are determined by the path under each name.
 
--- what is under each name is that of the others, where the first have one name
+-- two lists with rising names and the same path under each name
 module _ (x y : ThreadPath) (xs ys : List ThreadPath) (p : rises_from None (x ∷ xs) ≡ true) (q : rises_from None (y ∷ ys) ≡ true)
     (each : (n : Name) → path_under n (x ∷ xs) ≡ path_under n (y ∷ ys)) where
   -- a lesser first name is under no other
@@ -70,9 +70,9 @@ same_threads (x ∷ xs) [] p q each = absurd (none-some x.path (sym (each x.name
 same_threads (x ∷ xs) (y ∷ ys) p q each =
     by_first x y xs ys p q each (same_threads xs ys (rises_behind None 1 (x ∷ xs) p) (rises_behind None 1 (y ∷ ys) q)) (by_name x.name y.name) refl
 
--- Of the threads of a log one has failed, or none has.
+-- Among the threads of a log one has failed, or none has.
 module _ (threads : List ThreadPath) where
-  -- the name of the one that has
+  -- the name of the thread that has failed
   abbrev named : Failing → Option Name
   named f = option_and_then (λ k. option_map (λ (t : ThreadPath). t.name) (slice_get threads k)) (place_in f)
 
@@ -82,7 +82,7 @@ module _ (threads : List ThreadPath) where
     | inr past ↦ let lt = ltb-true k (length threads) is in absurd (omega (arith, past.0))
   ]
 
-  -- so the log of a failure names a thread that failed, and that of a deadlock none
+  -- the log of a failure names a thread that failed, and that of a deadlock names none
   failure_by : (f : Failing) → IsSome (named f) → Failed ≡ told_end f
   failure_by (failing.Thread k) some = refl
   failure_by failing.Deadlock some = absurd (true≢false (sym some))
@@ -94,7 +94,7 @@ module _ (threads : List ThreadPath) where
       absurd (none-some t.0.name (sym none ∙ ap (option_map (λ (u : ThreadPath). u.name)) t.1))
 
   module _ (rises : rises_from None threads ≡ true) where
-    -- a name has one place
+    -- a name has only one place
     one_place : (j k : ℕ) (a b : ThreadPath) → slice_get threads j ≡ Some a → slice_get threads k ≡ Some b → a.name ≡ b.name → j ≡ k
     one_place j k a b at bt same =
         elim (cases_order j k) [
@@ -129,7 +129,7 @@ module _ {B : Type 0} (model : Model) (s : State B) where
     pub threads_are : x.log.threads ≡ map (named_path s) (fin.keys s.threads)
     threads_are = same_threads x.log.threads _ parts.0 (paths_rise s) (λ n. sym (is.paths n) ∙ paths_same s n)
 
-    -- it tells of a failure where a thread of the state has failed, and else of a deadlock
+    -- the log is of a failure if a thread of the state has failed, and otherwise of a deadlock
     pub tells_failure : IsSome s.failed → Failed ≡ told_end x.log.failing
     tells_failure some = failure_by x.log.threads x.log.failing (subst IsSome (sym is.failing) some)
 
@@ -151,7 +151,7 @@ module _ {B : Type 0} (model : Model) (s : State B) where
       ∙ ap (λ (ts : List ThreadPath). let r : StoredLog = record { digest = y.digest; log = record { model = y.log.model; failing = y.log.failing; threads = ts } } in r)
       threads
 
-  -- Where there are threads, and the one that failed is one of them, it has one.
+  -- A state has a log if it has threads and the failed one, if any, is one of them.
 
   place_of : (n : Name) (names : List Name) → list_any (same n) names ≡ true → (k : ℕ) × (slice_get names k ≡ Some n)
   place_of n [] h = absurd (true≢false (sym h))

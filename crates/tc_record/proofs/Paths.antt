@@ -56,7 +56,7 @@ module _ {X : Type 0} (f : Name → ThreadPath) (named : (n : Name) → (f n).na
   rise (e ∷ es) sorted =
       subst (λ n. rises_from (Some n) (map f (names_of es)) ≡ true) (sym (named e.0)) (rise_above e.0 es (first_T _ _ sorted) (second_T _ _ sorted))
 
--- under a name that is among some stands its path, and under another none
+-- each of these names has its path, and no other name has one
 under_names : (p : Name → Path) (n : Name) (names : List Name)
     → path_under n (map (λ k. let t : ThreadPath = record { name = k; path = p k } in t) names) ≡ cond (list_any (same n) names) (Some (p n)) None
 under_names p n [] = refl
@@ -68,12 +68,12 @@ under_names p n (k ∷ names) =
       | inr e ↦ ap (λ b. cond b (Some (p k)) rest) e.0 ∙ under_names p n names ∙ sym (ap (λ b. cond (b || any) (Some (p n)) None) e.0)
     ]
 
--- a thread that is there has its own path
+-- an existing thread has its own path
 own_path : {B : Type 0} (o : Option (Thread B)) (d : Path) → option_map path_of o ≡ cond (is_some o) (Some (option_map_or path_of o d)) None
 own_path None d = refl
 own_path (Some t) d = refl
 
--- a place at which there is something is below the length
+-- a place with an element is below the length
 below : {X : Type 0} (xs : List X) (i : ℕ) (o : Option X) → slice_get xs i ≡ o → IsSome o → nat_lt i (length xs) ≡ true
 below xs i None e some = absurd (true≢false (sym some))
 below xs i (Some x) e some = lt-ltb i (length xs) (slice_get_within xs i x e)
@@ -84,7 +84,7 @@ other_numbers m n h = elim (tells_names n m) [
   | inr e ↦ e.0
 ]
 
--- a name that was found stands at its place
+-- a name that was found is at its place
 pub found_at : (names : List Name) (i : ℕ) (n item : Name) → i < length names → item ≡ slice_index_or names i item → bytes_eq item n ≡ true
     → slice_get names i ≡ Some n
 found_at names i n item lt is same =
@@ -96,7 +96,7 @@ none_same n [] h = refl
 none_same n (m ∷ names) h =
     ap (λ b. b || list_any (same n) names) (other_numbers m n (h 0 (omega arith))) ∙ none_same n names (λ k lt. h (suc k) (omega (arith, lt)))
 
--- a thread that is there is found
+-- an existing thread is found
 pub is_found : {B : Type 0} (s : State B) (n : Name) (names : List Name) (i : ℕ) → IsSome (fin.get s.threads n) → names ≡ fin.keys s.threads
     → length names ≤ i → ((k : ℕ) → k < i → bytes_eq (slice_index_or names k []) n ≡ false) → ⊥
 is_found s n names i there are all none =
@@ -108,7 +108,7 @@ module _ {B : Type 0} (s : State B) where
   pub paths_rise : rises_from None (map (named_path s) (fin.keys s.threads)) ≡ true
   paths_rise = rise (named_path s) (λ n. refl) (fin.entries s.threads) (fin.entries_sorted s.threads)
 
-  -- and each is that of its name
+  -- each path is that of its name
   pub paths_same : (n : Name) → path_in s n ≡ path_under n (map (named_path s) (fin.keys s.threads))
   paths_same n =
       own_path (fin.get s.threads n) _
@@ -123,7 +123,7 @@ module _ {B : Type 0} (s : State B) where
   own_path_there None h = h
   own_path_there (Some n) h = refl
 
-  -- where a name stands among the threads, its path stands among theirs
+  -- the failing thread of the log is the thread that failed
   failing_same : (model : Model) (f : Failing) → EndsBy s f
       → failing_of (record { model = model; failing = f; threads = map (named_path s) (fin.keys s.threads) }) ≡ s.failed
   failing_same model (failing.Thread i) e =
@@ -137,14 +137,14 @@ module _ {B : Type 0} (s : State B) where
       below _ i _ there (own_path_there s.failed e.0)
   failing_there failing.Deadlock e some = lt-ltb 0 _ (omega (arith, some, length-map (fin.keys s.threads) (named_path s)))
 
-  -- so that is a log
+  -- the log is a log
   pub is_log_there : (model : Model) (f : Failing) (threads : List ThreadPath) → HasThreads s → EndsBy s f
       → threads ≡ map (named_path s) (fin.keys s.threads) → is_log (record { model = model; failing = f; threads = threads }) ≡ true
   is_log_there model f threads has e is =
       subst (λ (ts : List ThreadPath). is_log (record { model = model; failing = f; threads = ts }) ≡ true) (sym is)
       (and_from _ _ paths_rise (failing_there f e has.some))
 
-  -- and it is the state's
+  -- the log is the state's
   pub log_there : (under : Model) (stored : StoredLog) (model : Model) (f : Failing) (threads : List ThreadPath)
       → stored ≡ record { digest = None; log = record { model = model; failing = f; threads = threads } } → model ≡ under
       → HasThreads s → EndsBy s f → threads ≡ map (named_path s) (fin.keys s.threads) → IsLogOf under s stored
@@ -174,7 +174,7 @@ module _ {B : Type 0} (ops : BufferOps B) (code : Code) (s : State B) where
       ]
   ends_as failing.Deadlock ts same there stuck = stuck (sym same)
 
-  -- moves that led to a state at which a thread has failed or nothing can go on reproduce its log
+  -- moves that lead to a state with a failed thread, or to a stuck one, reproduce its log
   pub reproduced : (under : Model) (stored : StoredLog) (moves : List Move) → run ops code moves ≡ Some s → (s.failed ≡ None → IsStuck ops code s)
       → IsLogOf under s stored → Reproduces ops code stored.log moves
   reproduced under stored moves leads stuck is = record {

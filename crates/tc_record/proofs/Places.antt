@@ -1,4 +1,4 @@
--- A thread that failed stands at an instruction.
+-- A thread that failed is at an instruction.
 use Rattle.std.proofs.Common.{◌≡◌, ◌∙◌, ℕ, Option, Some, None, IsSome, true, false, sym, subst}
 use Rattle.std.specs.Prelude.{IsSomeAnd, option_map, is_some}
 use Rattle.std.specs.FinMap as fin
@@ -8,7 +8,7 @@ use Rattle.tc_base.specs.States.{Thread, State}
 use Rattle.tc_code.specs.Code.{Code, instr_at}
 
 module _ {B : Type 0} (code : Code) where
-  -- an instruction stands at the place of this thread
+  -- there is an instruction at the place of this thread
   abbrev IsAt : Thread B → Type 0
   IsAt t = IsSome (instr_at code t.local.function t.local.instruction)
 
@@ -21,7 +21,7 @@ module _ {B : Type 0} (code : Code) where
   placed None at e = at
   placed (Some t) at e = cc
 
-  -- where its instruction stands
+  -- there is an instruction where this thread is
   stands : (o : Option (Thread B)) (f i : ℕ) → IsSomeAnd o IsAt → option_map place o ≡ Some (f, i) → IsSome (instr_at code f i)
   stands None f i at e = absurd at
   stands (Some t) f i at e =
@@ -36,11 +36,11 @@ module _ {B : Type 0} (code : Code) where
     pub has_place : (p : Option (ℕ × ℕ)) → p ≡ option_map place (fin.get s.threads n) → p ≡ None → ⊥
     has_place p is none = placed (fin.get s.threads n) at_place (sym is ∙ none)
 
-    -- and an instruction there
+    -- the failed thread has an instruction at its place
     pub has_instr : (p : Option (ℕ × ℕ)) (f i : ℕ) → p ≡ option_map place (fin.get s.threads n) → p ≡ Some (f, i) → IsSome (instr_at code f i)
     has_instr p f i is some = stands (fin.get s.threads n) f i at_place (sym is ∙ some)
 
--- what is there isn't none
+-- an option with a value isn't none
 pub not_none : {X Y : Type 0} (o : Option X) (q : Option Y) → is_some o ≡ is_some q → IsSome q → o ≡ None → ⊥
 not_none None q e some none = let bad : false ≡ true = e ∙ some in cc
 not_none (Some x) q e some none = cc

@@ -1,4 +1,4 @@
--- What holds in each state that a run reaches.
+-- Facts on each state that a run reaches.
 use Rattle.std.proofs.Common.{◌≡◌, ◌∙◌, ◌⊎◌, inl, inr, ℕ, ◌+◌, ◌-◌, ◌<◌, ◌≤◌, Bool, true, cond, List, [], ◌∷◌, length, true≢false}
 use Rattle.std.proofs.Common.{Option, Some, None, IsSome, refl, ap, sym, subst, arith}
 use Rattle.std.specs.Option.{is_some, IfSome, IsSomeAnd}
@@ -19,7 +19,7 @@ use Rattle.tc_code.specs.declared.instr.Instr.{Instr}
 use Rattle.tc_code.specs.declared.instr.Instr.TheVariants.{Branch, Create}
 use Rattle.tc_code.specs.Code.{Code, instr_at}
 use Rattle.tc_code.proofs.Facts.{at_its_place}
-use Rattle.tc_code.specs.Step.{step, opening, perform, request, born, stepped}
+use Rattle.tc_code.specs.Step.{step, opening, perform, request, born, step_in_place}
 use Rattle.tc_code.specs.Run.{IsReached}
 use Rattle.run_laws.specs.Whole.{AllThreads}
 use Rattle.run_laws.proofs.Basics.{either, some_is}
@@ -33,16 +33,16 @@ use Rattle.run_laws.proofs.Main.{main_is_there, thread_stays}
 use Rattle.tc_record.specs.helpers.Paths.{HasThreads}
 
 module _ {B : Type 0} (ops : BufferOps B) (code : Code) where
-  -- The thread that has failed is there.
+  -- The thread that has failed exists.
 
-  -- an instruction fails no thread but its own
+  -- an instruction can only fail its own thread
   fails_alone : (s : State B) (n : Name) (t : Thread B) (i : Instr) (r : Request) → ((perform ops code s n t i r).failed ≡ s.failed)
       ⊎ ((perform ops code s n t i r).failed ≡ Some n)
   fails_alone s n t i Fail = inr refl
   fails_alone s n t i (Write c v) = inl (either (λ (u : State B). u.failed ≡ s.failed) ops.buffered _ _ refl refl)
   fails_alone s n t i _ = inl refl
 
-  -- a move fails no thread but that which makes it
+  -- a move can only fail the thread that makes it
   failed_after : (s u : State B) (m : Move) → Went ops code s u m → s.failed ≡ None
       → (u.failed ≡ None) ⊎ ((n : Name) × (u.failed ≡ Some n) × IsSome (fin.get s.threads n))
   failed_after s u (move.Run n) w none =
@@ -70,7 +70,7 @@ module _ {B : Type 0} (ops : BufferOps B) (code : Code) where
       none-some_is some = cc
   some_and (Some n) P some h = h
 
-  -- a name that is listed is one of some
+  -- if some listed name passes, the list isn't empty
   some_listed : (p : Name → Bool) (ns : List Name) → list_any p ns ≡ true → 0 < length ns
   some_listed p [] h = absurd (true≢false (sym h))
   some_listed p (n ∷ ns) h = omega arith
@@ -97,7 +97,7 @@ module _ {B : Type 0} (ops : BufferOps B) (code : Code) where
       → FailedAt (perform ops code s n t i r)
   fails_at s n t i Fail none at =
       subst (λ o. IsSomeAnd o (λ u. IsSome (instr_at code u.local.function u.local.instruction)))
-      (sym (get_put s.threads n (record t { local = stepped t.local }))) (some_is _ i at)
+      (sym (get_put s.threads n (record t { local = step_in_place t.local }))) (some_is _ i at)
   fails_at s n t i (Write c v) none at =
       none_at (perform ops code s n t i (Write c v)) (either (λ (u : State B). u.failed ≡ None) ops.buffered _ _ none none)
   fails_at s n t i r none at = none_at (perform ops code s n t i r) none
@@ -113,12 +113,12 @@ module _ {B : Type 0} (ops : BufferOps B) (code : Code) where
       some_and s.failed _ some (holds_in_reached ops code FailedAt tt
       (λ v u m w one h. failed_at v u m (step_went ops code v u m one) (none_failed ops code v u m one)) s r)
 
-  -- There are more threads than any of them has created.
+  -- There are more threads than children of any of them.
 
   abbrev HasMore : State B → Type 0
   HasMore s = AllThreads (λ t. t.children + 1 ≤ fin.len s.threads) s.threads
 
-  -- with one more thread put in, and at most so many children each
+  -- each thread still has fewer than `k` children with one such thread put in
   put_fits : (k : ℕ) (threads : ByName (Thread B)) (n : Name) (new : Thread B) → AllThreads (λ t. t.children + 1 ≤ k) threads → new.local.children + 1 ≤ k
       → AllThreads (λ t. t.children + 1 ≤ k) (fin.insert threads n new)
   put_fits k threads n new all fits q t there =
@@ -127,7 +127,7 @@ module _ {B : Type 0} (ops : BufferOps B) (code : Code) where
         | inr was ↦ all q t was.1
       ]
 
-  -- a thread that is put in anew makes no more threads
+  -- a put under an existing name doesn't change the number of threads
   len_put : (threads : ByName (Thread B)) (n : Name) (new old : Thread B) → fin.get threads n ≡ Some old → fin.len (fin.insert threads n new) ≡ fin.len threads
   len_put threads n new old there =
       fin.len-insert nat_list_cmp_total threads n new
@@ -179,6 +179,6 @@ module _ {B : Type 0} (ops : BufferOps B) (code : Code) where
       let one = len_put_new fin.empty main first (fin.get-empty (slice_cmp nat_cmp) main) in
       put_fits _ fin.empty main first (λ n t there. absurd (none-some t (sym (fin.get-empty (slice_cmp nat_cmp) n) ∙ there))) (omega (arith, one))
 
-  -- each thread has created fewer than there are
+  -- each thread has fewer children than there are threads
   pub children_fit : (s : State B) → IsReached ops code s → HasMore s
   children_fit = holds_in_reached ops code HasMore opening_fits (λ s u m r one fits. step_fits s u m r one fits)

@@ -15,7 +15,7 @@ use Rattle.tc_machine.proofs.Listing.{listed_is_enabled}
 use Rattle.tc_record.specs.declared.end.End.{End}
 use Rattle.tc_record.specs.declared.end.End.TheVariants as end
 use Rattle.tc_record.specs.Ends.{end_at, end_without_moves}
-use Rattle.tc_record.specs.Seeded.{Ended, ended, behind, chosen, making, seed_words, seeded_from, seeded_run}
+use Rattle.tc_record.specs.Seeded.{Ended, run_ended_at, with_moves_before, chosen_move, run_by_move, seed_words, seeded_from, seeded_run}
 use Rattle.tc_record.specs.helpers.Turns.{IsTurn}
 
 -- Words.
@@ -25,7 +25,7 @@ abbrev pub words : ℕ → Stream → List ℕ
 words zero s = []
 words (suc k) s = (next_u64 s).0 ∷ words k (next_u64 s).1
 
--- those of SplitMix64 are the words of its state
+-- the words of SplitMix64 are the words of its state
 pub words_of_seed : (k seed : ℕ) → words k (stream_of splitmix_steps seed) ≡ first_words mix_u64 k seed
 unfolding first_words
 words_of_seed zero seed = refl
@@ -37,7 +37,7 @@ pub length-words : (k : ℕ) (s : Stream) → length (words k s) ≡ k
 length-words zero s = refl
 length-words (suc k) s = ap suc (length-words k (next_u64 s).1)
 
--- some words and the rest of so many, before and after the next
+-- the words drawn and those still to draw, before and after the next one
 
 pub none_drawn : (rng seed count : ℕ) → rng ≡ seed → words (count - 0) (stream_of splitmix_steps rng) ≡ seed_words seed count
 none_drawn rng seed count same =
@@ -59,62 +59,62 @@ all_drawn front s i count end =
 -- Ended runs.
 
 module _ {B : Type 0} where
-  pub behind_ended : (ms : List Move) (s : State B) (e : End) → behind ms (ended s e) ≡ record { moves = ms; state = s; end = e }
+  pub behind_ended : (ms : List Move) (s : State B) (e : End) → with_moves_before ms (run_ended_at s e) ≡ record { moves = ms; state = s; end = e }
   behind_ended ms s e = ap (λ xs. let r : Ended B = record { moves = xs; state = s; end = e } in r) (append-nil ms)
 
-  behind_twice : (ms : List Move) (m : Move) (r : Ended B) → behind ms (behind (m ∷ []) r) ≡ behind (ms ++ m ∷ []) r
+  behind_twice : (ms : List Move) (m : Move) (r : Ended B) → with_moves_before ms (with_moves_before (m ∷ []) r) ≡ with_moves_before (ms ++ m ∷ []) r
   behind_twice ms m r = ap (λ xs. let q : Ended B = record { moves = xs; state = r.state; end = r.end } in q) (sym (append_assoc ms (m ∷ []) r.moves))
 
   behind_either : (ms : List Move) (u : State B) (o : Option End) (r : Ended B)
-      → behind ms (option_map_or (ended u) o r) ≡ option_map_or (λ e. behind ms (ended u e)) o (behind ms r)
+      → with_moves_before ms (option_map_or (run_ended_at u) o r) ≡ option_map_or (λ e. with_moves_before ms (run_ended_at u e)) o (with_moves_before ms r)
   behind_either ms u None r = refl
   behind_either ms u (Some e) r = refl
 
 module _ {B : Type 0} (ops : BufferOps B) (code : Code) where
-  -- what is chosen is enabled
-  pub chosen_is_enabled : (s : State B) (word : ℕ) (m : Move) → Some m ≡ chosen ops code s word → IsSome (step ops code s m)
+  -- the chosen move is enabled
+  pub chosen_is_enabled : (s : State B) (word : ℕ) (m : Move) → Some m ≡ chosen_move ops code s word → IsSome (step ops code s m)
   chosen_is_enabled s word m is = listed_is_enabled ops code s _ m (sym is)
 
   -- a turn in which no move is enabled
-  pub turn_without_moves : (s : State B) (before : List Move) (word : ℕ) → None ≡ chosen ops code s word
+  pub turn_without_moves : (s : State B) (before : List Move) (word : ℕ) → None ≡ chosen_move ops code s word
       → IsTurn ops code s s before before word (Some (end_without_moves s))
   turn_without_moves s before word none rest =
-      ap (λ (o : Option Move). behind before (option_map_or (making ops code s (λ u. seeded_from ops code u rest)) o (ended s (end_without_moves s))))
+      ap (λ (o : Option Move). with_moves_before before (option_map_or (run_by_move ops code s (λ u. seeded_from ops code u rest)) o (run_ended_at s (end_without_moves s))))
       (sym none)
 
   -- a turn in which a move is made
-  pub turn_with_move : (s u : State B) (before after : List Move) (word : ℕ) (m : Move) (e : Option End) → chosen ops code s word ≡ Some m
+  pub turn_with_move : (s u : State B) (before after : List Move) (word : ℕ) (m : Move) (e : Option End) → chosen_move ops code s word ≡ Some m
       → step ops code s m ≡ Some u → after ≡ before ++ m ∷ [] → end_at u ≡ e → IsTurn ops code s u before after word e
   turn_with_move s u before after word m e picks steps more ends rest =
       let on : State B → Ended B = λ v. seeded_from ops code v rest in
-      ap (λ (o : Option Move). behind before (option_map_or (making ops code s on) o (ended s (end_without_moves s)))) picks
-      ∙ ap (λ (o : Option (State B)). behind before (option_map_or (λ v. behind (m
-      ∷ []) (option_map_or (ended v) (end_at v) (on v))) o (ended s end.StepLimit))) steps
-      ∙ behind_twice before m (option_map_or (ended u) (end_at u) (on u))
-      ∙ ap (λ ms. behind ms (option_map_or (ended u) (end_at u) (on u))) (sym more)
-      ∙ ap (λ o. behind after (option_map_or (ended u) o (on u))) ends
+      ap (λ (o : Option Move). with_moves_before before (option_map_or (run_by_move ops code s on) o (run_ended_at s (end_without_moves s)))) picks
+      ∙ ap (λ (o : Option (State B)). with_moves_before before (option_map_or (λ v. with_moves_before (m
+      ∷ []) (option_map_or (run_ended_at v) (end_at v) (on v))) o (run_ended_at s end.StepLimit))) steps
+      ∙ behind_twice before m (option_map_or (run_ended_at u) (end_at u) (on u))
+      ∙ ap (λ ms. with_moves_before ms (option_map_or (run_ended_at u) (end_at u) (on u))) (sym more)
+      ∙ ap (λ o. with_moves_before after (option_map_or (run_ended_at u) o (on u))) ends
       ∙ behind_either after u e (on u)
 
   -- the run of a seed begins with the words of its generator
   pub begins : (s : State B) (rng seed steps : ℕ) → s ≡ opening ops code → rng ≡ seed
-      → behind [] (seeded_from ops code s (words (steps - 0) (stream_of splitmix_steps rng))) ≡ seeded_run ops code seed steps
+      → with_moves_before [] (seeded_from ops code s (words (steps - 0) (stream_of splitmix_steps rng))) ≡ seeded_run ops code seed steps
   begins s rng seed steps first same =
       let none : steps - 0 ≡ steps = omega arith in
-      ap (λ (u : State B). behind [] (seeded_from ops code u (words (steps - 0) (stream_of splitmix_steps rng)))) first
+      ap (λ (u : State B). with_moves_before [] (seeded_from ops code u (words (steps - 0) (stream_of splitmix_steps rng)))) first
       ∙ ap (λ n. seeded_from ops code (opening ops code) (words (steps - 0) (stream_of splitmix_steps n))) same
       ∙ ap (λ k. seeded_from ops code (opening ops code) (words k (stream_of splitmix_steps seed))) none
       ∙ ap (seeded_from ops code (opening ops code)) (words_of_seed steps seed)
 
   module _ (s u : State B) (before after : List Move) (word : ℕ) (old new : Stream) (i steps : ℕ) (whole : Ended B) (some : i < steps)
-      (gives : (word, new) ≡ next_u64 old) (so_far : behind before (seeded_from ops code s (words (steps - i) old)) ≡ whole) where
-    this_turn : behind before (seeded_from ops code s (word ∷ words (steps - (i + 1)) new)) ≡ whole
+      (gives : (word, new) ≡ next_u64 old) (so_far : with_moves_before before (seeded_from ops code s (words (steps - i) old)) ≡ whole) where
+    this_turn : with_moves_before before (seeded_from ops code s (word ∷ words (steps - (i + 1)) new)) ≡ whole
     this_turn =
         let one : steps - i ≡ suc (steps - (i + 1)) = omega (arith, some) in
-        ap (λ (p : ℕ × Stream). behind before (seeded_from ops code s (p.0 ∷ words (steps - (i + 1)) p.1))) gives
-        ∙ ap (λ k. behind before (seeded_from ops code s (words k old))) (sym one) ∙ so_far
+        ap (λ (p : ℕ × Stream). with_moves_before before (seeded_from ops code s (p.0 ∷ words (steps - (i + 1)) p.1))) gives
+        ∙ ap (λ k. with_moves_before before (seeded_from ops code s (words k old))) (sym one) ∙ so_far
 
     -- after a turn that doesn't end the run it goes on
-    pub goes_on : IsTurn ops code s u before after word None → behind after (seeded_from ops code u (words (steps - (i + 1)) new)) ≡ whole
+    pub goes_on : IsTurn ops code s u before after word None → with_moves_before after (seeded_from ops code u (words (steps - (i + 1)) new)) ≡ whole
     goes_on turn = sym (turn (words (steps - (i + 1)) new)) ∙ this_turn
 
     -- a turn that ends the run

@@ -1,4 +1,4 @@
--- How many bytes the text of a recorded log has.
+-- The number of bytes in the text of a recorded log.
 use Rattle.std.proofs.Common.{◌≡◌, ◌∙◌, ◌≤◌, ◌^◌, ℕ, ◌+◌, ◌*◌, Bool, true, false, cond, List, [], ◌∷◌, ◌++◌, length, Some, refl}
 use Rattle.std.proofs.Common.{arith}
 use Rattle.std.specs.Prelude.{◌==◌, ◌&&◌, IsTrue, nat_le, nat_lt}
@@ -19,7 +19,7 @@ one_more : (b : Bool) (n k : ℕ) (xs ys : List ℕ) → length xs ≤ k → len
 one_more true n k xs ys h g = omega (arith, h)
 one_more false n k xs ys h g = omega (arith, g)
 
--- no more runs than outcomes
+-- there are at most as many runs as outcomes
 runs_few : (outcome : Bool) (n : ℕ) (others : List Bool) → length (runs_behind outcome n others) ≤ length others + 1
 runs_few outcome n [] = omega arith
 runs_few outcome n (next ∷ others) =
@@ -29,7 +29,7 @@ runs_few outcome n (next ∷ others) =
           (runs_few outcome (n + 1) others) (runs_few next 1 others),
     )
 
--- two bytes for each
+-- each number takes two bytes
 pairs : (ns : List ℕ) → length (flat_map (big_bytes 2) ns) ≡ 2 * length ns
 pairs [] = refl
 pairs (n ∷ ns) = length-append (big_bytes 2 n) (flat_map (big_bytes 2) ns) ∙ omega (arith, pairs ns)

@@ -30,12 +30,12 @@ pub record Ended (B : Type 0) : Type 0 where
   pub end : End
 
 -- a run that ends in a state before any move
-abbrev pub ended : {B : Type 0} → State B → End → Ended B
-ended s e = record { moves = []; state = s; end = e }
+abbrev pub run_ended_at : {B : Type 0} → State B → End → Ended B
+run_ended_at s e = record { moves = []; state = s; end = e }
 
 -- a run with more moves in front
-abbrev pub behind : {B : Type 0} → List Move → Ended B → Ended B
-behind ms run = record run { moves = ms ++ run.moves }
+abbrev pub with_moves_before : {B : Type 0} → List Move → Ended B → Ended B
+with_moves_before ms run = record run { moves = ms ++ run.moves }
 
 -- the first n words of SplitMix64 with this seed
 abbrev pub seed_words : (seed n : ℕ) → List ℕ
@@ -43,17 +43,17 @@ seed_words seed n = first_words mix_u64 n seed
 
 module _ {B : Type 0} (ops : BufferOps B) (code : Code) where
   -- the move that a word chooses, if any is enabled
-  abbrev pub chosen : State B → ℕ → Option Move
-  chosen s word = slice_get (enabled_moves ops code s) (word % length (enabled_moves ops code s))
+  abbrev pub chosen_move : State B → ℕ → Option Move
+  chosen_move s word = slice_get (enabled_moves ops code s) (word % length (enabled_moves ops code s))
 
   -- the run that makes a move and then ends by a test or goes on
-  abbrev pub making : State B → (State B → Ended B) → Move → Ended B
-  making s on m = option_map_or (λ u. behind (m ∷ []) (option_map_or (ended u) (end_at u) (on u))) (step ops code s m) (ended s end.StepLimit)
+  abbrev pub run_by_move : State B → (State B → Ended B) → Move → Ended B
+  run_by_move s on m = option_map_or (λ u. with_moves_before (m ∷ []) (option_map_or (run_ended_at u) (end_at u) (on u))) (step ops code s m) (run_ended_at s end.StepLimit)
 
   -- the run that words choose from a state: one move for each, until it ends or no word is left
   abbrev pub seeded_from : State B → List ℕ → Ended B
-  seeded_from s [] = ended s end.StepLimit
-  seeded_from s (word ∷ words) = option_map_or (making s (λ u. seeded_from u words)) (chosen s word) (ended s (end_without_moves s))
+  seeded_from s [] = run_ended_at s end.StepLimit
+  seeded_from s (word ∷ words) = option_map_or (run_by_move s (λ u. seeded_from u words)) (chosen_move s word) (run_ended_at s (end_without_moves s))
 
   -- the run of a seed with at most this many moves
   abbrev pub seeded_run : (seed steps : ℕ) → Ended B

@@ -120,7 +120,7 @@ fn chosen<M: MemoryModel>(
     word: u64,
 ) -> Result<Option<Move>, AllocError>
     requires reached { IsReached M.ops code.now state.now }
-    ensures { IfOk result (λ m. m ≡ spec.chosen M.ops code.now state.now word) }
+    ensures { IfOk result (λ m. m ≡ spec.chosen_move M.ops code.now state.now word) }
 {
     let choices = choices(alloc, code, state)?;
     if choices.is_empty() {

@@ -1,4 +1,4 @@
--- One more operand at the right of an expression.
+-- An expression with one more operand at its right.
 use Rattle.std.proofs.Common.{◌≡◌, ℕ, suc, ◌<◌, ◌≤◌, List, ◌∷◌, refl, ap, arith, ◌⊎◌, inl, inr}
 use Rattle.std.proofs.lemmas.Bool.{cases_lt}
 use Rattle.tc_tree.specs.declared.expression.Operator.{Operator}

@@ -93,7 +93,7 @@ use Rattle.tc_syntax.proofs.Attached.{level_small}
 
 -- ---- expressions
 
--- an expression so far
+-- the expression read so far
 pub record IsSoFar (least : ℕ) (ws : List Word) (e : Expression) (rest : List Word) : Type 0 where
   pub spelled : ws ≡ expression_then e rest
   pub grouped : IsGrouped e
@@ -124,7 +124,7 @@ first_operand least ws e rest h o = record {
 next_sign : (op : Operator) (rest : List Word) → next_level (ASign (binary_sign op) ∷ rest) ≡ level op
 next_sign op rest = ap level_of (operator_is op)
 
--- one operator and its right operand more
+-- one more operator with its right operand
 pub one_more_operand : (least : ℕ) (ws : List Word) (e : Expression) (rest : List Word) (op : Operator) (start : List Word) (f : Expression)
     (after : List Word) → IsSoFar least ws e rest → rest ≡ ASign (binary_sign op) ∷ start → least ≤ level op → IsTight (level op + 1) start f after
     → IsSoFar least ws (Binary op e f) after
@@ -139,12 +139,12 @@ one_more_operand least ws e rest op start f after c is h r =
       shorter = omega (arith, c.shorter, ap length is, r.shorter);
     }
 
--- where the right operand is at fault
+-- after an operator, the fault is that of its right operand and the rest
 pub operand_goes : (least : ℕ) (ws : List Word) (e : Expression) (rest : List Word) (op : Operator) (start : List Word) → IsSoFar least ws e rest
     → rest ≡ ASign (binary_sign op) ∷ start → (s : List Expected) → fault (Some (Operand ∷ Operators ∷ s)) ws ≡ fault (Some (Operand ∷ Operators ∷ s)) start
 operand_goes least ws e rest op start c is s = c.moves s ∙ ap (λ (us : List Word). fault (Some (Operators ∷ s)) us) is ∙ sign_read op s start
 
--- the expression is as long as it can be
+-- before an operator of a lower level, the expression is as long as possible
 pub as_tight : (least : ℕ) (ws : List Word) (e : Expression) (rest : List Word) → IsSoFar least ws e rest → next_level rest < least → IsTight least ws e rest
 as_tight least ws e rest c h = record {
   spelled = c.spelled;
@@ -166,7 +166,7 @@ whole ws e rest t = record {
 
 -- ---- arguments
 
--- arguments so far
+-- the arguments read so far
 pub record AreSome (ws : List Word) (es : List Expression) (rest : List Word) : Type 0 where
   pub spelled : ws ≡ list_then es rest
   pub grouped : AreGrouped es
@@ -174,7 +174,7 @@ pub record AreSome (ws : List Word) (es : List Expression) (rest : List Word) : 
   pub moves : (s : List Expected) → fault (Some (Arguments ∷ Just sign.CloseParen ∷ s)) ws ≡ fault (Some (Others ∷ Just sign.CloseParen ∷ s)) rest
   pub shorter : length rest ≤ length ws
 
--- anything but `)` begins an argument, or nothing that may stand there
+-- unless the next word is `)`, an argument is expected
 pub argument_goes : (ws : List Word) → ((us : List Word) → ws ≡ ASign sign.CloseParen ∷ us → ⊥) → (s : List Expected)
     → fault (Some (Arguments ∷ Just sign.CloseParen ∷ s)) ws ≡ fault (Some (Operand ∷ Operators ∷ Others ∷ Just sign.CloseParen ∷ s)) ws
 argument_goes [] not s = refl
@@ -219,13 +219,13 @@ one_more_argument ws es rest start e after c is r = record {
   shorter = omega (arith, c.shorter, ap length is, r.shorter);
 }
 
--- where an argument is at fault
+-- after a comma, the fault is that of the next argument and the rest
 pub comma_goes : (ws : List Word) (es : List Expression) (rest start : List Word) → AreSome ws es rest → rest ≡ ASign sign.Comma ∷ start
     → (s : List Expected) → fault (Some (Arguments ∷ Just sign.CloseParen ∷ s)) ws ≡ fault
     (Some (Operand ∷ Operators ∷ Others ∷ Just sign.CloseParen ∷ s)) start
 comma_goes ws es rest start c is s = c.moves s ∙ ap (λ (us : List Word). fault (Some (Others ∷ Just sign.CloseParen ∷ s)) us) is
 
--- no more arguments
+-- without a comma, no argument is expected
 pub no_comma : (ws : List Word) → ((us : List Word) → ws ≡ ASign sign.Comma ∷ us → ⊥) → (s : List Expected) → fault (Some (Others ∷ s)) ws ≡ fault (Some s) ws
 no_comma [] not s = refl
 no_comma (ASign sign.Comma ∷ us) not s = absurd (not us refl)
@@ -252,7 +252,7 @@ one_more_statement ws ss rest a after c r = record {
   shorter = omega (arith, c.shorter, r.shorter);
 }
 
--- no statement is next
+-- a word with which no statement begins ends the statements
 none_begins : (w : Word) (ws : List Word) (o : Option (List Expected)) → statement w ≡ o → is_some (statement w) ≡ false → (s : List Expected)
     → fault (Some (Statements ∷ s)) (w ∷ ws) ≡ fault (Some s) (w ∷ ws)
 none_begins w ws None e h s = ap (λ (o : Option (List Expected)). fault
@@ -263,7 +263,7 @@ pub no_statement : (ws : List Word) → begins_statement ws ≡ false → (s : L
 no_statement [] h s = refl
 no_statement (w ∷ ws) h s = none_begins w ws (statement w) refl h s
 
--- what is assigned is a value where it is nothing else
+-- an assigned value is an expression if it is nothing else
 pub value_goes : (ws : List Word) → ((us : List Word) → ws ≡ AKeyword keyword.Create ∷ us → ⊥)
     → ((us : List Word) → ws ≡ AKeyword keyword.Swap ∷ us → ⊥) → ((us : List Word) → ws ≡ AKeyword keyword.Cas ∷ us → ⊥) → (s : List Expected)
     → fault (Some (AfterAssign ∷ s)) ws ≡ fault (Some (Operand ∷ Operators ∷ Just sign.Semicolon ∷ s)) ws
@@ -285,7 +285,7 @@ value_read x ws e end rest a b c r is = record {
   shorter = omega (arith, r.shorter, ap length is);
 }
 
--- neither an element nor an assignment
+-- after a name without `[` or `=`, the fault is that of a missing `=`
 pub name_goes : (ws : List Word) → ((us : List Word) → ws ≡ ASign sign.OpenBracket ∷ us → ⊥) → ((us : List Word) → ws ≡ ASign sign.Assign ∷ us → ⊥)
     → (s : List Expected) → fault (Some (AfterName ∷ s)) ws ≡ fault (Some (Just sign.Assign ∷ s)) ws
 name_goes [] a b s = refl
@@ -295,14 +295,14 @@ name_goes (_ ∷ us) a b s = refl
 
 -- ---- branches
 
--- no `else` is next
+-- no `else` follows
 pub no_else : (ws : List Word) → ((us : List Word) → ws ≡ AKeyword keyword.Else ∷ us → ⊥) → (s : List Expected)
     → fault (Some (Alternative ∷ s)) ws ≡ fault (Some s) ws
 no_else [] not s = refl
 no_else (AKeyword keyword.Else ∷ us) not s = absurd (not us refl)
 no_else (_ ∷ us) not s = refl
 
--- after an `else` that no `if` follows a block is expected
+-- if no `if` follows an `else`, a block is expected
 pub block_goes : (ws : List Word) → ((p : Place) (us : List Word) → ws ≡ AnIf p ∷ us → ⊥) → (s : List Expected)
     → fault (Some (AfterElse ∷ s)) ws ≡ fault (Some (Just sign.OpenBrace ∷ Statements ∷ End ∷ s)) ws
 block_goes [] not s = refl
@@ -327,7 +327,7 @@ branches_snoc : (bs : List SeenBranch) (b : SeenBranch) → AreWellBranches bs �
 branches_snoc [] b g h k = (h, k, tt)
 branches_snoc (c ∷ bs) b g h k = (g.0, g.1, branches_snoc bs b g.2 h k)
 
--- where an `else` is
+-- after an `else`, the fault is that of the rest
 pub else_goes : (ws : List Word) (bs : List SeenBranch) (rest after : List Word)
     → IsPassed chain_then AreWellBranches Alternative Alternative ws bs rest → rest ≡ AKeyword keyword.Else ∷ after → (s : List Expected)
     → fault (Some (Alternative ∷ s)) ws ≡ fault (Some (AfterElse ∷ s)) after
@@ -365,7 +365,7 @@ no_last ws bs rest c not = record {
   shorter = c.shorter;
 }
 
--- or with one
+-- a chain that ends with the block of an `else`
 pub one_last : (ws : List Word) (bs : List SeenBranch) (rest after : List Word) (b : SeenBlock) (end : List Word)
     → IsPassed chain_then AreWellBranches Alternative Alternative ws bs rest → rest ≡ AKeyword keyword.Else ∷ after
     → ((p : Place) (us : List Word) → after ≡ AnIf p ∷ us → ⊥)
@@ -417,7 +417,7 @@ well_threads_snoc : (ts : List Thread) (t : Thread) → AreWellThreads ts → Ar
 well_threads_snoc [] t g h = (h, tt)
 well_threads_snoc (u ∷ ts) t g h = (g.0, well_threads_snoc ts t g.1 h)
 
--- parameters so far
+-- the parameters read so far
 pub record AreParameters (ws : List Word) (xs : List Name) (rest : List Word) : Type 0 where
   pub spelled : ws ≡ parameters_then xs rest
   pub some : xs ≢ []
@@ -461,7 +461,7 @@ no_other_parameter [] not s = refl
 no_other_parameter (ASign sign.Comma ∷ us) not s = absurd (not us refl)
 no_other_parameter (_ ∷ us) not s = refl
 
--- neither a thread nor main
+-- neither a thread nor main follows
 pub no_main : (ws : List Word) → ((us : List Word) → ws ≡ AKeyword keyword.Thread ∷ us → ⊥) → ((us : List Word) → ws ≡ AKeyword keyword.Main ∷ us → ⊥)
     → (s : List Expected) → fault (Some (Threads ∷ s)) ws ≡ Some (length ws)
 no_main [] a b s = refl
@@ -492,7 +492,7 @@ one_more_parameter ws xs rest start end x after c is is' is'' =
       shorter = omega (arith, c.shorter, ap length all);
     }
 
--- what may stand after the declarations of a program begins with a thread or main
+-- words that fit after the declarations of a program begin with a thread or main
 pub threads_end : (ws : List Word) (gs : List Global) (rest : List Word) → IsPassed globals_then IsAny Globals Globals ws gs rest
     → begins_global rest ≡ false → IsPassed globals_then IsAny Globals Threads ws gs rest
 threads_end ws gs rest c h = record {
@@ -502,7 +502,7 @@ threads_end ws gs rest c h = record {
   shorter = c.shorter;
 }
 
--- what is at fault in a program
+-- where the rest of a program stops, the program stops
 pub ends_after : (ws rest : List Word) (x : Expected) (stop : Stop)
     → ((s : List Expected) → fault (Some (Globals ∷ s)) ws ≡ fault (Some (x ∷ s)) rest) → Stops (x ∷ []) rest stop → Ends ws stop
 ends_after ws rest x Memory m h = tt

@@ -1,4 +1,4 @@
--- What is expected can always be written in words that language 1 has.
+-- What is expected can always be completed with words of language 1.
 use Rattle.std.proofs.Common.{◌≡◌, ◌≤◌, Bool, true, false, List, [], ◌∷◌, ◌++◌, Option, Some, None, refl, ◌∙◌}
 use Rattle.std.specs.Prelude.{nat_le, nat_eq}
 use Rattle.std.specs.List.{list_all}

@@ -1,4 +1,5 @@
--- What the machine took begins a program, and no program goes on with what it refused.
+-- A program begins with the words that the machine took, and none continues with a word that it
+-- refused.
 use Rattle.std.proofs.Common.{
   ◌≡◌,
   ℕ,
@@ -110,7 +111,7 @@ use Rattle.tc_syntax.proofs.Stands.{Stands, StandsAfter, StandsThen, first_more,
 use Rattle.tc_syntax.proofs.Early.{are_early, early_after, early_rest, early_sign, step_early}
 use Rattle.tc_syntax.proofs.Trees.{program_read}
 
--- what stands after a word that was expected stands, with the word, where it was
+-- if words fit after a step over a word, the word fits together with them
 by_first : (x : Expected) (s : List Expected) (w : Word) (ws : List Word) (o : Option (List Expected)) → first x w ≡ o → (b : Bool) → skips x ≡ b
     → (StandsAfter (step s w) ws → Stands s (w ∷ ws)) → StandsAfter
     (elim o [ Some es ↦ Some (es ++ s) | None ↦ elim b [ true ↦ step s w | false ↦ None ] ]) ws → Stands (x ∷ s) (w ∷ ws)
@@ -131,7 +132,7 @@ a_name = record { start = 0; end = 0; place = a_place }
 a_number : TreeNumber
 a_number = record { value = pos 0; place = a_place }
 
--- something always stands
+-- some words always fit
 finish : (s : List Expected) → (ws : List Word) × Stands s ws
 finish [] = ([], refl)
 finish (Just k ∷ s) = let f = finish s in (ASign k ∷ f.0, (f.0, refl, f.1))
@@ -192,7 +193,7 @@ pub are_of : (ws : List Word) → AreOf 3 ws
 are_of [] = tt
 are_of (w ∷ ws) = (word_small w, are_of ws)
 
--- ---- what finishes a text is of each language
+-- ---- words that complete a text are of each language
 
 of_append : (language : ℕ) (ws us : List Word) → AreOf language ws → AreOf language us → AreOf language (ws ++ us)
 of_append language [] us f g = g
@@ -227,7 +228,7 @@ module _ (language : ℕ) (least : 1 ≤ language) where
 
 -- ---- programs
 
--- whatever stands where these are expected makes the words before it a program's
+-- any words that fit what is expected complete the words before them to a program
 abbrev Completes : List Expected → List Word → Type 0
 Completes s before = (ws : List Word) → Stands s ws → (p : Program) × IsWellProgram p × (before ++ ws ≡ program_words p)
 
@@ -255,7 +256,7 @@ option_cases : (o : Option (List Expected)) → (o ≡ None) ⊎ ((s : List Expe
 option_cases None = inl refl
 option_cases (Some s) = inr (s, refl)
 
--- the words before the fault, and those from it on
+-- the words before the fault, and the words from the fault on
 record Cut (language : ℕ) (s : List Expected) (before ws : List Word) (left : ℕ) : Type 0 where
   front : List Word
   rest : List Word
@@ -353,7 +354,7 @@ module _ (language : ℕ) (least : 1 ≤ language) where
       let moved = ap (λ (us : List Word). fault (Some (Globals ∷ [])) us) is.spelled in
       cc
 
-  -- where the machine refuses, the fault is that of the definition
+  -- if the machine refuses, the fault is that of the definition
   pub is_syntax_fault : (ws : List Word) (left : ℕ) → AreOf language ws → fault (Some (Globals ∷ [])) ws ≡ Some left
       → (left ≤ length ws) × IsSyntaxFault language ws (length ws - left)
   is_syntax_fault ws left all e =

@@ -1,4 +1,4 @@
--- Signs, and the operators that they are.
+-- Signs and their operators.
 use Rattle.std.proofs.Common.{
   ◌≡◌,
   ◌≢◌,
@@ -201,7 +201,7 @@ some_level operator.BitOr = omega arith
 some_level operator.And = omega arith
 some_level operator.Or = omega arith
 
--- no operator is next
+-- no operator follows
 pub no_operator : (ws : List Word) → next_level ws < 1 → (s : List Expected) → fault (Some (Operators ∷ s)) ws ≡ fault (Some s) ws
 no_operator [] h s = refl
 no_operator (w ∷ ws) h s = none_next w ws (infix_of w) refl h s
@@ -211,13 +211,13 @@ no_operator (w ∷ ws) h s = none_next w ws (infix_of w) refl h s
     none_next w ws None e h s = ap (λ (o : Option Operator). fault (elim (more_operators o) [ Some es ↦ Some (es ++ s) | None ↦ step s w ]) ws) e
     none_next w ws (Some op) e h s = absurd (omega (arith, some_level op, rw e at h))
 
--- an operator's sign goes on with an operand
+-- an operand follows an operator's sign
 pub sign_read : (op : Operator) (s : List Expected) (rest : List Word)
     → fault (Some (Operators ∷ s)) (ASign (binary_sign op) ∷ rest) ≡ fault (Some (Operand ∷ Operators ∷ s)) rest
 sign_read op s rest = ap (λ (o : Option Operator). fault
     (elim (more_operators o) [ Some es ↦ Some (es ++ s) | None ↦ step s (ASign (binary_sign op)) ]) rest) (operator_is op)
 
--- a sign that is expected
+-- an expected sign
 pub sign_moves : (k : Sign) (ws rest : List Word) → ws ≡ ASign k ∷ rest → Moves (Just k ∷ []) ws rest
 sign_moves k ws rest e s = ap (λ (z : List Word). fault (Some (Just k ∷ s)) z) e
     ∙ ap (λ (b : Bool). fault (elim (same b) [ Some es ↦ Some (es ++ s) | None ↦ None ]) rest) (own_code k)

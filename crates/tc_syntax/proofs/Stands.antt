@@ -1,4 +1,4 @@
--- What may stand where these are expected.
+-- The words that fit what is expected.
 use Rattle.std.proofs.Common.{◌≡◌, ◌≤◌, nat_eq, List, [], ◌∷◌, ◌++◌, Option, Some, None, Bool, true, false, refl, sym, ap, subst, ◌∙◌, append_assoc, arith}
 use Rattle.tc_lexer.specs.declared.place.Place.{Place}
 use Rattle.int_ops.specs.declared.arith.UnOp.{UnOp}
@@ -104,12 +104,12 @@ abbrev pub StandsAfter : Option (List Expected) → List Word → Type 0
 StandsAfter None ws = ⊥
 StandsAfter (Some s) ws = Stands s ws
 
--- what is expected after a word that begins so
+-- words that fit what is expected after a word
 abbrev pub StandsThen : Option (List Expected) → List Expected → List Word → Type 0
 StandsThen None s ws = ⊥
 StandsThen (Some es) s ws = Stands (es ++ s) ws
 
--- an expression stands where an operand and operators are expected
+-- words that begin with an expression, and the rest, which fits what is expected then
 pub record AnExpression (s : List Expected) (ws : List Word) : Type 0 where
   pub tree : Expression
   pub rest : List Word
@@ -167,7 +167,7 @@ subscript_more s ws d =
     let e = ended sign.CloseBracket s ws d in
     (e.rest, (λ x. (Element x e.tree, e.grouped, omega arith, ap (λ (us : List Word). AName x ∷ ASign sign.OpenBracket ∷ us) e.spelled)), e.then)
 
--- the first argument, and one after a comma
+-- words that fit an argument and more fit where arguments are expected
 argument_more : (s : List Expected) (ws : List Word) → Stands (Operand ∷ Operators ∷ Others ∷ s) ws → Stands (Arguments ∷ s) ws
 argument_more s ws d =
     let e = expression (Others ∷ s) ws d in
@@ -262,7 +262,7 @@ cas_more s ws (r0, is0, (x, r1, is1, (r2, is2, d))) =
       f.then.2,
     )
 
--- one statement more, before the others
+-- one more statement before the others
 one_statement : (a : Statement) (s : List Expected) (ws rest : List Word) → IsWell a → ws ≡ statement_then a rest → Stands (Statements ∷ s) rest
     → Stands (Statements ∷ s) ws
 one_statement a s ws rest ga is (b, r, gb, is', d) = (Cons a b, r, (ga, gb), is ∙ ap (λ (us : List Word). statement_then a us) is', d)
@@ -481,7 +481,7 @@ thread_more s ws d =
     let t = a_thread_of (Threads ∷ s) ws d in
     one_thread t.thread s (AKeyword keyword.Thread ∷ ws) t.rest t.well t.spelled t.then
 
--- threads may stand where declarations may
+-- threads fit where declarations fit
 no_globals : (s : List Expected) (ws : List Word) → Stands (Threads ∷ s) ws → Stands (Globals ∷ s) ws
 no_globals s ws (ts, main, r, gts, gm, is, d) = ([], ts, main, r, gts, gm, is, d)
 
@@ -567,13 +567,13 @@ statement_more (ABarrier b p) s ws d = barrier_more b p s ws d
 statement_more (AnAssert p) s ws d = assert_more p s ws d
 statement_more _ s ws d = absurd d
 
--- a value, where no `create`, `swap` or `cas` stands
+-- a value other than `create`, `swap` or `cas`
 assigned_more : (w : Word) (s : List Expected) (ws : List Word) → StandsThen (followed (operand w) (Operators ∷ Just sign.Semicolon ∷ [])) s ws
     → Stands (AfterAssign ∷ s) (w ∷ ws)
 assigned_more w s ws d = value_more s (w ∷ ws) (operand_more w (Operators ∷ Just sign.Semicolon ∷ s) ws
     (followed_operand (operand w) (Operators ∷ Just sign.Semicolon ∷ []) s ws d))
 
--- what stands after a word that begins what is expected stands, with the word, where that is expected
+-- if a word begins what is expected, it fits there together with words that fit after it
 pub first_more : (x : Expected) (w : Word) (s : List Expected) (ws : List Word) → StandsThen (first x w) s ws → Stands (x ∷ s) (w ∷ ws)
 first_more (Just k) (ASign t) s ws d = just_more k t (nat_eq (sign_code k) (sign_code t)) refl s ws d
 first_more (Just k) _ s ws d = absurd d
@@ -630,7 +630,7 @@ first_more AnInitial (ASign sign.Minus) s ws d = negated_more s ws d
 first_more AnInitial (ANumber n) s ws d = plain_more n s ws d
 first_more AnInitial _ s ws d = absurd d
 
--- what may be left out
+-- words fit with something more expected before them if it may be skipped
 pub skip_more : (x : Expected) (s : List Expected) (ws : List Word) → skips x ≡ true → Stands s ws → Stands (x ∷ s) ws
 skip_more Subscript s ws h d = (ws, (λ x. (Variable x, tt, omega arith, refl)), d)
 skip_more Operators s ws h d = (ws, (λ f g. (f, g, refl)), d)

@@ -1,4 +1,4 @@
--- Where a tree's words stand, the machine goes on past them.
+-- The machine passes over the words of a tree.
 use Rattle.std.proofs.Common.{◌≡◌, Bool, true, false, List, [], ◌∷◌, Some, None, refl, ◌∙◌}
 use Rattle.tc_lexer.specs.declared.place.Place.{Place}
 use Rattle.int_ops.specs.declared.arith.UnOp.TheVariants.{Neg, Not, Inv}
@@ -39,7 +39,7 @@ use Rattle.tc_syntax.specs.helpers.Reading.{
 }
 use Rattle.tc_syntax.proofs.Signs.{operator_is, sign_read}
 
--- whether `[` is next
+-- whether `[` follows
 abbrev pub opens : List Word → Bool
 opens (ASign sign.OpenBracket ∷ ws) = true
 opens _ = false
@@ -81,7 +81,7 @@ argument_goes (Unary Not e) s rest = refl
 argument_goes (Unary Inv e) s rest = refl
 argument_goes (Binary op a b) s rest = argument_goes a s (ASign (binary_sign op) ∷ expression_then b rest)
 
--- so does what is assigned
+-- an assigned value begins as any operand does
 value_goes : (e : Expression) (s : List Expected) (rest : List Word)
     → fault (Some (AfterAssign ∷ s)) (expression_then e rest) ≡ fault (Some (Operand ∷ Operators ∷ Just sign.Semicolon ∷ s)) (expression_then e rest)
 value_goes (Number n) s rest = refl
@@ -112,7 +112,7 @@ list_read (e ∷ es) s rest =
 
 -- ---- statements
 
--- whether `else` is next
+-- whether `else` follows
 abbrev pub is_else : List Word → Bool
 is_else (AKeyword keyword.Else ∷ ws) = true
 is_else _ = false

@@ -115,7 +115,7 @@ fn read_store<'w>(alloc: Global, array: Name, words: &'w [Word]) -> Read<'w, Sta
     Ok((Statement::Store(array, index, value), rest))
 }
 
-/// What a name is assigned, after the `=`, and the words after it.
+/// Reads what a name is assigned, after the `=`; the words after it are left.
 fn read_assigned<'w>(alloc: Global, name: Name, words: &'w [Word]) -> Read<'w, Statement>
     ensures { MatchResult result
         (λ x. IsRead statement_then IsWell (AName name ∷ ASign sign.Assign ∷ []) (AfterAssign ∷ []) words.now (statement_of x.0) x.1.now)

@@ -239,7 +239,7 @@ impl Local {
     /// Goes to the next place.
     fn go_on(&mut self)
         requires { HasRoom self.old }
-        ensures { self.new ≡ plain.next self.old }
+        ensures { self.new ≡ plain.step_to_next self.old }
     {
         self.instruction += 1;
         self.count_step();
@@ -248,7 +248,7 @@ impl Local {
     /// Goes to another place.
     fn jump(&mut self, target: u32)
         requires { HasRoom self.old }
-        ensures { self.new ≡ plain.jumped self.old target }
+        ensures { self.new ≡ plain.step_to_place self.old target }
     {
         self.instruction = target as usize;
         self.count_step();
@@ -257,7 +257,7 @@ impl Local {
     /// Goes on after a branch, and records its outcome.
     fn branch(&mut self, outcome: bool, target: u32) -> Result<(), AllocError>
         requires { HasRoom self.old }
-        ensures ok { OnOk result (self.new ≡ plain.branched self.old outcome target) }
+        ensures ok { OnOk result (self.new ≡ plain.step_by_branch self.old outcome target) }
         ensures err { OnErr result (self.new ≡ self.old) }
     {
         self.outcomes.push(outcome)?;
@@ -273,7 +273,7 @@ impl Local {
     fn set(&mut self, slot: u32, value: i32)
         requires room { HasRoom self.old }
         requires there { slot < length self.old.slots }
-        ensures { self.new ≡ record (plain.next self.old) { slots = slice_set self.old.slots slot value } }
+        ensures { self.new ≡ record (plain.step_to_next self.old) { slots = slice_set self.old.slots slot value } }
     {
         self.slots[slot as usize] = value;
         self.go_on();
@@ -283,7 +283,7 @@ impl Local {
     fn hold(&mut self, mutex: u32, holds: bool)
         requires room { HasRoom self.old }
         requires there { mutex < length self.old.held }
-        ensures { self.new ≡ plain.holding self.old mutex holds }
+        ensures { self.new ≡ plain.step_with_mutex self.old mutex holds }
     {
         self.held[mutex as usize] = holds;
         self.go_on();
@@ -293,7 +293,7 @@ impl Local {
     fn create(&mut self, handle: u32)
         requires room { HasRoom self.old }
         requires there { handle < length self.old.handles }
-        ensures { self.new ≡ record (plain.next self.old) {
+        ensures { self.new ≡ record (plain.step_to_next self.old) {
           handles = slice_set self.old.handles handle (Handle.Child (self.old.children + 1));
           children = self.old.children + 1;
         } }
@@ -307,7 +307,7 @@ impl Local {
     fn join(&mut self, handle: u32)
         requires room { HasRoom self.old }
         requires there { handle < length self.old.handles }
-        ensures { self.new ≡ record (plain.next self.old) {
+        ensures { self.new ≡ record (plain.step_to_next self.old) {
           handles = slice_set self.old.handles handle (Handle.Joined (plain.child_number (plain.handle_of self.old handle)));
         } }
     {
@@ -319,7 +319,7 @@ impl Local {
     /// Exits.
     fn exit(&mut self)
         requires { HasRoom self.old }
-        ensures { self.new ≡ record (plain.next self.old) { has_exited = true } }
+        ensures { self.new ≡ record (plain.step_to_next self.old) { has_exited = true } }
     {
         self.has_exited = true;
         self.go_on();
@@ -328,7 +328,7 @@ impl Local {
     /// Counts a step that stays at its place.
     pub fn count_step(&mut self)
         requires { self.old.steps + 1 < 2 ^ 32 }
-        ensures { self.new ≡ plain.stepped self.old }
+        ensures { self.new ≡ plain.step_in_place self.old }
     {
         self.steps += 1;
     }

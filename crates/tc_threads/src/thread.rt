@@ -141,7 +141,7 @@ impl<M: MemoryModel> Thread<M> {
     /// Counts a step that stays at its place.
     pub fn count_step(&mut self)
         requires { self.old.local.steps + 1 < 2 ^ 32 }
-        ensures { self.new ≡ record self.old { local = plain.stepped self.old.local } }
+        ensures { self.new ≡ record self.old { local = plain.step_in_place self.old.local } }
     {
         self.local.count_step();
     }

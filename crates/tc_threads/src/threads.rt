@@ -5,7 +5,7 @@ ghost use Rattle.std.specs.List.{All};
 ghost use Rattle.std.specs.Option.{option_map_or};
 ghost use Rattle.tc_base.specs.Names.{main, child};
 ghost use Rattle.tc_code.specs.Code as flat;
-ghost use Rattle.tc_code.specs.Step.{local_after, stepped};
+ghost use Rattle.tc_code.specs.Step.{local_after, step_in_place};
 ghost use Rattle.tc_threads.specs.CanDo.{CanAdvance, CanDo, is_branch};
 ghost use Rattle.tc_threads.specs.Effects.{DrainsTo, MayHave, MayRefuse, affected};
 
@@ -115,7 +115,7 @@ impl<M: MemoryModel> Threads<M> {
         }
     }
 
-    /// Creates a child of a thread, by an instruction that is no branch.
+    /// Creates a child of a thread, by an instruction that isn't a branch.
     pub fn create(
         &mut self,
         name: &ThreadName,
@@ -152,7 +152,7 @@ impl<M: MemoryModel> Threads<M> {
     pub fn stop(&mut self, name: &ThreadName)
         requires { IfSome (map.get self.old name.now) (λ t. t.local.steps + 1 < 2 ^ 32) }
         ensures { IfSome (map.get self.old name.now)
-            (λ t. self.new ≡ map.insert self.old name.now (record t { local = stepped t.local })) }
+            (λ t. self.new ≡ map.insert self.old name.now (record t { local = step_in_place t.local })) }
     {
         if let Some(thread) = self.by_name.get_mut(name) {
             thread.count_step();

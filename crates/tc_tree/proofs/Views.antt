@@ -1,4 +1,4 @@
--- Statements of the tree as the grammar has them.
+-- Statements of the tree as statements of the grammar.
 use Rattle.std.proofs.Common.{◌≡◌, Vec, Global, map, option_map, Option, Some, None, sym, ap, ◌∙◌}
 use Rattle.tc_lexer.specs.declared.place.Place.{Place}
 use Rattle.tc_tree.specs.Grammar.{Expression}
@@ -25,7 +25,7 @@ use Rattle.tc_tree.specs.Grammar as grammar
 use Rattle.tc_tree.specs.Seen.{SeenBlock, SeenBranch, statement_of, branch_of, block_of, otherwise_of, view_statement, view_block, view_branch}
 use Rattle.tc_tree.specs.helpers.Parts.{statements_seen, if_of}
 
--- ---- statements without statements inside, as the grammar has them
+-- ---- statements without statements inside, in the grammar
 
 pub assign_seen : (x : Name) (e : Expression) → statement_of (Assign x e) ≡ grammar.Assign x e
 assign_seen x e =

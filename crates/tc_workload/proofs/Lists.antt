@@ -4,7 +4,7 @@ use Rattle.tc_base.specs.Paths.{ThreadPath}
 use Rattle.tc_workload.specs.Workload.{each, straight, worker_paths}
 
 module _ (text : ℕ → List ℕ) (first count : ℕ) where
-  -- what is written of the rest, before and after the next
+  -- the text of the remaining workers, before and after the next one
   pub each_next : (i : ℕ) (front : List ℕ) → i < count
       → (front ++ text (first + i)) ++ each text (first + (i + 1)) (count - (i + 1)) ≡ front ++ each text (first + i) (count - i)
   each_next i front some =
@@ -13,7 +13,7 @@ module _ (text : ℕ → List ℕ) (first count : ℕ) where
       append_assoc front (text (first + i)) _ ∙ ap (λ k. front ++ (text (first + i) ++ each text k (count - (i + 1)))) behind
       ∙ ap (λ n. front ++ each text (first + i) n) one
 
--- the paths of the rest, before and after the next
+-- the paths of the remaining workers, before and after the next one
 pub paths_next : (count i : ℕ) (front : List ThreadPath) → i < count
     → (front ++ straight ((i + 1) ∷ []) 7 ∷ []) ++ worker_paths ((i + 1) + 1) (count - (i + 1)) ≡ front ++ worker_paths (i + 1) (count - i)
 paths_next count i front some =

@@ -1,4 +1,4 @@
--- The circuit of an operator fits, whichever it is.
+-- The circuit of each operator fits.
 use Rattle.std.proofs.Common.{ℕ, ◌≤◌, arith}
 use Rattle.int_ops.specs.declared.arith.UnOp.{UnOp}
 use Rattle.int_ops.specs.declared.arith.UnOp.TheVariants as un

@@ -1,8 +1,8 @@
 //! Tries the circuit of each operator: the values that its clauses leave to the new variables must satisfy the clauses and give the
 //! result the operator's value.
 //!
-//! The operands are each two of some words at edges, and words of a generator. A definition's clauses decide its variable, in order, so
-//! nothing is searched.
+//! The operands are all pairs of some boundary words, and pairs from a generator. The clauses of
+//! each definition determine its variable, in order, so nothing is searched.
 #![tactic(auto)]
 
 ghost use Rattle.std.specs.Prelude.{◌<◌, ◌≤◌, ◌+◌};
@@ -43,7 +43,7 @@ const EDGES: [i32; 20] = [
     1_000_000_007,
 ];
 
-/// So many pairs of words come from the generator.
+/// How many pairs of words the generator gives.
 const DRAWN: u32 = 100;
 
 /// An operator, over one value or two.
@@ -75,7 +75,7 @@ fn fresh(first: u32, vars: u32) -> Word
 }
 
 impl Op {
-    /// The circuit over the variables 2 to 33 and 34 to 65. The variable 1 is the one that is true.
+    /// The circuit over the variables 2 to 33 and 34 to 65. Variable 1 is the constant true.
     fn circuit(self, alloc: Global) -> Result<Operation> {
         let mut circuit = Circuit::new(alloc, 65)?;
         let (a, b) = (fresh(2, 65), fresh(34, 65));
@@ -89,7 +89,7 @@ impl Op {
         })
     }
 
-    /// What must come.
+    /// The value that must come.
     fn value(self, a: i32, b: i32) -> i32 {
         match self {
             Op::Unary(op) => arith::unary(op, a),
@@ -131,7 +131,7 @@ fn value_of(values: &[bool], word: &Word) -> i32 {
 }
 
 impl Operation {
-    /// The result's value, where the clauses can be satisfied.
+    /// The result's value, if the clauses can be satisfied.
     fn come(&self, alloc: Global, a: i32, b: i32) -> Result<Option<i32>> {
         let mut values = Vec::new(alloc);
         values.push(true)?;
@@ -168,7 +168,7 @@ fn operands(alloc: Global) -> Result<Vec<(i32, i32)>> {
     Ok(pairs)
 }
 
-/// Tries an operator, and prints what doesn't come out as it must, and how much does.
+/// Tries an operator, and prints which pairs fail and how many pass.
 fn try_op(rt: &(impl Print + AllocGlobal), op: Op, pairs: &[(i32, i32)]) -> Result<()> {
     let operation = op.circuit(rt.alloc())?;
     let name = op.name(rt.alloc())?;

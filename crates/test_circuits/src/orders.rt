@@ -1,4 +1,5 @@
-//! Orders of three events as clauses: of each order of their positions, whether the clauses let it be, and how it is read.
+//! Orders of three events as clauses: whether the clauses allow each order of positions, and how
+//! they are read back.
 ghost use Rattle.std.specs.Prelude.{◌≡◌, [], ◌∷◌, ℕ, IfOk};
 ghost use Rattle.std.specs.List.{All};
 ghost use Rattle.order_formula.specs.Formulas.{LiteralIsOf};
@@ -24,7 +25,7 @@ const POSITIONS: [[u8; 3]; 7] = [
     [5, 5, 5],
 ];
 
-/// That in each pair the first event comes before the second.
+/// The literals that in each pair the first event comes before the second.
 fn literals(alloc: Global, pairs: &[(u32, u32)]) -> Result<Vec<Literal>>
     ensures of { IfOk result (λ v. (n : ℕ) → All (LiteralIsOf n) v.items) }
     ensures within { IfOk result (λ v. (o : spec.Order) → o.events ≡ 3 → All (LiteralIsIn o) v.items) }
@@ -45,7 +46,7 @@ fn literals(alloc: Global, pairs: &[(u32, u32)]) -> Result<Vec<Literal>>
     Ok(literals)
 }
 
-/// That all literals are true.
+/// The conjunct that all literals are true.
 fn all_of(alloc: Global, literals: Vec<Literal>) -> Result<Conjunct>
     ensures { IfOk result (λ c. c.body ≡ body.Any (literals.items ∷ [])) }
 {
@@ -89,7 +90,7 @@ fn values(alloc: Global, blasted: &Blasted, positions: [u8; 3]) -> Result<Assign
     Ok(Assignment::new(values))
 }
 
-/// The position of an event, which goes by its number where positions are equal.
+/// The position of an event; equal positions are ordered by the events' numbers.
 fn place(positions: [u8; 3], event: u32) -> (u8, u32) {
     let position = positions.get(event as usize).copied().unwrap_or(0);
     (position, event)
@@ -115,7 +116,8 @@ fn is_read_as(world: &World, positions: [u8; 3]) -> bool {
     true
 }
 
-/// Whether the clauses can be satisfied in an order: that must be where the formula is true, and the values must say that order.
+/// Whether the clauses can be satisfied in an order. They must be exactly if the formula is true,
+/// and the values must give that order.
 fn is_satisfied(
     alloc: Global,
     blasted: &Blasted,
@@ -137,7 +139,7 @@ fn is_satisfied(
     Ok(satisfied)
 }
 
-/// In how many orders the clauses can be satisfied.
+/// The number of orders in which the clauses can be satisfied.
 fn count(alloc: Global, blasted: &Blasted, pairs: &[(u32, u32)]) -> Result<u32> {
     let mut orders = 0u32;
     for positions in POSITIONS {
@@ -148,7 +150,7 @@ fn count(alloc: Global, blasted: &Blasted, pairs: &[(u32, u32)]) -> Result<u32> 
     Ok(orders)
 }
 
-/// Prints how many variables and clauses there are, and in how many orders they can be satisfied.
+/// Prints the numbers of variables and clauses, and of orders in which they can be satisfied.
 fn row(rt: &(impl Print + AllocGlobal), name: &str, pairs: &[(u32, u32)]) -> Result<()> {
     let blasted = clauses(rt.alloc(), pairs)?;
     let (vars, len) = (blasted.clauses().vars(), blasted.clauses().len());
@@ -157,9 +159,9 @@ fn row(rt: &(impl Print + AllocGlobal), name: &str, pairs: &[(u32, u32)]) -> Res
     Ok(())
 }
 
-/// The variables 1 to 25 are there in any case, with one clause. A comparison of two positions has 31 gates, each of three clauses. A
-/// second literal has all three events compared, with two clauses of transitivity; each literal after the first is one gate more, and
-/// the conjunct one clause.
+/// Variables 1 to 25 always exist, with one clause. A comparison of two positions has 31 gates,
+/// each with three clauses. A second literal makes all three events compared, with two clauses of
+/// transitivity; each literal after the first adds a gate, and the conjunct adds a clause.
 pub fn run(rt: &(impl Print + AllocGlobal)) -> Result<()> {
     row(rt, "one pair", &[(0, 1)])?;
     row(rt, "a chain", &[(0, 1), (1, 2)])?;

@@ -1,4 +1,5 @@
-//! The program over a shelf and a sink that never fail; and what only tests show of it: the answers to want of memory.
+//! The program over a shelf and a sink that never fail, and the answers to lack of memory, which
+//! only tests show.
 #![tactic(auto)]
 
 ghost use Rattle.std.specs.Prelude.{◌≡◌, ◌≢◌, ◌≤◌, map, string_bytes, Some, IsSomeAnd};
@@ -11,8 +12,8 @@ use clap_debug_cli::clap_debug;
 use std::alloc::Global;
 use test_shelves::mem::{SureShelf, SureSink};
 
-/// The top call over a shelf and a sink that never fail: no device fault is answered, but that more bytes come than can be
-/// counted, and all else as ever.
+/// The top call over a shelf and a sink that never fail. The only device fault is a fetch of more
+/// bytes than can be counted; everything else is as in the program.
 pub fn clap_debug_surely(
     alloc: Global,
     words: &[String],
@@ -25,7 +26,7 @@ pub fn clap_debug_surely(
         (λ call files. ToldAnswers call (texts_under files call) result (sure_sink_tells sink.old) (sure_sink_tells sink.new)) }
     ensures command { IfTold (map string_bytes words.now) (Some shelf.old.held)
         (λ call files. CommandAnswers call files (Some shelf.new.held) result (sure_sink_tells sink.old) (sure_sink_tells sink.new)) }
-    // A fetch of any length fails where more bytes come than can be counted.
+    // A fetch of any length fails if it has more bytes than can be counted.
     ensures read_fault { result ≡ 7 → IsSomeAnd (call_of (map string_bytes words.now))
         (λ call. HasEntire (inputs_of call) × (no_limit ≤ shelf.new.taken)) }
     ensures no_write_fault { result ≢ 8 }

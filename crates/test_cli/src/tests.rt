@@ -1,4 +1,4 @@
-//! Want of memory, and a call over a shelf and a sink that never fail.
+//! Lack of memory, and a call over a shelf and a sink that never fail.
 ghost use Rattle.std.specs.Prelude.{◌≡◌, false};
 
 use crate::clap_debug_surely;
@@ -8,7 +8,7 @@ use std::test::Fail;
 use tc_io::{FetchFault, KeepFault, OpenFault, PieceFault, PutFault, Shelf, Sink};
 use test_shelves::mem::{Fail as ShelfFail, MemShelf, MemSink, SureShelf, SureSink};
 
-/// A shelf of whose calls so many find memory, and those after them none.
+/// A shelf whose first `calls` calls find memory, and whose later ones find none.
 #[derive(Drop)]
 struct ScantShelf {
     calls: u8,
@@ -17,7 +17,7 @@ struct ScantShelf {
 }
 
 impl ScantShelf {
-    /// Whether a call finds memory. It ends the reading that is open.
+    /// Whether a call finds memory. It ends the open reading.
     fn finds_memory(&mut self) -> bool
         ensures shelf { self.new.shelf ≡ self.old.shelf }
         ensures ended { self.new.reading ≡ false }
@@ -34,9 +34,9 @@ impl ScantShelf {
 impl Shelf for ScantShelf {
     ghost use Rattle.std.specs.Prelude.{if◌then◌else◌};
     ghost use Rattle.test_shelves.specs.Mem.{sure_shelf_tells};
-    ghost use Rattle.tc_io.specs.Outside.{closed};
+    ghost use Rattle.tc_io.specs.Outside.{without_reading};
 
-    ghost tells = { λ s. if s.reading then sure_shelf_tells s.shelf else closed (sure_shelf_tells s.shelf) };
+    ghost tells = { λ s. if s.reading then sure_shelf_tells s.shelf else without_reading (sure_shelf_tells s.shelf) };
 
     fn fetch(&mut self, alloc: Global, name: &str, limit: u64) -> Result<Vec<u8>, FetchFault> {
         if !self.finds_memory() {
@@ -70,7 +70,7 @@ impl Shelf for ScantShelf {
     }
 }
 
-/// A sink whose first puts find no memory, so many of them.
+/// A sink whose first `refused` puts find no memory.
 #[derive(Drop)]
 struct LateSink {
     refused: u8,
@@ -135,7 +135,8 @@ fn no_memory_to_fetch(rt: HostRuntime) -> Result<(), Fail> {
     Ok(())
 }
 
-/// The third call finds no memory: that by which `solve` keeps what it found, or `check` opens its refutation.
+/// The third call finds no memory: the one with which `solve` keeps its result, or `check` opens
+/// the refutation.
 #[test]
 fn no_memory_to_keep_or_to_open(rt: HostRuntime) -> Result<(), Fail> {
     let alloc = rt.alloc();
@@ -168,7 +169,7 @@ fn no_memory_to_keep_or_to_open(rt: HostRuntime) -> Result<(), Fail> {
     Ok(())
 }
 
-/// The put of the line finds no memory: the log is kept by then, or its keep has failed.
+/// The put of the line finds no memory: by then the log is kept, or its keep has failed.
 #[test]
 fn no_memory_to_say(rt: HostRuntime) -> Result<(), Fail> {
     let alloc = rt.alloc();

@@ -10,7 +10,7 @@ use std::alloc::Global;
 use std::fmt::Write;
 use tc_code::Code;
 
-/// How many logs a row may have.
+/// The greatest number of logs in a row.
 const MOST: u32 = 1_000;
 
 fn kind_of(word: &str) -> Result<Kind> {
@@ -21,7 +21,7 @@ fn kind_of(word: &str) -> Result<Kind> {
     }
 }
 
-/// What is looked for.
+/// The bounds of the search.
 fn bounds_of(words: &str) -> Result<Bounds> {
     let mut words = words.split_whitespace();
     let kind = kind_of(words.next().context("no kind")?)?;
@@ -49,7 +49,7 @@ fn push_log(text: &mut String, threads: &[ThreadPath]) -> Result<()> {
     Ok(())
 }
 
-/// What was left out that the bounds don't ask to leave out.
+/// What the search left out beyond the bounds.
 fn push_end(text: &mut String, out: LeftOut) -> Result<()> {
     if out.steps {
         text.push_str("steps ")?;
@@ -64,7 +64,7 @@ fn push_end(text: &mut String, out: LeftOut) -> Result<()> {
     Ok(())
 }
 
-/// The first log, or the one after a log.
+/// The first log, or the one after a given log.
 fn following(
     alloc: Global,
     code: &Code,

@@ -1,8 +1,9 @@
-//! Worked rows of what is gone through to find a failure without a run, as data: reads a table of rows, and prints of each
-//! group how many are as they must be, and of each other row what came. `test_table` says how a table is written. With a word
-//! behind the program's name only the groups and rows that have it are tried.
+//! Worked rows of the search for a failure without a run, as data: reads a table of rows, and
+//! prints for each group how many rows pass, and for each failing row what came. `test_table`
+//! defines the format of a table. With a word after the program's name, tries only the groups and
+//! rows that contain it.
 //!
-//! What is given to a part, and what comes; where it is several things ` : ` stands between them:
+//! What a part is given, and what comes; several things are separated by ` : `:
 //!
 //! - `thread-paths`: a function's number, how its paths end (`exit`, `used`, `open` or `rest`), the greatest number of
 //!   outcomes, and `fails` where the thread may fail : a program; the steps and the outcomes of each path that the thread may

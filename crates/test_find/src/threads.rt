@@ -9,7 +9,7 @@ use tc_compile::compile;
 use tc_limits::limits::PROGRAM_BYTES;
 use thread_paths::{Aim, Cut, End, Found, Path, Scope, first_path, next_path};
 
-/// How many paths a row may have.
+/// The greatest number of paths in a row.
 const MOST: u32 = 1_000;
 
 fn end_of(word: &str) -> Result<End> {
@@ -22,7 +22,7 @@ fn end_of(word: &str) -> Result<End> {
     }
 }
 
-/// What is looked for.
+/// The scope of the search.
 fn scope_of(words: &str) -> Result<Scope> {
     let mut words = words.split_whitespace();
     let function = words.next().context("no function")?.parse::<usize>()?;
@@ -49,7 +49,7 @@ fn push_path(text: &mut String, path: &Path) -> Result<()> {
     Ok(())
 }
 
-/// What was left out by either.
+/// What at least one of two searches left out.
 fn both(one: Cut, other: Cut) -> Cut {
     Cut {
         outcomes: one.outcomes || other.outcomes,
@@ -76,7 +76,7 @@ pub(crate) fn code_of(alloc: Global, text: &[u8]) -> Result<Code> {
     Ok(compile(alloc, text)?)
 }
 
-/// The first path, or the one after a path.
+/// The first path, or the one after a given path.
 fn following(alloc: Global, code: &Code, scope: Scope, last: Option<Path>) -> Result<Found>
     requires { IfSome last (λ p. length p.outcomes ≤ scope.most) }
     ensures { IfOk result (λ found. IfSome found.path (λ p. length p.outcomes ≤ scope.most)) }

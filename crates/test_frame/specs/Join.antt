@@ -10,13 +10,13 @@ use Rattle.test_frame.specs.declared.Join.{Join}
 use Rattle.test_frame.specs.declared.Joined.{Joined}
 use Rattle.test_frame.specs.declared.Joined.TheVariants.{Empty, Both}
 
--- the first file is empty; or these are the two behind one another, in both orders
+-- the first file is empty, or these are the two files joined in both orders
 abbrev pub Joins : Texts → Joined → Type 0
 Joins (first ∷ second ∷ []) Empty = first ≡ []
 Joins (first ∷ second ∷ []) (Both one other) = (first ≢ []) × (one.items ≡ first ++ second) × (other.items ≡ second ++ first)
 Joins _ _ = ⊥
 
--- what is kept under two names
+-- the two keeps, one for each order
 abbrev pub joined_keeps : (out back : List ℕ) → Joined → List Keep
 joined_keeps out back Empty = []
 joined_keeps out back (Both one other) = record { name = out; bytes = one.items } ∷ record { name = back; bytes = other.items } ∷ []
@@ -29,7 +29,7 @@ abbrev pub joined_status : Joined → Status
 joined_status Empty = InputRefused
 joined_status (Both _ _) = Done
 
--- the command, over these inputs
+-- the command, given these inputs
 abbrev pub join_over : (out back : List ℕ) → List Wanted → Meaning Joined
 join_over out back inputs = record {
   inputs = inputs;
@@ -39,14 +39,14 @@ join_over out back inputs = record {
   status_of = joined_status;
 }
 
--- the inputs of a value that is the command, and what it means
+-- the inputs of a value that is the command, and its meaning
 abbrev pub join_inputs : Join → List Wanted
 join_inputs join = plain_whole join.inputs.0 ∷ plain_whole join.inputs.1 ∷ []
 
 abbrev pub join_meaning : Join → Meaning Joined
 join_meaning join = join_over join.out.now join.back.now (join_inputs join)
 
--- at most four bytes of each
+-- the limit of each file: four bytes
 abbrev pub part_limit : Limit
 part_limit = record { kind = codes "part"; most = 4 }
 

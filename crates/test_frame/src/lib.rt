@@ -1,5 +1,5 @@
-//! Rows of a command over the frame: it joins two files in both orders, and so has two inputs, two
-//! outputs, a result and a refusal.
+//! Rows of two commands over the frame: one joins two files in both orders, and so has two inputs,
+//! two outputs, a result and a refusal; the other reads its last input in pieces.
 #![tactic(auto)]
 
 ghost use Rattle.std.specs.Prelude.{◌≡◌, ◌++◌, IfOk};
@@ -7,7 +7,10 @@ ghost use Rattle.command_frame.specs.Run.{Runs};
 ghost use Rattle.command_frame.specs.helpers.Failures.{plain_limit};
 ghost use Rattle.test_frame.specs.Join.{join_inputs, join_meaning, join_of, part_inputs, part_limit};
 
-use command_frame::{Command, Keep, Limit, Status, Whole, run};
+mod glue;
+
+use command_frame::{Command, Keep, Limit, Status, Whole, Work, run};
+pub use glue::{Glue, Glued, glue_files};
 use std::alloc::{AllocError, Global};
 use tc_io::{Shelf, Sink};
 
@@ -19,12 +22,12 @@ pub struct Join<'a> {
     back: &'a str,
 }
 
-/// What comes of the files.
+/// The outcome for the files.
 #[derive(Drop)]
 pub enum Joined {
-    /// The first is empty, which is refused.
+    /// The first file is empty, which is refused.
     Empty,
-    /// The first and then the second, and the other way round.
+    /// The two files joined, in both orders.
     Both(Vec<u8>, Vec<u8>),
 }
 
@@ -43,7 +46,7 @@ pub fn join_files<H: Shelf, K: Sink>(
 }
 
 /// The limit of each of the files.
-fn part_limit() -> Limit
+pub(crate) fn part_limit() -> Limit
     ensures { plain_limit result ≡ part_limit }
 {
     Limit {
@@ -72,7 +75,7 @@ impl<'a> Join<'a> {
     }
 }
 
-/// One behind the other.
+/// Joins two texts.
 fn append(alloc: Global, first: &[u8], second: &[u8]) -> Result<Vec<u8>, AllocError>
     ensures { IfOk result (λ both. both.items ≡ first.now ++ second.now) }
 {
@@ -82,25 +85,9 @@ fn append(alloc: Global, first: &[u8], second: &[u8]) -> Result<Vec<u8>, AllocEr
 }
 
 impl<'a> Command for Join<'a> {
-    type Inputs = (Whole<'a>, Whole<'a>);
-
     type Outcome = Joined;
 
     ghost meaning = { join_meaning };
-
-    fn inputs(&self) -> &(Whole<'a>, Whole<'a>) {
-        &self.inputs
-    }
-
-    fn work(&self, alloc: Global, bytes: &(Vec<u8>, Vec<u8>)) -> Result<Joined, AllocError> {
-        let (first, second) = (&bytes.0, &bytes.1);
-        if first.is_empty() {
-            return Ok(Joined::Empty);
-        }
-        let one = append(alloc, first, second)?;
-        let other = append(alloc, second, first)?;
-        Ok(Joined::Both(one, other))
-    }
 
     fn keeps<'n, 'b>(
         &'n self,
@@ -128,6 +115,24 @@ impl<'a> Command for Join<'a> {
             Joined::Empty => Status::InputRefused,
             Joined::Both(_, _) => Status::Done,
         }
+    }
+}
+
+impl<'a> Work for Join<'a> {
+    type Inputs = (Whole<'a>, Whole<'a>);
+
+    fn inputs(&self) -> &(Whole<'a>, Whole<'a>) {
+        &self.inputs
+    }
+
+    fn work(&self, alloc: Global, bytes: &(Vec<u8>, Vec<u8>)) -> Result<Joined, AllocError> {
+        let (first, second) = (&bytes.0, &bytes.1);
+        if first.is_empty() {
+            return Ok(Joined::Empty);
+        }
+        let one = append(alloc, first, second)?;
+        let other = append(alloc, second, first)?;
+        Ok(Joined::Both(one, other))
     }
 }
 

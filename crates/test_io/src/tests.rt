@@ -1,4 +1,4 @@
-//! What no clause says: what real files do, and that an interruption ends a call.
+//! What no clause says: the effects of real files, and that an interruption ends a call.
 ghost use Rattle.std.specs.Prelude.{◌≤◌, IfOk};
 
 use std::alloc::{AllocError, Allocator, Global};
@@ -14,7 +14,7 @@ use tc_io::files::{FileShelf, StdSink, read_up_to};
 use tc_io::{FetchFault, KeepFault, OpenFault, PieceFault, PutFault, Shelf, Sink};
 use test_shelves::mem::{Fail, MemShelf, SureShelf};
 
-/// The name and the limit of a fetch, and what it is to answer: a text, or a fault.
+/// The name and the limit of a fetch, and its answer: a text, or a fault.
 type Case<'a> = (&'a str, u64, Result<&'a str, FetchFault>);
 
 fn fetches<H: Shelf>(rt: &(impl Abort + AllocGlobal), shelf: &mut H, cases: &[Case]) {
@@ -28,7 +28,7 @@ fn fetches<H: Shelf>(rt: &(impl Abort + AllocGlobal), shelf: &mut H, cases: &[Ca
     }
 }
 
-/// Keeps, each a name and a text, and what it is to answer.
+/// Keeps, each of a text under a name, and its answer.
 fn keeps<H: Shelf>(
     rt: &(impl Abort + AllocGlobal),
     shelf: &mut H,
@@ -40,7 +40,8 @@ fn keeps<H: Shelf>(
     }
 }
 
-/// Takes the bytes that a reading of the name gives by pieces, and tells whether it comes to its end.
+/// Takes the bytes that a reading of the name gives by pieces, and returns whether it reaches its
+/// end.
 fn read_by_pieces<H: Shelf>(
     alloc: Global,
     shelf: &mut H,
@@ -63,7 +64,7 @@ fn read_by_pieces<H: Shelf>(
     Ok(false)
 }
 
-/// Tests what a reading by pieces gives, and that it stays open only where it came to its end.
+/// Tests what a reading by pieces gives, and that it stays open only if it reached its end.
 fn reads<H: Shelf>(
     rt: &(impl Abort + AllocGlobal),
     shelf: &mut H,
@@ -101,14 +102,14 @@ fn ends_readings<H: Shelf>(
     }
 }
 
-/// Puts, and what each is to answer.
+/// Puts, and the answer of each.
 fn puts<K: Sink>(rt: &impl Abort, sink: &mut K, cases: &[(&str, Result<(), PutFault>)]) {
     for &(text, want) in cases {
         assert!(rt; sink.put(text.as_bytes()) == want, "{text}");
     }
 }
 
-/// Takes and gives a byte at a time, and is interrupted once, after so many.
+/// Takes and gives a byte at a time, and is interrupted once, after a number of bytes.
 #[derive(Drop)]
 struct Interrupted {
     before: u8,
@@ -158,13 +159,13 @@ impl io::Read for Interrupted {
 #[derive(Drop)]
 struct ShortFiles;
 
-/// A file that gives so many more bytes, and does nothing else.
+/// A file that gives `left` more bytes, and does nothing else.
 #[derive(Drop)]
 struct ShortFile {
     left: u8,
 }
 
-/// What is answered to all else that is asked of a folder or a file.
+/// The answer to every other call on a folder or a file.
 fn unsupported() -> io::Error {
     io::Error::from(ErrorKind::Unsupported)
 }
@@ -279,7 +280,8 @@ fn a_piece_fails(rt: HostRuntime) -> Result<(), test::Fail> {
     Ok(())
 }
 
-/// Tests what a reading of the name gives by pieces, and that the digits are fetched after it, where a call fails.
+/// Tests what a reading of the name gives by pieces if a call fails, and that the digits can be
+/// fetched after it.
 fn reads_digits(
     rt: &(impl Abort + AllocGlobal),
     shelf: &mut MemShelf,
@@ -304,7 +306,7 @@ fn reads_surely(rt: &(impl Abort + AllocGlobal), shelf: &mut SureShelf) -> Resul
     Ok(())
 }
 
-/// Holds a text in a shelf, of which readings are ended.
+/// Puts a text on a shelf, and ends readings of it.
 fn ends_held(rt: &(impl Abort + AllocGlobal), shelf: &mut MemShelf) -> Result<(), AllocError> {
     shelf.hold(rt.alloc(), "a", b"text")?;
     ends_readings(rt, shelf, "a", "missing");
@@ -340,7 +342,7 @@ fn memory_by_pieces(rt: HostRuntime) -> Result<(), test::Fail> {
     Ok(ended?)
 }
 
-/// Writes a file, and fetches it within limits about its length.
+/// Writes a file, and fetches it with limits near its length.
 fn fetches_file<H: Shelf>(
     rt: &(impl Abort + AllocGlobal + Files),
     shelf: &mut H,
@@ -366,13 +368,13 @@ fn fetches_file<H: Shelf>(
     fs::remove_file(rt, name)
 }
 
-/// The nanoseconds of this moment, by which no two folders have one name.
+/// The current time in nanoseconds, so that each folder has its own name.
 fn moment(rt: &HostRuntime) -> Result<u128, test::Fail> {
     let since = SystemTime::now(rt)?.duration_since(SystemTime::UNIX_EPOCH)?;
     Ok(since.as_nanos())
 }
 
-/// A folder of a test's own, which is empty.
+/// An empty folder for one test.
 fn own_folder(rt: &HostRuntime, what: &str) -> Result<String, test::Fail> {
     let now = moment(rt)?;
     let folder = env::temp_dir(rt)?;
@@ -388,12 +390,12 @@ fn path_in(alloc: Global, folder: &str, name: &str) -> Result<String, AllocError
     format!(in alloc; "{folder}/{name}")
 }
 
-/// Takes a name.
+/// Adds a name.
 fn push_name(alloc: Global, names: &mut Vec<String>, name: &str) -> Result<(), AllocError> {
     Ok(names.push(String::from_str(alloc, name)?)?)
 }
 
-/// Takes the names in a folder, and brings them into their order.
+/// Adds the names in a folder, in order.
 fn take_names(
     rt: &(impl AllocGlobal + Files + Clone + Drop),
     folder: &str,
@@ -427,7 +429,7 @@ fn holds(
     Ok(())
 }
 
-/// Fetches files of three lengths, and what no byte can be read of.
+/// Fetches files of three lengths, and names of which no byte can be read.
 fn fetches_files<H: Shelf>(
     rt: &(impl Abort + AllocGlobal + Files + Clone + Drop),
     shelf: &mut H,
@@ -446,7 +448,7 @@ fn fetches_files<H: Shelf>(
     fs::remove_dir(rt, folder)
 }
 
-/// Fetches files in a folder, which is removed then.
+/// Fetches files in a folder, and then removes the folder.
 fn fetches_in<H: Shelf>(
     rt: &(impl Abort + AllocGlobal + Files + Clone + Drop),
     shelf: &mut H,
@@ -505,7 +507,7 @@ fn reads_lengths<H: Shelf>(
     Ok(())
 }
 
-/// Ends readings of a file, and opens what no byte can be read of.
+/// Ends readings of a file, and opens names of which no byte can be read.
 fn ends_in<H: Shelf>(
     rt: &(impl Abort + AllocGlobal + Files + Clone + Drop),
     shelf: &mut H,
@@ -541,7 +543,7 @@ fn reads_files(
     ends_in(rt, shelf, folder, names, buf)
 }
 
-/// Reads files in a folder by pieces, which is removed then.
+/// Reads files in a folder by pieces, and then removes the folder.
 fn reads_in(
     rt: &(impl Abort + AllocGlobal + Files + Clone + Drop),
     shelf: &mut FileShelf<HostRuntime>,
@@ -585,7 +587,7 @@ fn keeps_texts<H: Shelf>(
     fs::remove_dir(rt, folder)
 }
 
-/// Keeps files in a folder, which is removed then.
+/// Keeps files in a folder, and then removes the folder.
 fn keeps_in<H: Shelf>(
     rt: &(impl Abort + AllocGlobal + Files + Clone + Drop),
     shelf: &mut H,
@@ -631,7 +633,7 @@ fn keeps_linked<H: Shelf>(
     fs::remove_dir_all(rt, folder)
 }
 
-/// Keeps under a link in a folder, which is removed then.
+/// Keeps under a link in a folder, and then removes the folder.
 fn links_in<H: Shelf>(
     rt: &(impl Abort + AllocGlobal + Files + Clone + Drop),
     shelf: &mut H,
@@ -655,7 +657,8 @@ fn a_link_is_written_through(rt: HostRuntime) -> Result<(), test::Fail> {
     Ok(kept?)
 }
 
-/// Keeps where nothing can be kept: inside a folder that isn't there, in place of a folder, and on a full device.
+/// Keeps where nothing can be kept: inside a missing folder, in place of a folder, and on a full
+/// device.
 fn keeps_none<H: Shelf>(
     rt: &(impl Abort + AllocGlobal + Files + Clone + Drop),
     shelf: &mut H,
@@ -671,7 +674,7 @@ fn keeps_none<H: Shelf>(
         &[
             (folder, "a", failed),
             ("", "a", failed),
-            // a device that is full takes no byte, and is as good as any while none is put there
+            // a full device takes no byte, but works as long as nothing is put there
             ("/dev/full", "a", failed),
             ("/dev/full", "", Ok(())),
         ],

@@ -11,10 +11,10 @@ use std::mem::drop;
 use store_buffers::{MemoryModel, PsoModel, Sc, TsoModel};
 use tc_code::Code;
 
-/// How many clauses each search may learn.
+/// The greatest number of clauses that each search may learn.
 const BUDGET: u32 = 1_000_000;
 
-/// How many moves and switches a schedule of a log has that has the fewest switches.
+/// The numbers of moves and switches of a schedule of a log with the fewest switches.
 pub(crate) fn fewest(alloc: Global, given: &str) -> Result<String> {
     let (model, given) = split(given)?;
     let (code, log) = code_and_log(alloc, given)?;
@@ -33,7 +33,7 @@ fn told_under(alloc: Global, model: &str, code: &Code, log: &Log) -> Result<Stri
     }
 }
 
-/// The same under a model, where the derivation that none has fewer is accepted.
+/// The same under a model, after checking the derivation that none has fewer.
 fn told<M: MemoryModel>(alloc: Global, code: &Code, log: &Log) -> Result<String> {
     match built(least::<M>(alloc, code, log, BUDGET))? {
         Least::Found(schedule, switches, shown) => {
@@ -49,7 +49,7 @@ fn told<M: MemoryModel>(alloc: Global, code: &Code, log: &Log) -> Result<String>
     }
 }
 
-/// Whether there is a derivation that none has fewer, which must be accepted.
+/// Whether there is a derivation that none has fewer; it must be accepted.
 fn accepted<M: MemoryModel>(
     alloc: Global,
     code: &Code,
@@ -66,7 +66,8 @@ fn accepted<M: MemoryModel>(
     }
 }
 
-/// That a derivation is closed on the clauses with one switch fewer, and that it isn't on those with as many.
+/// Checks that a derivation is closed on the clauses with one switch fewer, but not on those with
+/// as many.
 fn accept<M: MemoryModel>(
     alloc: Global,
     code: &Code,
@@ -86,7 +87,7 @@ fn accept<M: MemoryModel>(
     Ok(())
 }
 
-/// Whether a derivation is closed on the clauses with at most so many switches.
+/// Whether a derivation is closed on the clauses with at most `most` switches.
 fn closes<M: MemoryModel>(
     alloc: Global,
     code: &Code,
@@ -102,7 +103,7 @@ fn closes<M: MemoryModel>(
     Ok(closed)
 }
 
-/// Whether a checker comes to a closed derivation.
+/// Whether a derivation leads a checker to the empty clause.
 fn is_closed(checker: &mut Checker, derivation: &Derivation) -> bool {
     for line in derivation.lines() {
         if checker.line() > LINES || checker.add(line).is_err() {

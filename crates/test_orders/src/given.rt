@@ -1,4 +1,4 @@
-//! What is given to a row.
+//! The input of a row.
 ghost use Rattle.std.specs.Prelude.{◌≤◌, length, IfOk};
 ghost use Rattle.tc_limits.specs.declared.limits.TheConstants.{PROGRAM_BYTES};
 
@@ -13,7 +13,7 @@ use tc_code::Code;
 use tc_compile::compile;
 use tc_limits::limits::PROGRAM_BYTES;
 
-/// What stands before the next ` : `, and what stands behind it.
+/// The text before the next ` : `, and the text after it.
 pub(crate) fn split(given: &str) -> Result<(&str, &str)> {
     given.split_once(" : ").context("too little is given")
 }
@@ -72,7 +72,7 @@ fn posed_under(alloc: Global, model: &str, code: &Code, log: &Log) -> Result<Pos
     }
 }
 
-/// What was made of a log, where none of its faults came.
+/// What was built from a log; fails if the log has a fault.
 pub(crate) fn built<T: Drop>(made: Result<T, BuildFault>) -> Result<T> {
     match made {
         Ok(made) => Ok(made),

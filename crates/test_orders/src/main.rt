@@ -1,6 +1,6 @@
-//! Worked rows of orders, as data: reads a table of rows, and prints of each group how many are as they must be, and of
-//! each other row what came. `test_table` says how a table is written. With a word behind the program's name only the
-//! groups and rows that have it are tried.
+//! Worked rows of orders, as data: reads a table of rows, and prints for each group how many rows
+//! pass, and for each failing row what came. `test_table` defines the format of a table. With a
+//! word after the program's name, tries only the groups and rows that contain it.
 //!
 //! What is given to a part, with ` : ` between several things, and what comes. A model is `sc`, `tso` or `pso`, a log is given
 //! by its hex digits, and an event by its thread and step, as `0.1@2`:

@@ -4,7 +4,7 @@ use anyhow::Result;
 use std::alloc::Global;
 use std::mem::drop;
 
-/// How many events, loads and conjuncts the formula of a log has.
+/// The numbers of events, loads and conjuncts of a log's formula.
 pub(crate) fn formula(alloc: Global, given: &str) -> Result<String> {
     let (model, given) = split(given)?;
     let system = system(alloc, model, given)?;
@@ -14,7 +14,7 @@ pub(crate) fn formula(alloc: Global, given: &str) -> Result<String> {
     Ok(format!(in alloc; "{events} events, {loads} loads, {conjuncts} conjuncts")?)
 }
 
-/// How many variables and clauses the formula of a log comes to.
+/// The numbers of variables and clauses of a log's formula.
 pub(crate) fn clauses(alloc: Global, given: &str) -> Result<String> {
     let (model, given) = split(given)?;
     let posed = posed(alloc, model, given)?;

@@ -8,7 +8,7 @@ use order_formula::World;
 use std::alloc::Global;
 use std::mem::drop;
 
-/// How many clauses a search may learn.
+/// The greatest number of clauses that a search may learn.
 const BUDGET: u32 = 1_000_000;
 
 /// The verdict on a log.
@@ -24,7 +24,7 @@ pub(crate) fn verdict(alloc: Global, given: &str) -> Result<String> {
     Ok(String::from_str(alloc, answer)?)
 }
 
-/// What a search comes to that tries false first, and how many clauses it learns.
+/// The result of a search that tries false first, and the number of clauses that it learns.
 pub(crate) fn learnt(alloc: Global, given: &str) -> Result<String> {
     let (model, given) = split(given)?;
     let posed = posed(alloc, model, given)?;
@@ -46,7 +46,7 @@ fn searched(alloc: Global, clauses: &Cnf) -> Result<String> {
     Ok(format!(in alloc; "{answer}, {added} learnt")?)
 }
 
-/// A world that is told by values which satisfy the clauses, if there is one.
+/// The world of some values that satisfy the clauses, if there are such values.
 fn found(alloc: Global, blasted: &Blasted) -> Result<Option<World>> {
     match solve_cnf(alloc, blasted.clauses(), &[], BUDGET)? {
         Solved::Sat(values) => {
@@ -60,7 +60,7 @@ fn found(alloc: Global, blasted: &Blasted) -> Result<Option<World>> {
     }
 }
 
-/// That a log is possible, once the formula is true in the world.
+/// The verdict `possible`, if the formula is true in the world.
 fn possible(alloc: Global, model: &str, given: &str, world: World) -> Result<&'static str> {
     let system = system(alloc, model, given)?;
     let lawful = system.holds(alloc, &world);

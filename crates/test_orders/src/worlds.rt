@@ -19,7 +19,7 @@ struct Words<'a> {
 }
 
 impl<'a> Words<'a> {
-    /// The words of a world, and what stands behind them.
+    /// The words of a world, and the text after them.
     fn of(given: &'a str) -> Result<(Words<'a>, &'a str)> {
         let (order, given) = split(given)?;
         let (loads, given) = split(given)?;
@@ -71,7 +71,7 @@ fn numbers_of(alloc: Global, words: &str) -> Result<Vec<i32>> {
     Ok(numbers)
 }
 
-/// The world in which the events come by their places.
+/// The world in which the events have these places.
 fn world_of(
     alloc: Global,
     places: &[u8],
@@ -108,7 +108,7 @@ impl Names {
         Ok(())
     }
 
-    /// The number of the event of a name.
+    /// The number of the event with this name.
     fn number(&self, name: &str) -> Result<usize> {
         self.names
             .iter()
@@ -116,7 +116,7 @@ impl Names {
             .context("no such event")
     }
 
-    /// The place of each event in an order that has them all.
+    /// The place of each event in an order of all events.
     fn places(&self, alloc: Global, order: &str) -> Result<Vec<u8>>
         ensures { IfOk result (λ places. vec_len places ≤ 256) }
     {
@@ -133,7 +133,7 @@ impl Names {
         Ok(places)
     }
 
-    /// What ends each sleep.
+    /// The event that ends each sleep.
     fn enders(&self, alloc: Global, words: &str) -> Result<Vec<Option<u32>>> {
         let mut enders = Vec::new(alloc);
         for word in words.split_whitespace() {

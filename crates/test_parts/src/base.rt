@@ -8,7 +8,7 @@ use std::alloc::Global;
 use std::fmt::Write;
 use tc_base::ThreadName;
 
-/// The operator over one value that is written so.
+/// The unary operator with this sign.
 pub(crate) fn unary_of(sign: &str) -> Result<UnOp> {
     Ok(match sign {
         "-" => UnOp::Neg,
@@ -18,7 +18,7 @@ pub(crate) fn unary_of(sign: &str) -> Result<UnOp> {
     })
 }
 
-/// The operator over two values that is written so.
+/// The binary operator with this sign.
 pub(crate) fn binary_of(sign: &str) -> Result<BinOp> {
     Ok(match sign {
         "+" => BinOp::Add,
@@ -52,7 +52,7 @@ pub(crate) fn arith(alloc: Global, given: &str) -> Result<String> {
     Ok(format!(in alloc; "{value}")?)
 }
 
-/// The name that these numbers of children lead to.
+/// The name that these numbers of children give.
 fn name_of(alloc: Global, children: &str) -> Result<ThreadName> {
     let mut name = ThreadName::main(alloc);
     for word in children.split_whitespace() {
@@ -65,7 +65,7 @@ fn name_of(alloc: Global, children: &str) -> Result<ThreadName> {
     Ok(name)
 }
 
-/// How a copy of a name is printed.
+/// The text of a copy of a name.
 pub(crate) fn name(alloc: Global, given: &str) -> Result<String> {
     let copy = name_of(alloc, given)?.clone()?;
     let mut children = String::new(alloc);
@@ -78,7 +78,7 @@ pub(crate) fn name(alloc: Global, given: &str) -> Result<String> {
     Ok(format!(in alloc; "{copy}")?)
 }
 
-/// How two names are ordered.
+/// The order of two names.
 pub(crate) fn order(alloc: Global, given: &str) -> Result<String> {
     let (a, b) = given.split_once(':').context("one name")?;
     let (a, b) = (name_of(alloc, a)?, name_of(alloc, b)?);

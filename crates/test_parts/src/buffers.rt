@@ -1,4 +1,4 @@
-//! Store buffers, by callers that know no model.
+//! Store buffers, by callers that are generic over the model.
 ghost use Rattle.std.specs.Prelude.{◌≡◌, Some, true, IfOk, List};
 ghost use Rattle.store_buffers.specs.Pending.{Pending, Stands};
 
@@ -19,7 +19,7 @@ fn store_and_load<M: MemoryModel>(
     Ok(M::forward(buffer, cell))
 }
 
-/// A form of drains, as it is written.
+/// The text of a form of drains.
 fn form_text(alloc: Global, form: Option<u32>) -> Result<String, AllocError> {
     match form {
         Some(cell) => format!(in alloc; " {cell}"),
@@ -27,7 +27,7 @@ fn form_text(alloc: Global, form: Option<u32>) -> Result<String, AllocError> {
     }
 }
 
-/// A drain by a form, where it may be done.
+/// A drain in a form, if it may be done.
 fn drained<M: MemoryModel>(
     alloc: Global,
     buffer: &mut M::Buffer,
@@ -41,7 +41,7 @@ fn drained<M: MemoryModel>(
     }
 }
 
-/// What is done with a buffer.
+/// An act on a buffer.
 #[derive(Clone, Copy)]
 enum Act {
     Issue(u32, i32),
@@ -54,7 +54,7 @@ enum Act {
     Bound,
 }
 
-/// The act that is written so.
+/// The act with this text.
 fn act_of(text: &str) -> Result<Act> {
     let (word, rest) = text.split_once(' ').unwrap_or((text, ""));
     Ok(match word {
@@ -90,7 +90,7 @@ fn store_of(words: &str) -> Result<(u32, i32)> {
     Ok((cell.parse()?, value.parse()?))
 }
 
-/// What an act answers.
+/// The answer of an act.
 fn acted<M: MemoryModel>(alloc: Global, buffer: &mut M::Buffer, act: Act) -> Result<String> {
     match act {
         Act::Issue(cell, value) => issued::<M>(alloc, buffer, cell, value),
@@ -110,7 +110,7 @@ fn acted<M: MemoryModel>(alloc: Global, buffer: &mut M::Buffer, act: Act) -> Res
     }
 }
 
-/// Issues a store, where the model has buffers.
+/// Issues a store, if the model has buffers.
 fn issued<M: MemoryModel>(
     alloc: Global,
     buffer: &mut M::Buffer,
@@ -123,7 +123,7 @@ fn issued<M: MemoryModel>(
     Ok(String::new(alloc))
 }
 
-/// What a load takes of the buffer.
+/// The value that a load takes from the buffer.
 fn loaded<M: MemoryModel>(alloc: Global, buffer: &M::Buffer, cell: u32) -> Result<String> {
     match M::forward(buffer, cell) {
         Some(value) => Ok(format!(in alloc; " {value};")?),
@@ -141,7 +141,7 @@ fn forms_text<M: MemoryModel>(alloc: Global, buffer: &M::Buffer) -> Result<Strin
     Ok(text)
 }
 
-/// What a load takes right behind a store, where the model has buffers.
+/// The value that a load takes right after a store, if the model has buffers.
 fn own<M: MemoryModel>(
     alloc: Global,
     buffer: &mut M::Buffer,
@@ -155,7 +155,7 @@ fn own<M: MemoryModel>(
     Ok(format!(in alloc; " {taken:?};")?)
 }
 
-/// The model's name, and which stores are bound.
+/// The model's name, and the stores that it binds.
 fn bound<M: MemoryModel>(alloc: Global) -> Result<String> {
     let mut text = format!(in alloc; " {}", M::MODEL)?;
     for (same, barred) in [(false, false), (true, false), (false, true), (true, true)] {
@@ -169,7 +169,7 @@ fn bound<M: MemoryModel>(alloc: Global) -> Result<String> {
     Ok(text)
 }
 
-/// What acts on an empty buffer answer.
+/// The answers of acts on an empty buffer.
 fn all_acted<M: MemoryModel>(alloc: Global, acts: &str) -> Result<String> {
     let mut buffer = M::empty(alloc);
     let mut text = String::new(alloc);

@@ -4,7 +4,7 @@ use std::alloc::{AllocError, Global};
 use sym_exec::{Access, Cell, Course, Handed, Symbolic, Test};
 use sym_terms::{Id, Node, Terms, Values, value};
 
-/// Terms, and what they come to where the loads took these values.
+/// Terms, and their values for these values of the loads.
 #[derive(Clone, Copy)]
 pub(crate) struct Told<'a> {
     pub(crate) alloc: Global,
@@ -13,7 +13,7 @@ pub(crate) struct Told<'a> {
 }
 
 impl<'a> Told<'a> {
-    /// How many loads there are, what is found of each thread, a line for each thing that it does, and the terms.
+    /// The number of loads, the findings for each thread, a line for each, and the terms.
     pub(crate) fn all(&self, symbolic: &Symbolic) -> Result<String> {
         let mut text = format!(in self.alloc; "{} loads", symbolic.loads())?;
         for course in symbolic.threads() {

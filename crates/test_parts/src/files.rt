@@ -8,7 +8,7 @@ use std::fmt::Write;
 use tc_base::Move;
 use test_table::answers::Answers;
 
-/// A move as it is written in a schedule.
+/// A move as a schedule writes it.
 pub(crate) fn move_text(alloc: Global, m: &Move) -> Result<String, AllocError> {
     match m {
         Move::Run(name) => format!(in alloc; "r {name}"),
@@ -18,7 +18,7 @@ pub(crate) fn move_text(alloc: Global, m: &Move) -> Result<String, AllocError> {
     }
 }
 
-/// The model and the moves of a text, once they have been written as the text again; or its fault.
+/// The model and the moves of a text, after writing them as the text again; or its fault.
 pub(crate) fn schedule(alloc: Global, text: &[u8]) -> Result<String> {
     let schedule = match read_schedule(alloc, text) {
         Ok(schedule) => schedule,
@@ -34,7 +34,7 @@ pub(crate) fn schedule(alloc: Global, text: &[u8]) -> Result<String> {
     Ok(told)
 }
 
-/// What each beginning of a text is answered.
+/// The answers to each beginning of a text.
 pub(crate) fn cut_schedule(alloc: Global, text: &[u8]) -> Result<String> {
     let mut answers = Answers::new(alloc);
     for len in 0..text.len() {
@@ -43,7 +43,7 @@ pub(crate) fn cut_schedule(alloc: Global, text: &[u8]) -> Result<String> {
     answers.told(alloc)
 }
 
-/// The bytes that hex digits write, blanks between them left out.
+/// The bytes that hex digits write; blanks between them are skipped.
 pub(crate) fn hex_bytes(alloc: Global, hex: &str) -> Result<Vec<u8>> {
     let mut bytes = Vec::new(alloc);
     for word in hex.split_whitespace() {
@@ -52,7 +52,7 @@ pub(crate) fn hex_bytes(alloc: Global, hex: &str) -> Result<Vec<u8>> {
     Ok(bytes)
 }
 
-/// The log of a text, once it was written as the text again.
+/// The log of a text, after writing it as the text again.
 fn log_of(alloc: Global, text: &[u8]) -> Result<Result<Log, LogFault>> {
     let log = match read_log(alloc, text) {
         Ok(log) => log,
@@ -64,7 +64,7 @@ fn log_of(alloc: Global, text: &[u8]) -> Result<Result<Log, LogFault>> {
     Ok(Ok(log))
 }
 
-/// How many threads a log has, or its fault.
+/// The number of threads of a log, or its fault.
 pub(crate) fn log(alloc: Global, hex: &str) -> Result<String> {
     match log_of(alloc, hex_bytes(alloc, hex)?.as_slice())? {
         Ok(log) => Ok(format!(in alloc; "{} threads", log.threads().len())?),

@@ -13,7 +13,7 @@ use tc_base::{Move, ThreadName};
 use tc_code::Code;
 use tc_machine::{State, Why, enabled, moves, start, step};
 
-/// What is told of the end of the moves of a row.
+/// The answer to a row of moves: what holds at their end.
 pub(crate) fn moved(alloc: Global, given: &str) -> Result<String> {
     let (head, program) = given.split_once(" : ").context("no program")?;
     let (model, schedule) = head.split_once(' ').context("no moves")?;
@@ -36,14 +36,15 @@ fn moves_of(alloc: Global, schedule: &str) -> Result<Vec<Move>> {
     Ok(read_schedule(alloc, text.as_bytes())?.moves)
 }
 
-/// Where a list of moves led, and the move that wasn't enabled, by its number from 1, if there was one.
+/// The state that a list of moves led to, and the number of the first move that wasn't enabled,
+/// from 1, if any.
 #[derive(Drop)]
 struct End<M: MemoryModel> {
     state: State<M>,
     stop: Option<(usize, Why)>,
 }
 
-/// What is told of the end of these moves.
+/// What holds at the end of these moves.
 fn played<M: MemoryModel>(alloc: Global, code: &Code, made: &[Move]) -> Result<String> {
     if made.len() >= 100 {
         bail!("too many moves");

@@ -1,8 +1,8 @@
-//! Worked rows of parts of the program, as data: reads a table of rows, and prints of each group how many are as they
-//! must be, and of each other row what came. `test_table` says how a table is written. With a word behind the program's
-//! name only the groups and rows that have it are tried.
+//! Worked rows of parts of the program, as data: reads a table of rows, and prints for each group
+//! how many rows pass, and for each failing row what came. `test_table` defines the format of a
+//! table. With a word after the program's name, tries only the groups and rows that contain it.
 //!
-//! What is given to a part, and what comes; where it is several things ` : ` stands between them:
+//! What a part is given, and what comes; several things are separated by ` : `:
 //!
 //! - `arith`: an operator with its one or two numbers; the value;
 //! - `name`: numbers of children; the name that they lead to;
@@ -10,12 +10,13 @@
 //! - `seeded`: a seed; the first five words of the generator;
 //! - `terms`: steps with `,` between them, each a number, `load N`, or an operator over earlier steps `#N`; how many terms
 //!   they make, and the value of the last, where load 0 took 3 and load 1 -4;
-//! - `sums`: `itself N` or `load N`; the same of load 0, to which itself or load 0 is added so many times;
+//! - `sums`: `itself N` or `load N`; the same of load 0, to which itself or load 0 is added N
+//!   times;
 //! - `buffer`: a model, and acts with `,` between them: `issue CELL VALUE`, `bar`, `load CELL`, `drain`, `drain CELL`,
 //!   `forms`, `empty`, `own CELL VALUE` (a store and a load), `bound` (the model's name, and whether an older store is bound
 //!   before a newer one: plainly, to one cell, over a bar, and both); what all but the first two answer;
 //! - `tokens`: a text; its tokens and their places, a keyword in `"` and a sign in `` ` ``, or the fault;
-//! - `place`: a text; the place behind it;
+//! - `place`: a text; the place after it;
 //! - `program`: a text; that it is a program, or its fault;
 //! - `tree`: an expression; the same with brackets round each operator, and `[..]` for those of the text;
 //! - `schedule`: a text; its model and moves, or the fault;
@@ -29,9 +30,10 @@
 //!   enabled, and why;
 //! - `walk`: hex digits of a log : a program; how many events and operators the paths have and whether they are dead, or
 //!   the log's fault;
-//! - `ways`: the same; the same, and all that each path tells;
+//! - `ways`: the same; the same, and each path;
 //! - `sizes`: the same; how many loads and terms the execution has;
-//! - `execute`: the same : values of loads; all that the execution finds, and behind each term its value;
+//! - `execute`: the same : values of loads; all that the execution finds, with the value of each
+//!   term after it;
 #![tactic(auto)]
 
 mod base;
@@ -66,7 +68,7 @@ impl Parts for Tried {
     }
 }
 
-/// What a part answers to words.
+/// The answer of a part.
 fn answer(alloc: Global, part: &str, given: &str) -> Result<String> {
     match part {
         "arith" => base::arith(alloc, given),

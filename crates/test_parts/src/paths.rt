@@ -38,7 +38,8 @@ fn numbers_of(alloc: Global, text: &str) -> Result<Vec<i32>> {
     Ok(numbers)
 }
 
-/// How many events and operators the paths have and whether they are dead, or the fault of the log.
+/// The numbers of events and operators of the paths, and whether they are dead; or the fault of the
+/// log.
 pub(crate) fn walked(alloc: Global, given: &str) -> Result<String> {
     let (log, code) = parts_of(alloc, given)?;
     match walk(alloc, &code, &log) {
@@ -56,7 +57,7 @@ fn told(alloc: Global, paths: &Paths) -> Result<String, AllocError> {
     )
 }
 
-/// The same, and all that each path tells.
+/// The same, with everything that each path determines.
 pub(crate) fn ways(alloc: Global, given: &str) -> Result<String> {
     let (log, code) = parts_of(alloc, given)?;
     all_ways(alloc, &walk(alloc, &code, &log)?)
@@ -93,7 +94,7 @@ fn places_text(alloc: Global, walk: &Walk, fails: bool) -> Result<String, AllocE
     Ok(text)
 }
 
-/// What a thread is blocked at, if it is.
+/// What blocks a thread, if anything.
 fn blocked_text(alloc: Global, blocked: Option<Blocked>) -> Result<String, AllocError> {
     match blocked {
         Some(blocked) => format!(in alloc; "\n  blocked: {blocked:?}"),
@@ -147,7 +148,7 @@ fn links_text(alloc: Global, what: &str, links: &[Link]) -> Result<String, Alloc
     Ok(text)
 }
 
-/// How many loads and terms the execution has.
+/// The numbers of loads and terms of the execution.
 pub(crate) fn sizes(alloc: Global, given: &str) -> Result<String> {
     let (log, code) = parts_of(alloc, given)?;
     let mut terms = Terms::new(alloc);
@@ -155,7 +156,7 @@ pub(crate) fn sizes(alloc: Global, given: &str) -> Result<String> {
     Ok(format!(in alloc; "{} loads, {} terms", symbolic.loads(), terms.len())?)
 }
 
-/// All that the execution finds, and what its terms come to where the loads took these values.
+/// Everything that the execution finds, and the values of its terms for these values of the loads.
 pub(crate) fn executed(alloc: Global, given: &str) -> Result<String> {
     let (given, loads) = given.rsplit_once(" :").context("no values of loads")?;
     let loads = numbers_of(alloc, loads)?;
@@ -170,7 +171,7 @@ pub(crate) fn executed(alloc: Global, given: &str) -> Result<String> {
     told.all(&symbolic)
 }
 
-/// What the execution of a log finds.
+/// The execution of a log.
 fn symbolic_of(alloc: Global, log: &Log, code: &Code, terms: &mut Terms) -> Result<Symbolic>
     requires { length log.now.log.threads ≤ THREADS }
 {

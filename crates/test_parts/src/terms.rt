@@ -42,7 +42,7 @@ fn made(terms: &mut Terms, ids: &[Id], step: &str) -> Result<Id> {
     }
 }
 
-/// How many terms there are, and the value of one, which is also there when it is asked for again.
+/// The number of terms, and the value of the last, which must stay the same when asked for again.
 fn told(alloc: Global, terms: &Terms, ids: &[Id]) -> Result<String> {
     let last = term_of(terms, ids, ids.len().saturating_sub(1))?;
     let mut values = Values::new(alloc, terms, &[3, -4])?;
@@ -63,7 +63,7 @@ pub(crate) fn terms(alloc: Global, given: &str) -> Result<String> {
     told(alloc, &terms, &ids)
 }
 
-/// The load 0, to which itself, or else the load, is added so many times.
+/// Load 0, to which itself, or else load 0, is added `times` times.
 pub(crate) fn sums(alloc: Global, given: &str) -> Result<String> {
     let (added, times) = given.split_once(' ').context("no number of times")?;
     let mut terms = Terms::new(alloc);

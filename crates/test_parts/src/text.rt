@@ -14,7 +14,7 @@ use tc_limits::limits::PROGRAM_BYTES;
 use tc_parser::read;
 use tc_tree::{Expression, Node, Operator, Statement};
 
-/// A text that is as long as a program may be.
+/// A text that isn't longer than a program may be.
 fn within(source: &[u8]) -> Result<&[u8]>
     ensures { IfOk result (λ text. length text.now ≤ PROGRAM_BYTES) }
 {
@@ -24,7 +24,7 @@ fn within(source: &[u8]) -> Result<&[u8]>
     Ok(source)
 }
 
-/// How a token of this kind is written, where these are its bytes in the source.
+/// The spelling of a token of this kind, given its bytes in the source.
 fn written(alloc: Global, kind: TokenKind, source: &str) -> Result<String> {
     Ok(match kind {
         TokenKind::Name => String::from_str(alloc, source)?,
@@ -34,7 +34,7 @@ fn written(alloc: Global, kind: TokenKind, source: &str) -> Result<String> {
     })
 }
 
-/// A token with its place, its kind told by the marks about it.
+/// A token with its place; quotes or backquotes around it show its kind.
 fn seen(alloc: Global, token: &Token, source: &[u8]) -> Result<String> {
     let Some(bytes) = source.get(token.start..token.end) else {
         bail!("a token outside of the text");
@@ -80,7 +80,7 @@ fn all_seen(alloc: Global, tokens: &[Token], source: &[u8]) -> Result<String> {
     Ok(shown)
 }
 
-/// The place behind a text.
+/// The place after a text.
 pub(crate) fn place(alloc: Global, source: &[u8]) -> Result<String> {
     let Place { line, col } = place_after(within(source)?);
     Ok(format!(in alloc; "{line}:{col}")?)
@@ -170,7 +170,7 @@ fn assignment(alloc: Global, expression: &str) -> Result<String> {
     Ok(text)
 }
 
-/// The tree of an expression of ints, and of the array `a` where it has an index.
+/// The tree of an expression over ints, and over the array `a` if it has an index.
 pub(crate) fn tree(alloc: Global, expression: &str) -> Result<String> {
     let text = assignment(alloc, expression)?;
     let tree = read(alloc, within(text.as_bytes())?)?;

@@ -1,7 +1,7 @@
-//! Worked rows of the program, as data: reads a table of calls, and prints of each whether it comes out as it must, or
-//! what came and what must come.
+//! Worked rows of the program, as data: reads a table of calls, and prints for each whether it
+//! passes, or what came and what must come.
 //!
-//! `test_table` says how a table is written.
+//! `test_table` defines the format of a table.
 #![tactic(auto)]
 
 use anyhow::Result;

@@ -1,4 +1,4 @@
--- A `BTreeMap` from texts, seen as a finite map from their bytes.
+-- A `BTreeMap` from texts, as a finite map from their bytes.
 use Rattle.std.proofs.Common.{◌≡◌, ℕ, Bool, true, false, List, [], ◌∷◌, map, refl, ap, sym, ◌∙◌, Option, Some, cond, option_map, String, string_bytes}
 use Rattle.std.specs.FinMap.{get, insert, find, get-from_entries, from_entries, get-insert, same_map}
 use Rattle.std.specs.Ordering.{nat_cmp, eq_by_cmp}
@@ -28,12 +28,12 @@ find_text bytes_of (e ∷ es) q =
     ap (cond (is_at (text_cmp q) e.0) (Some (bytes_of e.1))) (find_text bytes_of es q)
     ∙ sym (option_map-cond bytes_of (is_at (text_cmp q) e.0) (Some e.1) (lookup (is_at (text_cmp q)) es))
 
--- what it has under a name
+-- the value of the map under a name
 pub get_text : {Y X : Type 0} (bytes_of : X → List ℕ) (m : BTreeMap (String Y) X) (q : List ℕ)
     → get (from_entries {R = slice_cmp nat_cmp} (bytes_by_name bytes_of m.entries)) q ≡ option_map bytes_of (get_by_text m q)
 get_text bytes_of m q = get-from_entries nat_list_cmp_total _ q ∙ find_text bytes_of m.entries q
 
--- what it is once a value is put under a name
+-- the map after an insertion under a name
 pub insert_text : {Y X : Type 0} (bytes_of : X → List ℕ) (m n : BTreeMap (String Y) X) (name : List ℕ) (x : X)
     → UpdatesBy string_cmp (λ k. slice_cmp nat_cmp name (string_bytes k)) m n (Some x)
     → from_entries {R = slice_cmp nat_cmp} (bytes_by_name bytes_of n.entries) ≡ insert (from_entries (bytes_by_name bytes_of m.entries)) name (bytes_of x)
@@ -46,7 +46,7 @@ insert_text bytes_of m n name x u = same_map nat_list_cmp_total exact_bytes _ _ 
     ∙ sym (get-insert nat_list_cmp_total (from_entries (bytes_by_name bytes_of m.entries)) name (bytes_of x) q
     ∙ ap (cond (eq_by_cmp (slice_cmp nat_cmp) q name) (Some (bytes_of x))) (get_text bytes_of m q)))
 
--- the same, from what the parts are
+-- the same, from the parts
 pub put_text : {Y X : Type 0} (bytes_of : X → List ℕ) (m n : BTreeMap (String Y) X) (key : String Y) (x : X) (held : Files) (name bytes : List ℕ)
     → UpdatesBy string_cmp (string_cmp key) m n (Some x) → string_bytes key ≡ name → bytes_of x ≡ bytes
     → from_entries {R = slice_cmp nat_cmp} (bytes_by_name bytes_of m.entries) ≡ held

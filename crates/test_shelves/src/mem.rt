@@ -39,7 +39,7 @@ ghost use Rattle.tc_io.specs.Outside.{
   FailedToGivePiece,
   Wrote,
   WrotePart,
-  closed,
+  without_reading,
 };
 ghost use Rattle.test_shelves.specs.Plan.{told_at, with_call};
 
@@ -149,7 +149,7 @@ impl Shelf for MemShelf {
     fn keep(&mut self, alloc: Global, name: &str, bytes: &[u8]) -> Result<(), KeepFault>
         ensures ok { OnOk result (Kept (mem_tells self.old) (mem_tells self.new) name.now bytes.now) }
         ensures failed { IsErrOf result KeepFault.Failed → KeptPart (mem_tells self.old) (mem_tells self.new) name.now bytes.now }
-        ensures memory { IsErrOf result KeepFault.Memory → mem_tells self.new ≡ closed (mem_tells self.old) }
+        ensures memory { IsErrOf result KeepFault.Memory → mem_tells self.new ≡ without_reading (mem_tells self.old) }
 
         // What this shelf alone says: which keeps fail, and after how many bytes.
         ensures told { OnOk result (told_at self.new.plan ≡ None) }
@@ -176,7 +176,7 @@ impl Shelf for MemShelf {
     fn open(&mut self, alloc: Global, name: &str) -> Result<(), OpenFault>
         ensures ok { OnOk result (Opened (mem_tells self.old) (mem_tells self.new) name.now) }
         ensures failed { IsErrOf result OpenFault.Failed → FailedToOpen (mem_tells self.old) (mem_tells self.new) name.now }
-        ensures memory { IsErrOf result OpenFault.Memory → mem_tells self.new ≡ closed (mem_tells self.old) }
+        ensures memory { IsErrOf result OpenFault.Memory → mem_tells self.new ≡ without_reading (mem_tells self.old) }
 
         // What this shelf alone says: which opens fail.
         ensures there { OnOk result (IsSome (map.get self.old.held name.now) × (told_at self.new.plan ≡ None)) }

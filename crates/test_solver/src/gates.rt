@@ -13,7 +13,7 @@ fn literals() -> [Lit; 4] {
     ]
 }
 
-/// What a gate gives.
+/// The value of a gate.
 fn value(gate: Gate, a: bool, b: bool) -> bool {
     match gate {
         Gate::And => a && b,
@@ -51,7 +51,7 @@ const VALUES: [(bool, bool, bool); 8] = [
     (true, true, true),
 ];
 
-/// Whether the clauses of a gate leave its variable the one value that the gate gives.
+/// Whether the clauses of a gate leave its variable only the value that the gate gives.
 fn is_right(alloc: Global, gate: Gate, a: Lit, b: Lit) -> Result<bool> {
     let cnf = gate_of(alloc, gate, a, b)?;
     for (first, second, third) in VALUES {
@@ -68,7 +68,7 @@ fn is_right(alloc: Global, gate: Gate, a: Lit, b: Lit) -> Result<bool> {
     Ok(true)
 }
 
-/// How many pairs of literals give a gate's clauses its values alone.
+/// The number of pairs of literals for which a gate's clauses leave only its values.
 pub(crate) fn gate(alloc: Global, given: &str) -> Result<String> {
     let gate = match given {
         "and" => Gate::And,

@@ -5,7 +5,7 @@ use anyhow::{Result, bail};
 use cnf_core::{Cnf, LIMIT, Lit, is_clause, is_within};
 use std::alloc::{AllocError, Global};
 
-/// No clauses over so many variables.
+/// No clauses, over this number of variables.
 pub(crate) fn empty(alloc: Global, variables: u32) -> Result<Cnf> {
     if variables >= LIMIT {
         bail!("too many variables");
@@ -13,7 +13,7 @@ pub(crate) fn empty(alloc: Global, variables: u32) -> Result<Cnf> {
     Ok(Cnf::new(alloc, variables))
 }
 
-/// One clause more.
+/// Adds a clause.
 pub(crate) fn push(cnf: &mut Cnf, clause: &[Lit]) -> Result<()> {
     if !is_clause(clause) || !is_within(cnf.vars(), clause) {
         bail!("no clause");
@@ -25,7 +25,7 @@ pub(crate) fn push(cnf: &mut Cnf, clause: &[Lit]) -> Result<()> {
     Ok(())
 }
 
-/// The literal of a number other than 0.
+/// The literal with this number, which isn't 0.
 pub(crate) fn literal(number: i32) -> Result<Lit> {
     let variable = number.unsigned_abs();
     if variable == 0 || variable > 1 << 30 {
@@ -34,7 +34,7 @@ pub(crate) fn literal(number: i32) -> Result<Lit> {
     Ok(Lit::new(variable, number < 0))
 }
 
-/// A list as it is written: each clause ends with 0.
+/// Reads a list of clauses, each of which ends with 0.
 pub(crate) fn read(alloc: Global, variables: u32, text: &str) -> Result<Cnf> {
     let mut cnf = empty(alloc, variables)?;
     let mut clause = Vec::new(alloc);
@@ -50,7 +50,7 @@ pub(crate) fn read(alloc: Global, variables: u32, text: &str) -> Result<Cnf> {
     Ok(cnf)
 }
 
-/// Each of so many pigeons has a hole, of which there is one less, and no hole has two.
+/// Each of `count` pigeons has a hole, there is one hole less, and no hole has two pigeons.
 pub(crate) fn pigeons(alloc: Global, count: u32) -> Result<Cnf> {
     if count < 2 || count > 100 {
         bail!("so many pigeons won't do");
@@ -66,7 +66,7 @@ pub(crate) fn pigeons(alloc: Global, count: u32) -> Result<Cnf> {
     Ok(cnf)
 }
 
-/// The variable of a pigeon and a hole of so many.
+/// The literal that a pigeon has a hole.
 fn sits(pigeon: u32, hole: u32, holes: u32, negative: bool) -> Lit
     requires pigeon { pigeon < 100 }
     requires hole { hole < 100 }
@@ -75,7 +75,7 @@ fn sits(pigeon: u32, hole: u32, holes: u32, negative: bool) -> Lit
     Lit::new(pigeon * holes + hole + 1, negative)
 }
 
-/// That a pigeon has one of so many holes.
+/// That a pigeon has one of the `holes` holes.
 fn nest(alloc: Global, pigeon: u32, holes: u32) -> Result<Vec<Lit>, AllocError>
     requires pigeon { pigeon < 100 }
     requires holes { holes < 100 }
@@ -87,7 +87,7 @@ fn nest(alloc: Global, pigeon: u32, holes: u32) -> Result<Vec<Lit>, AllocError>
     Ok(clause)
 }
 
-/// That of so many pigeons no two have the hole.
+/// That no two of `count` pigeons have the hole.
 fn part(cnf: &mut Cnf, count: u32, hole: u32, holes: u32) -> Result<()>
     requires count { count ≤ 100 }
     requires hole { hole < 100 }
@@ -105,7 +105,7 @@ fn part(cnf: &mut Cnf, count: u32, hole: u32, holes: u32) -> Result<()>
     Ok(())
 }
 
-/// The next of a row of numbers that look like chance.
+/// The next number of a pseudo-random sequence.
 pub(crate) fn next(seed: &mut u64) -> u32 {
     *seed = seed
         .wrapping_mul(6_364_136_223_846_793_005)

@@ -1,8 +1,9 @@
-//! Worked rows of clauses, gates, refutations and searches, as data: reads a table of rows, and prints of each group how
-//! many are as they must be, and of each other row what came. `test_table` says how a table is written. With a word behind
-//! the program's name only the groups and rows that have it are tried.
+//! Worked rows of clauses, gates, refutations and searches, as data: reads a table of rows, and
+//! prints for each group how many rows pass, and for each failing row what came. `test_table`
+//! defines the format of a table. With a word after the program's name, tries only the groups and
+//! rows that contain it.
 //!
-//! What is given to a part, and what comes; where it is several things ` : ` stands between them. A clause has its
+//! What a part is given, and what comes; several things are separated by ` : `. A clause has its
 //! literals by rising variable, and ends with 0:
 //!
 //! - `gate`: a gate; how many pairs of literals give its clauses the gate's values alone;
@@ -41,7 +42,7 @@ impl Parts for Tried {
     }
 }
 
-/// What a part answers to words.
+/// The answer of a part.
 fn answer(alloc: Global, part: &str, given: &str) -> Result<String> {
     match part {
         "gate" => gates::gate(alloc, given),

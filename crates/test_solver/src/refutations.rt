@@ -1,4 +1,4 @@
-//! What is answered to a refutation's text.
+//! The answers to a refutation's text.
 use crate::lists::read;
 use anyhow::{Context, Result, bail};
 use cnf_core::Cnf;
@@ -10,7 +10,7 @@ use std::alloc::{AllocError, Global};
 use std::fmt::Write;
 use test_table::answers::Answers;
 
-/// What is answered to a text that is read line by line, and comes in pieces of that size.
+/// The answer to a text that is read line by line, from pieces of this size.
 fn answer(alloc: Global, cnf: &Cnf, text: &[u8], piece: usize) -> Result<String> {
     if piece == 0 {
         bail!("pieces of no bytes");
@@ -26,7 +26,7 @@ fn answer(alloc: Global, cnf: &Cnf, text: &[u8], piece: usize) -> Result<String>
     }
 }
 
-/// A piece of a text.
+/// Reads a piece of a text.
 fn take(reader: &mut RefutationText, checker: &mut Checker, part: &[u8]) -> Result<()> {
     let mut rest = part;
     for _ in 0..part.len() {
@@ -52,7 +52,7 @@ fn verdict(alloc: Global, verdict: Result<Checked, CheckFault>) -> Result<String
     }
 }
 
-/// What is answered to a text that is read as a whole; what was read is written as the text again.
+/// The answer to a text that is read as a whole, after writing it as the text again.
 fn whole(alloc: Global, cnf: &Cnf, text: &[u8]) -> Result<String> {
     match read_refutation(alloc, text) {
         Err(RefutationFault::Form(line)) => Ok(format!(in alloc; "form {line}")?),
@@ -66,7 +66,7 @@ fn whole(alloc: Global, cnf: &Cnf, text: &[u8]) -> Result<String> {
     }
 }
 
-/// What is answered alike to a text as a whole and in pieces of each size.
+/// The answer to a text, which must be the same as a whole and in pieces of each size.
 fn same(alloc: Global, cnf: &Cnf, text: &[u8]) -> Result<String> {
     let want = whole(alloc, cnf, text)?;
     let sizes = if text.len() < 100_000 {
@@ -95,7 +95,7 @@ pub(crate) fn check_row(alloc: Global, given: &str) -> Result<String> {
     same(alloc, &cnf, text.as_bytes())
 }
 
-/// What each beginning of a text is answered.
+/// The answers to each beginning of a text.
 pub(crate) fn cut_check(alloc: Global, given: &str) -> Result<String> {
     let (cnf, text) = parts_of(alloc, given)?;
     let text = text.as_bytes();
@@ -115,7 +115,8 @@ fn taken_text(taken: &Taken) -> &'static str {
     }
 }
 
-/// How many bytes each taking takes of the rest of a text, until one takes none, and what it is.
+/// The number of bytes that each call takes of the rest of a text, until one takes none, and the
+/// lines.
 pub(crate) fn takes(alloc: Global, text: &[u8]) -> Result<String> {
     let mut reader = RefutationText::new(alloc);
     let mut told = String::new(alloc);

@@ -1,4 +1,4 @@
-//! Searches, whose every answer and derivation is checked.
+//! Searches; every answer and derivation is checked.
 use crate::lists::{pigeons, random, read};
 use anyhow::{Context, Result, bail};
 use cdcl_core::{Progress, Search, Solved, solve_cnf};
@@ -7,7 +7,7 @@ use refute_check::{Checked, Derivation, Line, check};
 use std::alloc::{AllocError, Global};
 use std::fmt::Write;
 
-/// What a run of a search comes to.
+/// The result of a run of a search.
 #[derive(Clone, Copy, PartialEq, Eq)]
 enum Came {
     Satisfied,
@@ -15,10 +15,10 @@ enum Came {
     Paused(u32),
 }
 
-/// The most clauses that may be learnt.
+/// The greatest number of clauses that may be learnt.
 const MOST: u32 = 10_000_000;
 
-/// A run of a search, whose answer and derivation are checked.
+/// A run of a search, with its answer and derivation checked.
 fn run(alloc: Global, cnf: &Cnf, search: &mut Search, conflicts: u32) -> Result<Came> {
     if conflicts == 0 || conflicts > MOST - search.added() {
         bail!("so many clauses can't be learnt");
@@ -83,7 +83,7 @@ fn tell(alloc: Global, came: Came) -> Result<String, AllocError> {
     }
 }
 
-/// The clauses of a row, and what stands behind them.
+/// The clauses of a row, and the text after them.
 fn parts_of(alloc: Global, given: &str) -> Result<(Cnf, &str)> {
     let (variables, rest) = given.split_once(" :").context("no clauses")?;
     let (literals, rest) = rest.split_once(": ").context("nothing behind them")?;
@@ -100,7 +100,7 @@ pub(crate) fn pigeon_runs(alloc: Global, given: &str) -> Result<String> {
     all_runs(alloc, &pigeons(alloc, count.parse()?)?, runs)
 }
 
-/// How many clauses of the list are deleted, and what the checker says of the lines.
+/// The number of clauses of the list that are deleted, and the checker's answer to the lines.
 fn lines_text(alloc: Global, cnf: &Cnf, derivation: &Derivation) -> Result<String> {
     let mut lost = 0u32;
     for line in derivation.lines() {
@@ -116,7 +116,7 @@ fn lines_text(alloc: Global, cnf: &Cnf, derivation: &Derivation) -> Result<Strin
     Ok(format!(in alloc; "{lost} clauses of the list deleted, {checked:?}")?)
 }
 
-/// How many lines add a clause.
+/// The number of lines that add a clause.
 fn added(derivation: &Derivation) -> u32 {
     let mut added = 0u32;
     for line in derivation.lines() {
@@ -127,7 +127,7 @@ fn added(derivation: &Derivation) -> u32 {
     added
 }
 
-/// What `solve_cnf` answers.
+/// The answer of `solve_cnf`.
 fn solved(alloc: Global, cnf: &Cnf, budget: &str) -> Result<Solved> {
     let budget = budget.parse::<u32>()?;
     if budget == 0 || budget > MOST {
@@ -142,7 +142,7 @@ pub(crate) fn values(alloc: Global, given: &str) -> Result<String> {
     values_text(alloc, solved(alloc, &cnf, budget)?)
 }
 
-/// The same, where these values are tried first, each as a sign.
+/// The same, if these values are tried first, each given as a sign.
 pub(crate) fn first(alloc: Global, given: &str) -> Result<String> {
     let (cnf, signs) = parts_of(alloc, given)?;
     let mut first = Vec::new(alloc);
@@ -165,7 +165,7 @@ fn values_text(alloc: Global, solved: Solved) -> Result<String> {
     Ok(String::from_str(alloc, text.trim_end())?)
 }
 
-/// What `solve_cnf` answers: how many values, or what lines.
+/// The answer of `solve_cnf`: the number of values, or the lines.
 pub(crate) fn solve(alloc: Global, given: &str) -> Result<String> {
     let (cnf, budget) = parts_of(alloc, given)?;
     match solved(alloc, &cnf, budget)? {
@@ -185,7 +185,7 @@ pub(crate) fn solve(alloc: Global, given: &str) -> Result<String> {
     }
 }
 
-/// So many lists, each against every assignment: how many are satisfiable.
+/// Tries random lists, each against every assignment: how many are satisfiable.
 pub(crate) fn random_lists(alloc: Global, given: &str) -> Result<String> {
     let (seed, sizes) = given.split_once(' ').context("no count")?;
     let mut seed = seed.parse::<u64>()?;
@@ -199,14 +199,14 @@ pub(crate) fn random_lists(alloc: Global, given: &str) -> Result<String> {
     Ok(format!(in alloc; "{satisfied} satisfiable")?)
 }
 
-/// How many lists, variables and clauses.
+/// The numbers of lists, variables and clauses.
 fn sizes_of(words: &str) -> Result<[u32; 3]> {
     let (count, rest) = words.split_once(' ').context("no variables")?;
     let (variables, clauses) = rest.split_once(' ').context("no clauses")?;
     Ok([count.parse()?, variables.parse()?, clauses.parse()?])
 }
 
-/// Whether a list is satisfiable, once the search, in steps and at once, says the same.
+/// Whether a list is satisfiable; the search in steps and the one at once must agree.
 fn is_right(alloc: Global, cnf: &Cnf) -> Result<bool> {
     let is_so = is_satisfiable(alloc, cnf)?;
     if is_so_in_steps(alloc, cnf)? != is_so {

@@ -1,9 +1,9 @@
-//! Answers to one part after another of something long, told in short.
+//! A short summary of the answers to one part after another of something long.
 use anyhow::Result;
 use std::alloc::Global;
 use std::fmt::Write;
 
-/// Answers, of which equal ones that follow one another are counted.
+/// Answers; equal ones in a row are counted.
 #[derive(Drop)]
 pub struct Answers {
     last: String,
@@ -12,7 +12,7 @@ pub struct Answers {
 }
 
 impl Answers {
-    /// None yet.
+    /// No answers yet.
     pub fn new(alloc: Global) -> Answers {
         Answers {
             last: String::new(alloc),
@@ -21,7 +21,7 @@ impl Answers {
         }
     }
 
-    /// One answer more.
+    /// Adds an answer.
     pub fn push(&mut self, answer: String) -> Result<()> {
         if self.count == 0 || answer != self.last {
             self.flush()?;
@@ -39,7 +39,7 @@ impl Answers {
         Ok(())
     }
 
-    /// All of them.
+    /// The summary of all answers.
     pub fn told(mut self, alloc: Global) -> Result<String> {
         self.flush()?;
         Ok(String::from_str(alloc, self.text.trim_end())?)

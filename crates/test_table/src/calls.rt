@@ -8,16 +8,18 @@
 //! - `fetch CALL AFTER`, `keep CALL AFTER` and `put CALL AFTER`: the call of the shelf (`fetch` and `keep` mean the same:
 //!   fetches, keeps, opens and pieces are counted together, a piece that finds the end too) or of the sink, by its number
 //!   from 1, that is to fail, and after how many bytes;
-//! - `want STATUS "TEXT"`: the status, and what must be written. `usage` stands for the text of the line `usage "TEXT"`,
-//!   `"TEXT" number "TEXT"` for two texts with some number between them, and `"TEXT" with "LINE"` for a text with other lines behind
-//!   it, of which this is one;
-//! - `then WORD..`: a further call, over the shelf as it stands then; its puts and what must come of it stand below;
-//! - `edit NAME "TEXT" "TEXT"`: in what stands under a name the first text becomes the second, before the next call;
-//! - `cut NAME "TEXT"`: what stands under a name ends before the last place of a text, before the next call;
-//! - `holds NAME "TEXT"`: what must stand under a name afterwards;
-//! - `stays NAME..`: names under which what stood there before must stand afterwards, or nothing.
+//! - `want STATUS "TEXT"`: the status, and what must be written. `usage` means the text of the line
+//!   `usage "TEXT"`, `"TEXT" number "TEXT"` means two texts with some number between them, and
+//!   `"TEXT" with "LINE"` a text with other lines after it, of which this is one;
+//! - `then WORD..`: a further call, over the shelf as it is then; the lines below it are its own;
+//! - `edit NAME "TEXT" "TEXT"`: in the file of a name the first text becomes the second, before the
+//!   next call;
+//! - `cut NAME "TEXT"`: the file of a name ends before the last place of a text, before the next
+//!   call;
+//! - `holds NAME "TEXT"`: the file of a name must be this text afterwards;
+//! - `stays NAME..`: names whose files must be as they were before, or absent if they were absent.
 //!
-//! A line that is empty or begins with `#` says nothing. Texts are those of module `text`.
+//! A line that is empty or begins with `#` is skipped. Texts are those of module `text`.
 use crate::halves;
 use crate::text::{bytes_of, quoted};
 use crate::turns::{Answer, Call, Edit, Turn, Want, fail_of, words_of};
@@ -27,7 +29,8 @@ use std::collections::BTreeMap;
 use std::fmt::Write;
 use test_shelves::mem::{Fail, MemShelf};
 
-/// Calls, one after another: the files of the shelf, its calls that are to fail; and what must stand there afterwards.
+/// A row: the files of the shelf, its calls that fail, its calls, and the files that must be there
+/// afterwards.
 #[derive(Clone, Drop)]
 pub struct Row {
     pub name: String,
@@ -38,7 +41,7 @@ pub struct Row {
     after: BTreeMap<String, Option<String>>,
 }
 
-/// The rows so far, and what each begins with.
+/// The rows so far, and the common beginning of each.
 #[derive(Drop)]
 struct Table {
     base: Row,
@@ -46,7 +49,7 @@ struct Table {
 }
 
 impl Table {
-    /// Takes the next line.
+    /// Reads the next line.
     fn take(&mut self, alloc: Global, line: &str) -> Result<()> {
         let (key, rest) = halves(line);
         if key == "row" {
@@ -92,7 +95,7 @@ impl Row {
         })
     }
 
-    /// A shelf that holds its files, and fails where it says.
+    /// A shelf with the row's files, which fails as planned.
     pub fn shelf(&self, alloc: Global) -> Result<MemShelf> {
         let mut shelf = MemShelf::new(alloc);
         for (name, text) in &self.files {
@@ -104,7 +107,7 @@ impl Row {
         Ok(shelf)
     }
 
-    /// The names under which something must stand afterwards, or nothing.
+    /// The names whose files are checked afterwards.
     pub fn names(&self, alloc: Global) -> Result<Vec<String>> {
         let mut names = Vec::new(alloc);
         for (name, _) in &self.after {
@@ -113,7 +116,7 @@ impl Row {
         Ok(names)
     }
 
-    /// Whether what came is what must come.
+    /// Whether the answers and files are as they must be.
     pub fn is_met(&self, alloc: Global, came: &Came) -> Result<bool> {
         let mut answers = came.answers.iter();
         for turn in &self.turns {
@@ -185,7 +188,7 @@ impl Row {
         Ok(())
     }
 
-    /// Takes a line of the last call.
+    /// Reads a line of the last call.
     fn read_call(&mut self, alloc: Global, key: &str, rest: &str) -> Result<()> {
         let Some(Turn::Call(call)) = self.turns.last_mut() else {
             bail!("no call before {key:?}");
@@ -211,7 +214,7 @@ impl Row {
     }
 }
 
-/// What comes of a row: the answer of each call, and what stands under names afterwards.
+/// What comes of a row: the answer of each call, and the files of names afterwards.
 #[derive(Drop)]
 pub struct Came {
     pub answers: Vec<Answer>,
@@ -219,7 +222,7 @@ pub struct Came {
 }
 
 impl Came {
-    /// As a row writes it.
+    /// What came, as a row writes it.
     pub fn text(&self, alloc: Global) -> Result<String> {
         let mut text = String::new(alloc);
         for answer in &self.answers {

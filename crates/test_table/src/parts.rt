@@ -1,25 +1,25 @@
 //! A table of rows that try parts of the program, line by line.
 //!
 //! - `group NAME` begins a group of rows;
-//! - `PART GIVEN => WANT` is a row: the part that it tries, what is given to it, and what must come. Both are texts as
-//!   module `text` has them;
+//! - `PART GIVEN => WANT` is a row: the part that it tries, its input, and what must come. Both are
+//!   texts of module `text`;
 //! - a line that begins with a blank is a further line of what must come.
 //!
-//! A line that is empty or begins with `#` says nothing. Of each group is printed how many rows are as they must be, and
-//! of each other row what came and what must come.
+//! A line that is empty or begins with `#` is skipped. The report has the number of rows that pass
+//! for each group, and for each failing row what came and what must come.
 use crate::text::bytes_of;
 use crate::{chosen, halves};
 use anyhow::{Context, Result};
 use std::alloc::Global;
 use std::env::Env;
 
-/// What tries the parts.
+/// Tries the parts.
 pub trait Parts {
-    /// What the part answers to what is given.
+    /// The answer of a part.
     fn answer(alloc: Global, part: &str, given: &[u8]) -> Result<String>;
 }
 
-/// What is tried, and what must come.
+/// A row: what is tried, and what must come.
 #[derive(Drop)]
 struct Row {
     line: String,
@@ -33,7 +33,7 @@ struct Group {
     rows: Vec<Row>,
 }
 
-/// Takes the next line.
+/// Reads the next line.
 fn take(alloc: Global, groups: &mut Vec<Group>, line: &str) -> Result<()> {
     if line.is_empty() || line.starts_with('#') {
         return Ok(());
@@ -65,7 +65,7 @@ impl Row {
         self.line.contains(word)
     }
 
-    /// What came, where it isn't what must come.
+    /// What came, if it isn't what must come.
     fn otherwise<P: Parts>(&self, alloc: Global) -> Result<Option<String>> {
         let (part, given) = halves(self.line.as_str());
         let given = bytes_of(alloc, given)?;
@@ -79,7 +79,7 @@ impl Row {
     }
 }
 
-/// Tries the rows of a group that have the word, and prints what comes of them.
+/// Tries the rows of a group that contain the word, and prints the results.
 fn try_group<P: Parts>(rt: &(impl Print + AllocGlobal), group: &Group, word: &str) -> Result<()> {
     let mut right = 0u32;
     let all = group.name.contains(word);

@@ -1,7 +1,7 @@
 //! The rows of a table, tried on a program.
 //!
-//! A row is answered over a shelf and a sink in memory. With a word behind the program's name only the rows with this word in
-//! their names are tried.
+//! A row runs over a shelf and a sink in memory. With a word after the program's name, only the
+//! rows with this word in their names are tried.
 use crate::calls::{Came, Row, rows_of};
 use crate::chosen;
 use crate::turns::{Answer, Call, Turn};
@@ -11,7 +11,7 @@ use std::env::Env;
 use tc_io::Shelf;
 use test_shelves::mem::{MemShelf, MemSink};
 
-/// What comes of a call.
+/// The answer of a call.
 fn answer<F>(alloc: Global, call: &Call, shelf: &mut MemShelf, program: &F) -> Result<Answer>
 where
     F: Fn(Global, &[String], &mut MemShelf, &mut MemSink) -> u8,
@@ -23,7 +23,7 @@ where
     Ok(Answer { status, written })
 }
 
-/// What comes of the calls of a row.
+/// The answers of the calls of a row, and the files afterwards.
 fn come<F>(alloc: Global, row: &Row, program: &F) -> Result<Came>
 where
     F: Fn(Global, &[String], &mut MemShelf, &mut MemSink) -> u8,
@@ -43,7 +43,7 @@ where
     Ok(Came { answers, after })
 }
 
-/// What is said of a row.
+/// The verdict on a row.
 fn verdict(alloc: Global, row: &Row, came: &Came) -> Result<String> {
     if row.is_met(alloc, came)? {
         return Ok(String::from_str(alloc, "ok")?);
@@ -51,8 +51,8 @@ fn verdict(alloc: Global, row: &Row, came: &Came) -> Result<String> {
     Ok(format!(in alloc; "{}\n  must be {}", came.text(alloc)?, row.text(alloc)?)?)
 }
 
-/// Tries each row of the table in standard input, and prints of each whether it comes out as it must, or what came and what must
-/// come.
+/// Tries each row of the table in standard input, and prints for each whether it passes, or what
+/// came and what must come.
 pub fn run<F>(rt: &(impl Input + Print + Env + AllocGlobal), program: F) -> Result<()>
 where
     F: Fn(Global, &[String], &mut MemShelf, &mut MemSink) -> u8,

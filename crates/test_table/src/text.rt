@@ -1,7 +1,8 @@
 //! Bytes as text.
 //!
-//! `\n`, `\r`, `\t`, `\0` and `\xNN` write a byte. `\N'TEXT'` writes a text so many times, in which `\#` is the number
-//! of the turn, from 0, and `\#+K` that number and K. Each other character writes itself.
+//! `\n`, `\r`, `\t`, `\0` and `\xNN` write a byte. `\N'TEXT'` writes a text N times; in it `\#` is
+//! the number of the turn, from 0, and `\#+K` that number and K. Each other character writes
+//! itself.
 use anyhow::{Context, Result, bail};
 use std::alloc::Global;
 
@@ -14,7 +15,7 @@ fn digit(byte: u8) -> Result<u8> {
     }
 }
 
-/// The byte of an escape, and what follows it. The backslash went before.
+/// The byte of an escape, and the text after it. The backslash comes before.
 fn escaped(text: &[u8]) -> Result<(u8, &[u8])> {
     Ok(match text {
         [b'n', rest @ ..] => (b'\n', rest),
@@ -26,7 +27,7 @@ fn escaped(text: &[u8]) -> Result<(u8, &[u8])> {
     })
 }
 
-/// Adds what a text without repetitions writes.
+/// Adds the bytes of a text without repetitions.
 fn push_plain(bytes: &mut Vec<u8>, text: &str) -> Result<()> {
     let (plain, escapes) = text.split_once('\\').unwrap_or((text, ""));
     bytes.extend_from_slice(plain.as_bytes())?;
@@ -40,7 +41,7 @@ fn push_plain(bytes: &mut Vec<u8>, text: &str) -> Result<()> {
     Ok(())
 }
 
-/// What a text writes, and before it, but for the first, the number of the turn and so much.
+/// A text, and before it, except for the first one, the number of the turn plus `more`.
 #[derive(Drop)]
 struct Part {
     more: u32,
@@ -48,7 +49,7 @@ struct Part {
 }
 
 impl Part {
-    /// What follows `\#`.
+    /// Reads the text after `\#`.
     fn read(alloc: Global, text: &str) -> Result<Part> {
         let digits = text.strip_prefix('+').unwrap_or("");
         let len = digits
@@ -66,7 +67,7 @@ impl Part {
     }
 }
 
-/// Adds what a text writes so many times.
+/// Adds a text `count` times.
 fn push_repeated(alloc: Global, bytes: &mut Vec<u8>, text: &str, count: u32) -> Result<()> {
     let mut parts = Vec::new(alloc);
     for part in text.split("\\#") {
@@ -84,7 +85,7 @@ fn push_repeated(alloc: Global, bytes: &mut Vec<u8>, text: &str, count: u32) -> 
     Ok(())
 }
 
-/// The bytes that a text writes.
+/// The bytes of a text.
 pub fn bytes_of(alloc: Global, text: &str) -> Result<Vec<u8>> {
     let mut bytes = Vec::new(alloc);
     let mut count = None;
@@ -106,7 +107,7 @@ pub fn bytes_of(alloc: Global, text: &str) -> Result<Vec<u8>> {
     Ok(bytes)
 }
 
-/// What stands before the number of a repetition, and the number.
+/// The text before the number of a repetition, and the number.
 fn counted(piece: &str) -> (&str, Option<u32>) {
     match piece.rsplit_once('\\') {
         Some((plain, number)) if !number.starts_with('0') => match number.parse::<u32>() {
@@ -117,7 +118,7 @@ fn counted(piece: &str) -> (&str, Option<u32>) {
     }
 }
 
-/// What stands between quotes, as it is written.
+/// The text between quotes, as it is written.
 pub fn quoted(alloc: Global, text: &str) -> Result<String> {
     let inside = text
         .strip_prefix('"')

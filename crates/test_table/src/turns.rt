@@ -1,4 +1,4 @@
-//! What is done in a row, one after another: calls, and changes of files between them.
+//! The turns of a row: calls, and changes of files between them.
 use crate::halves;
 use crate::text::{bytes_of, quoted};
 use anyhow::{Context, Result};
@@ -7,14 +7,14 @@ use std::fmt::Write;
 use tc_io::Shelf;
 use test_shelves::mem::{Fail, MemShelf, MemSink};
 
-/// A call, or what becomes of a file between two calls.
+/// A call, or a change of a file between two calls.
 #[derive(Clone, Drop)]
 pub enum Turn {
     Call(Call),
     Edit(Edit),
 }
 
-/// A call: its words, the puts that are to fail, and what must come.
+/// A call: its words, the puts that fail, and what it must give.
 #[derive(Clone, Drop)]
 pub struct Call {
     pub words: Vec<String>,
@@ -23,7 +23,7 @@ pub struct Call {
 }
 
 impl Call {
-    /// Of which nothing but the words is told.
+    /// A call of which nothing but the words is known yet.
     pub fn new(alloc: Global, words: Vec<String>) -> Call {
         Call {
             words,
@@ -32,7 +32,7 @@ impl Call {
         }
     }
 
-    /// A sink that fails where it says.
+    /// A sink that fails as planned.
     pub fn sink(&self, alloc: Global) -> Result<MemSink> {
         let mut sink = MemSink::new(alloc);
         for fail in &self.puts {
@@ -41,13 +41,13 @@ impl Call {
         Ok(sink)
     }
 
-    /// Whether an answer is what must come.
+    /// Whether an answer is the one that the call must give.
     pub fn is_met(&self, alloc: Global, answer: &Answer) -> Result<bool> {
         let want = self.want.as_ref().context("nothing is wanted")?;
         want.is_met(alloc, answer)
     }
 
-    /// Adds what must come.
+    /// Adds what the call must give.
     pub fn push_text(&self, text: &mut String) -> Result<()> {
         let want = self.want.as_ref().context("nothing is wanted")?;
         push_blank(text)?;
@@ -61,7 +61,7 @@ impl Call {
     }
 }
 
-/// What comes of a call: its status, and what is written.
+/// The answer of a call: its status, and what it wrote.
 #[derive(Drop)]
 pub struct Answer {
     pub status: u8,
@@ -69,7 +69,7 @@ pub struct Answer {
 }
 
 impl Answer {
-    /// Adds it as a row writes it.
+    /// Adds the answer as a row writes it.
     pub fn push_text(&self, text: &mut String) -> Result<()> {
         push_blank(text)?;
         write!(text, "{} \"{}\"", self.status, self.written.escape_ascii())?;
@@ -77,7 +77,7 @@ impl Answer {
     }
 }
 
-/// Parts what follows from what stands there.
+/// Adds a blank if the text isn't empty.
 fn push_blank(text: &mut String) -> Result<()> {
     if !text.is_empty() {
         text.push(' ')?;
@@ -85,7 +85,7 @@ fn push_blank(text: &mut String) -> Result<()> {
     Ok(())
 }
 
-/// What must come of a call: a status, and a text with what stands behind it.
+/// What a call must give: a status, and a text with what follows it.
 #[derive(Clone, Drop)]
 pub struct Want {
     status: u8,
@@ -93,18 +93,18 @@ pub struct Want {
     rest: Rest,
 }
 
-/// What stands behind a text.
+/// What follows a text.
 #[derive(Clone, Drop)]
 enum Rest {
     Nothing,
     /// Some number, and this text.
     Number(String),
-    /// The rest of a line, and some lines, of which this is one.
+    /// The rest of a line, and some lines, one of which is this.
     Lines(String),
 }
 
 impl Rest {
-    /// Whether some bytes are so.
+    /// Whether some bytes are of this form.
     fn is_met(&self, alloc: Global, bytes: &[u8]) -> Result<bool> {
         Ok(match self {
             Rest::Nothing => bytes.is_empty(),
@@ -124,7 +124,7 @@ impl Rest {
 }
 
 impl Want {
-    /// What follows the word `want`, where `usage` stands for the first text.
+    /// What follows the word `want`, where `usage` means the text of the usage line.
     pub fn read(alloc: Global, usage: &str, rest: &str) -> Result<Want> {
         let (status, text) = halves(rest);
         let (begin, rest) = match (text.split_once(" number "), text.split_once(" with ")) {
@@ -151,7 +151,8 @@ impl Want {
     }
 }
 
-/// What becomes of a file: another text stands where a text stood first, or it ends before the last place of a text.
+/// A change of a file: another text replaces the first place of a text, or the file ends before the
+/// last place of a text.
 #[derive(Clone, Drop)]
 pub struct Edit {
     name: String,
@@ -160,7 +161,7 @@ pub struct Edit {
 }
 
 impl Edit {
-    /// What follows the word `edit` or `cut`.
+    /// Reads what follows the word `edit` or `cut`.
     pub fn read(alloc: Global, key: &str, rest: &str) -> Result<Edit> {
         let (name, texts) = halves(rest);
         let (old, new) = match texts.split_once("\" \"") {
@@ -178,7 +179,7 @@ impl Edit {
         })
     }
 
-    /// Changes what the shelf holds.
+    /// Changes the file on the shelf.
     pub fn make(&self, alloc: Global, shelf: &mut MemShelf) -> Result<()> {
         let bytes = shelf
             .fetch(alloc, self.name.as_str(), u64::MAX)
@@ -207,7 +208,7 @@ impl Edit {
     }
 }
 
-/// What a text writes, which is a text again.
+/// The bytes of a text, as text.
 fn text_of(alloc: Global, text: &str) -> Result<String> {
     Ok(String::from_utf8(bytes_of(alloc, text)?)?)
 }
@@ -221,7 +222,7 @@ pub fn words_of(alloc: Global, rest: &str) -> Result<Vec<String>> {
     Ok(words)
 }
 
-/// The number of a call, and after how many bytes it fails.
+/// The number of a call, and the number of bytes after which it fails.
 pub fn fail_of(rest: &str) -> Result<Fail> {
     let (call, after) = halves(rest);
     Ok(Fail {

@@ -1,4 +1,4 @@
--- What is a thread's own, by its marks.
+-- What a thread owns, by its marks.
 use Rattle.std.proofs.Common.{◌≡◌, ◌∙◌, ℕ, zero, suc, Bool, false, List, ◌∷◌, map, replicate, ap, refl, sym}
 use Rattle.std.specs.Prelude.{slice_set}
 use Rattle.std.proofs.lemmas.List.{map-set}
@@ -6,15 +6,15 @@ use Rattle.tc_base.specs.declared.handle.Handle.{Handle}
 use Rattle.tc_base.specs.declared.handle.Handle.TheVariants.{Unset}
 use Rattle.tc_code.specs.Code.{Code}
 use Rattle.tc_code.specs.Step.{can_be_joined, handles_of}
-use Rattle.path_walk.specs.Marks.{Marks, unmarked}
+use Rattle.path_walk.specs.Marks.{Marks, marks_at_start}
 use Rattle.thread_marks.specs.Own.{Own, nothing_own, own_of}
 
 none_joined : (n : ℕ) → map can_be_joined (replicate n Unset) ≡ replicate n false
 none_joined zero = refl
 none_joined (suc n) = ap (λ bs. false ∷ bs) (none_joined n)
 
--- at the start
-pub none_marked : (code : Code) (f : ℕ) → nothing_own code f ≡ own_of (unmarked code f)
+-- a thread without marks owns nothing
+pub none_marked : (code : Code) (f : ℕ) → nothing_own code f ≡ own_of (marks_at_start code f)
 none_marked code f =
     ap (λ (joinable : List Bool). let new : Own = record { held = replicate code.mutexes false; joinable = joinable } in new)
     (sym (none_joined (handles_of code f)))

@@ -1,4 +1,5 @@
-//! What a thread's own steps make of its mutexes and thread variables, as far as it decides whether a later step can be done.
+//! The effect of a thread's own steps on its mutexes and thread variables, as far as it decides
+//! whether a later step is possible.
 #![tactic(auto)]
 
 mod own;

@@ -1,14 +1,14 @@
-//! What a thread's own steps make of its mutexes and thread variables.
+//! The effect of a thread's own steps on its mutexes and thread variables.
 ghost use Rattle.std.specs.Prelude.{◌≡◌, IfOk, slice_set, slice_index_or, false};
 ghost use Rattle.path_walk.specs.Events.{excludes};
-ghost use Rattle.path_walk.specs.Marks.{Marks, marked};
+ghost use Rattle.path_walk.specs.Marks.{Marks, marks_after_instr};
 ghost use Rattle.thread_marks.specs.Own.{nothing_own, own_of};
 
 use std::alloc::{AllocError, Global};
 use std::marker::Model;
 use tc_code::{Code, Instr};
 
-/// Which mutexes a thread holds, and which of its thread variables have a child that can be joined.
+/// The mutexes that a thread holds, and its thread variables with a child that can be joined.
 #[derive(Drop)]
 pub struct Own {
     held: Vec<bool>,
@@ -24,7 +24,7 @@ impl Model for Own {
 }
 
 impl Own {
-    /// At the start of a function.
+    /// The marks at the start of a function.
     pub fn at_start(alloc: Global, code: &Code, function: usize) -> Result<Own, AllocError>
         ensures { IfOk result (λ own. own ≡ nothing_own code.now function) }
     {
@@ -38,7 +38,7 @@ impl Own {
         })
     }
 
-    /// Whether the path alone tells that no run does a step, which fails or doesn't.
+    /// Whether the path alone rules out a step, which fails or doesn't.
     pub fn excludes(&self, instr: &Instr, fails: bool) -> bool
         ensures { (t : Marks) → self.now ≡ own_of t → result ≡ excludes t instr.now fails }
     {
@@ -52,7 +52,7 @@ impl Own {
 
     /// Does a step.
     pub fn apply(&mut self, instr: &Instr)
-        ensures { (t : Marks) → self.old ≡ own_of t → self.new ≡ own_of (marked t instr.now) }
+        ensures { (t : Marks) → self.old ≡ own_of t → self.new ≡ own_of (marks_after_instr t instr.now) }
     {
         match instr {
             Instr::Lock { mutex } | Instr::Wake { mutex, .. } => self.hold(*mutex, true),
@@ -63,7 +63,7 @@ impl Own {
         }
     }
 
-    /// Takes a mutex, or leaves it.
+    /// Acquires or releases a mutex.
     fn hold(&mut self, mutex: u32, holds: bool)
         ensures { self.new ≡ record self.old { held = slice_set self.old.held mutex holds } }
     {
@@ -73,7 +73,7 @@ impl Own {
         }
     }
 
-    /// A thread variable gets a child that can be joined, or its child is joined.
+    /// Records that the child of a thread variable can be joined, or no longer can.
     fn join(&mut self, handle: u32, can: bool)
         ensures { self.new ≡ record self.old { joinable = slice_set self.old.joinable handle can } }
     {
@@ -84,7 +84,7 @@ impl Own {
     }
 }
 
-/// A mark; past the end there is none.
+/// A mark; false past the end.
 fn is_set(marks: &[bool], place: u32) -> bool
     ensures { result ≡ slice_index_or marks.now place false }
 {

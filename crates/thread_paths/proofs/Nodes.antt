@@ -1,4 +1,4 @@
--- One way down, node by node.
+-- One descent, node by node.
 use Rattle.std.proofs.Common.{◌≡◌, ◌∙◌, ℕ, zero, suc, ◌+◌, ◌<◌, ◌≤◌, inl, inr, Bool, true, false, not, ◌&&◌, List, [], ◌∷◌, ◌++◌, length, get_or}
 use Rattle.std.proofs.Common.{Some, None, refl, ap, sym, subst, arith, append_assoc, append-nil, add-zero, zero-add, eq-eqb}
 use Rattle.std.specs.Prelude.{◌⊎◌, ◌==◌, nat_le, if◌then◌else◌}
@@ -11,7 +11,7 @@ use Rattle.tc_code.specs.Code.{Code, instr_at}
 use Rattle.tc_code.specs.declared.instr.Instr.{Instr}
 use Rattle.tc_code.specs.declared.instr.Instr.TheVariants.{Branch, Goto}
 use Rattle.path_walk.specs.Events.{excludes}
-use Rattle.path_walk.specs.Marks.{Marks, unmarked, marked}
+use Rattle.path_walk.specs.Marks.{Marks, marks_at_start, marks_after_instr}
 use Rattle.path_walk.specs.Steps.{Onward, onward}
 use Rattle.thread_marks.specs.Own.{Own, own_of}
 use Rattle.thread_paths.specs.Order.{is_from}
@@ -27,7 +27,7 @@ use Rattle.thread_paths.proofs.Outcomes.{all_from, behind_from, front_from, behi
 abbrev to : ℕ → List Bool → Onward
 to k outcomes = record { place = k; outcomes = outcomes }
 
--- one that isn't a branch leads on with the same outcomes
+-- an instruction that isn't a branch leads on with the same outcomes
 plainly : (k : ℕ) (i : Instr) (b : Bool) (r : List Bool) → is_branch i ≡ false → onward k i r ≡ Some (to (place_after k i b) r)
 plainly k (Branch e at) b r is = absurd cc
 plainly k (Goto at) b r is = refl
@@ -47,7 +47,7 @@ module _ (code : Code) (f : ℕ) (aim : Aim) where
   last_by t i on = is_nil on.outcomes && is_last code f aim t i on.place
 
   abbrev on_by : ℕ → Marks → Instr → Onward → Bool
-  on_by m t i on = not (excludes t i false) && goes code f aim m (marked t i) on.place on.outcomes
+  on_by m t i on = not (excludes t i false) && goes code f aim m (marks_after_instr t i) on.place on.outcomes
 
   pub goes_nowhere : (m : ℕ) (t : Marks) (k : ℕ) (o : List Bool) → instr_at code f k ≡ None → goes code f aim m t k o ≡ false
   goes_nowhere zero t k o at = ap (λ x. option_map_or (λ i. option_map_or (last_by t i) (onward k i o) false) x false) at
@@ -70,7 +70,7 @@ module _ (code : Code) (f : ℕ) (aim : Aim) where
           ap (λ x. option_map_or (λ j. option_map_or (on_by m t j) (onward k j o) false) x false) at
           ∙ ap (λ x. option_map_or (on_by m t i) x false) leads
 
--- The outcomes that an instruction takes, the next of some: one or none.
+-- The outcomes that an instruction uses: one or none.
 
 -- later outcomes that begin with these
 pub record Follows (piece rest : List Bool) (least : ℕ) (later : List Bool) (s : ℕ) : Type 0 where
@@ -137,14 +137,14 @@ get_behind (b ∷ done) rest = get_behind done rest
 
 module _ (code : Code) (scope : Scope) where
   abbrev ways : ℕ → List Bool → Bool
-  ways n outcomes = goes code scope.function scope.aim n (unmarked code scope.function) 0 outcomes
+  ways n outcomes = goes code scope.function scope.aim n (marks_at_start code scope.function) 0 outcomes
 
-  -- what is said of a path, said of its parts
+  -- a fact of a path from the facts of its parts
   of_parts : (q outcomes : List Bool) (s n : ℕ) → q ≡ outcomes → s ≡ suc n → takes code scope q s ≡ ways n outcomes
   of_parts q outcomes s n is steps = ap (λ x. takes code scope x s) is ∙ ap (takes code scope outcomes) steps
 
   module _ (start : List Bool) (first n : ℕ) where
-    -- a false more
+    -- one more false
     module _ (i : Instr) (at at' : At) (o o' : List Bool) (own : Own) (node : IsNode code scope start first n at o own)
         (there : instr_at code scope.function at.place ≡ Some i) (pushed : IsPushed scope.most i at o o' at') where
       no_rest : (rest : List Bool) → o ≡ node.done ++ rest → rest ≡ []
@@ -203,7 +203,7 @@ module _ (code : Code) (scope : Scope) where
       }
 
     module _ (at : At) (o : List Bool) (own : Own) (node : IsNode code scope start first n at o own) where
-      -- nothing goes on, but for what has an excuse
+      -- no path goes on, except those with an excuse
       spent_by : (Excused : List Bool → ℕ → Type 0)
           → ((q : List Bool) (s : ℕ) → takes code scope q s ≡ true → Passes n node.done node.rest at.least q s → Excused q s)
           → (q : List Bool) (s : ℕ) → takes code scope q s ≡ true → (leaves_behind o q ≡ true) ⊎ Passes n node.done node.rest at.least q s
@@ -284,7 +284,7 @@ module _ (code : Code) (scope : Scope) where
         leads : (r : List Bool) → onward at.place i (piece_is.piece ++ r) ≡ Some (to next.place r)
         leads r = piece_is.leads r ∙ ap (λ k. Some (to k r)) place_is
 
-        -- a path that passes leaves the way, ends here or goes further
+        -- a path that passes leaves the descent, ends here or goes further
         record Further (q : List Bool) (s : ℕ) : Type 0 where
           pub can : excludes node.marks i false ≡ false
           pub passes : Passes (n + 1) done piece_is.after at.least q s
@@ -316,7 +316,7 @@ module _ (code : Code) (scope : Scope) where
             inl (ended q s last steps from
             (sym (goes_last code scope.function scope.aim node.marks at.place (piece_is.piece ++ last) i there (to next.place last) (leads last)) ∙ on))
         gone q s last (suc more) outcomes steps from on =
-            let parts = and_parts (not (excludes node.marks i false)) (goes code scope.function scope.aim more (marked node.marks i) next.place last)
+            let parts = and_parts (not (excludes node.marks i false)) (goes code scope.function scope.aim more (marks_after_instr node.marks i) next.place last)
             (sym (goes_more code scope.function scope.aim node.marks at.place (piece_is.piece ++ last) i there (to next.place last) (leads last) more) ∙ on) in
             inr (record {
               can = not-true (excludes node.marks i false) parts.0;
@@ -376,18 +376,18 @@ module _ (code : Code) (scope : Scope) where
         on_by_fate never q s (inr (inr further)) = inr further.passes
 
         module _ (never : EndsHere false) (can : excludes node.marks i false ≡ false) where
-          same_on : (m : ℕ) (r : List Bool) → ways ((n + 1) + m) (done ++ r) ≡ goes code scope.function scope.aim m (marked node.marks i) next.place r
+          same_on : (m : ℕ) (r : List Bool) → ways ((n + 1) + m) (done ++ r) ≡ goes code scope.function scope.aim m (marks_after_instr node.marks i) next.place r
           same_on m r =
               let steps : (n + 1) + m ≡ n + suc m = omega arith in
               ap (λ k. ways k (done ++ r)) steps
               ∙ ap (ways (n + suc m)) (append_assoc node.done piece_is.piece r)
               ∙ node.same (suc m) (piece_is.piece ++ r)
               ∙ goes_more code scope.function scope.aim node.marks at.place (piece_is.piece ++ r) i there (to next.place r) (leads r) m
-              ∙ ap (λ v. not v && goes code scope.function scope.aim m (marked node.marks i) next.place r) can
+              ∙ ap (λ v. not v && goes code scope.function scope.aim m (marks_after_instr node.marks i) next.place r) can
 
-          pub next_node : (own' : Own) → own' ≡ own_of (marked node.marks i) → IsNode code scope start first (n + 1) next o own'
+          pub next_node : (own' : Own) → own' ≡ own_of (marks_after_instr node.marks i) → IsNode code scope start first (n + 1) next o own'
           next_node own' is = record {
-            marks = marked node.marks i;
+            marks = marks_after_instr node.marks i;
             is = is;
             done = done;
             rest = piece_is.after;
@@ -480,10 +480,10 @@ module _ (code : Code) (scope : Scope) where
     first_left q (suc n) may from =
         inr (record { later = q; more = n; outcomes = refl; steps = omega arith; within = from })
 
-    pub first_node : (own : Own) → own ≡ own_of (unmarked code scope.function)
+    pub first_node : (own : Own) → own ≡ own_of (marks_at_start code scope.function)
         → IsNode code scope o least 0 (record { place = 0; used = 0; least = least }) o own
     first_node own is = record {
-      marks = unmarked code scope.function;
+      marks = marks_at_start code scope.function;
       is = is;
       done = [];
       rest = o;

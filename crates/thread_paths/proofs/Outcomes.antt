@@ -1,4 +1,4 @@
--- Outcomes, and which come after which.
+-- Outcomes and their order.
 use Rattle.std.proofs.Common.{◌≡◌, ◌∙◌, ℕ, zero, suc, ◌+◌, ◌^◌, ◌<◌, ◌≤◌, inl, inr, Bool, true, false, List, [], ◌∷◌, ◌++◌, length, refl, ap, sym, arith, lit<, append_assoc, append-nil}
 use Rattle.std.specs.Prelude.{◌⊎◌}
 use Rattle.std.proofs.Math.Dec.{leb-zero}
@@ -8,7 +8,7 @@ use Rattle.std.proofs.lemmas.List.{length-append}
 use Rattle.thread_paths.specs.Order.{is_from}
 use Rattle.thread_paths.specs.helpers.Descents.{leaves_behind, worth, TurnsTo}
 
--- all are true, so none can be turned
+-- all outcomes are true, so none can be turned
 abbrev pub AreTrue : List Bool → Type 0
 AreTrue t = (q : List Bool) → leaves_behind t q ≡ false
 
@@ -24,7 +24,7 @@ pub all_from : (q : List Bool) (s : ℕ) → is_from [] 0 q s ≡ true
 all_from [] s = leb-zero s
 all_from (b ∷ q) s = refl
 
--- what is left by those that end with a false and trues comes from where the false is turned
+-- turning the last false gives the first outcomes that come after all that begin with these
 pub turned : (c t q : List Bool) (s : ℕ) → AreTrue t → leaves_behind (c ++ false ∷ t) q ≡ is_from (c ++ true ∷ []) 0 q s
 turned [] t [] s all = refl
 turned [] t (true ∷ q) s all = sym (all_from q s)
@@ -45,7 +45,7 @@ worth_none : (n : ℕ) → worth n [] ≡ 0
 worth_none zero = refl
 worth_none (suc n) = refl
 
--- and is worth more
+-- the turned outcomes have a greater number
 pub turned_more : (c t : List Bool) (m : ℕ) → length (c ++ false ∷ t) ≤ m → worth m (c ++ false ∷ t) < worth m (c ++ true ∷ [])
 turned_more [] t zero few = absurd (omega arith)
 turned_more [] t (suc m) few = let below = worth_below m t in let none = worth_none m in omega arith
@@ -53,14 +53,14 @@ turned_more (b ∷ c) t zero few = absurd (omega arith)
 turned_more (true ∷ c) t (suc m) few = let less = turned_more c t m (omega arith) in omega arith
 turned_more (false ∷ c) t (suc m) few = let less = turned_more c t m (omega arith) in omega arith
 
--- a false adds nothing
+-- one more false adds nothing
 pub worth_added : (m : ℕ) (o : List Bool) → worth m (o ++ false ∷ []) ≡ worth m o
 worth_added zero o = refl
 worth_added (suc m) [] = ap (λ n. 0 + n) (worth_none m)
 worth_added (suc m) (true ∷ o) = ap (λ n. 2 ^ m + n) (worth_added m o)
 worth_added (suc m) (false ∷ o) = ap (λ n. 0 + n) (worth_added m o)
 
--- outcomes up to those that were taken off, which are true
+-- the outcomes left after removing trues at the end
 pub record IsPopped (before o : List Bool) : Type 0 where
   pub tail : List Bool
   pub whole : before ≡ o ++ tail
@@ -69,7 +69,7 @@ pub record IsPopped (before o : List Bool) : Type 0 where
 pub none_popped : (o : List Bool) → IsPopped o o
 none_popped o = record { tail = []; whole = sym (append-nil o); trues = none_true }
 
--- one more was
+-- one more true was removed
 pub pop_true : (before o o' : List Bool) (last : Bool) → IsPopped before o → o ≡ o' ++ last ∷ [] → last ≡ true → IsPopped before o'
 pop_true before o o' last popped is so = record {
   tail = true ∷ popped.tail;
@@ -77,7 +77,7 @@ pop_true before o o' last popped is so = record {
   trues = more_true popped.tail popped.trues;
 }
 
--- or a false is turned
+-- a false is turned into a true
 pub pop_false : (before o o' after : List Bool) (last : Bool) → IsPopped before o → o ≡ o' ++ last ∷ [] → last ≡ false → after ≡ o' ++ true ∷ []
     → TurnsTo before after
 pop_false before o o' after last popped is so turns =
@@ -94,11 +94,11 @@ pop_false before o o' after last popped is so turns =
         let less = turned_more c t m (omega (arith, few, ap length is)) in
         omega (arith, less, ap (worth m) is, ap (worth m) turns)
 
--- none can be turned
+-- no outcome can be turned
 pub pop_none : (before o : List Bool) → IsPopped before o → o ≡ [] → (q : List Bool) → leaves_behind before q ≡ false
 pop_none before o popped none q = ap (λ x. leaves_behind x q) (popped.whole ∙ ap (λ x. x ++ popped.tail) none) ∙ popped.trues q
 
--- what comes after all that begin so comes from there
+-- outcomes that come after all that begin this way come after these
 pub behind_from : (o : List Bool) (n : ℕ) (q : List Bool) (s : ℕ) → leaves_behind o q ≡ true → is_from o n q s ≡ true
 behind_from [] n q s is = absurd cc
 behind_from (b ∷ o) n [] s is = absurd cc
@@ -107,20 +107,20 @@ behind_from (true ∷ o) n (false ∷ q) s is = absurd cc
 behind_from (true ∷ o) n (true ∷ q) s is = behind_from o n q s is
 behind_from (false ∷ o) n (false ∷ q) s is = behind_from o n q s is
 
--- what begins so comes from there, if it has as many steps
+-- outcomes that begin this way come after these, with enough steps
 pub front_from : (o : List Bool) (n : ℕ) (later : List Bool) (s : ℕ) → n ≤ s → is_from o n (o ++ later) s ≡ true
 front_from [] n [] s le = le-leb n s le
 front_from [] n (b ∷ later) s le = refl
 front_from (true ∷ o) n later s le = front_from o n later s le
 front_from (false ∷ o) n later s le = front_from o n later s le
 
--- behind the same outcomes
+-- the same after equal first outcomes
 pub behind_after : (done rest later : List Bool) → leaves_behind rest later ≡ true → leaves_behind (done ++ rest) (done ++ later) ≡ true
 behind_after [] rest later is = is
 behind_after (true ∷ done) rest later is = behind_after done rest later is
 behind_after (false ∷ done) rest later is = behind_after done rest later is
 
--- with a false more
+-- outcomes that come after all with this beginning also come after it with one more false
 pub behind_added : (o q : List Bool) → leaves_behind o q ≡ true → leaves_behind (o ++ false ∷ []) q ≡ true
 behind_added [] q is = absurd cc
 behind_added (b ∷ o) [] is = absurd cc
@@ -129,7 +129,7 @@ behind_added (true ∷ o) (false ∷ q) is = absurd cc
 behind_added (true ∷ o) (true ∷ q) is = behind_added o q is
 behind_added (false ∷ o) (false ∷ q) is = behind_added o q is
 
--- outcomes that begin with all of others, and have a true behind them
+-- outcomes that begin with all of others and then a true
 pub record GoesOn (o q : List Bool) : Type 0 where
   pub later : List Bool
   pub is : q ≡ o ++ true ∷ later

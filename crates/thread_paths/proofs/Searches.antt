@@ -1,4 +1,4 @@
--- A search, from one way down to the next.
+-- A search, from one descent to the next.
 use Rattle.std.proofs.Common.{◌≡◌, ◌∙◌, ℕ, ◌+◌, ◌-◌, ◌^◌, ◌<◌, ◌≤◌, inl, inr, Bool, true, false, ◌&&◌, List, [], ◌∷◌, length, Option, Some, None, refl, ap, sym, arith}
 use Rattle.std.specs.Prelude.{◌⊎◌}
 use Rattle.std.proofs.lemmas.Bool.{lt-leb}
@@ -20,7 +20,7 @@ path o s = record { outcomes = o; steps = s }
 abbrev pub found : Option Path → Cut → Found
 found p cut = record { path = p; cut = cut }
 
--- what was left out is left out with a reason more
+-- paths that are left out stay so with one more reason
 kept_out : (scope : Scope) (cut : Cut) (why : Reason) (q : Path) → IsLeftOut scope cut q → IsLeftOut scope (cut_by cut why) q
 kept_out scope cut Dead q out = out
 kept_out scope cut TooMany q (inl out) = inl (out.0, refl)
@@ -28,7 +28,7 @@ kept_out scope cut TooMany q (inr out) = inr out
 kept_out scope cut TooLong q (inl out) = inl out
 kept_out scope cut TooLong q (inr out) = inr (out.0, refl)
 
--- and what has an excuse
+-- paths with an excuse are left out
 excused_out : (scope : Scope) (cut : Cut) (why : Reason) (q : Path) → IsExcused scope why q.outcomes q.steps → IsLeftOut scope (cut_by cut why) q
 excused_out scope cut Dead q never = absurd never
 excused_out scope cut TooMany q more = inl (more, refl)
@@ -38,13 +38,13 @@ pub none_behind : (o : List Bool) → leaves_behind o [] ≡ false
 none_behind [] = refl
 none_behind (b ∷ o) = refl
 
--- behind a path a path of no steps doesn't come
+-- a path without steps comes after no path
 pub none_later : (stays : Bool) (o : List Bool) (n : ℕ) → (stays && is_from o (n + 1) [] 0) ≡ false
 none_later stays [] n = ap (λ v. stays && v) (lt-leb (n + 1) 0 (omega arith)) ∙ and_none stays
 none_later stays (b ∷ o) n = and_none stays
 
 module _ (code : Code) (scope : Scope) (start : List Bool) (first : ℕ) where
-  -- what is still to be looked at
+  -- the rest of the search
   pub record IsLeft (o : List Bool) (least : ℕ) (cut : Cut) : Type 0 where
     pub few : length o ≤ scope.most
     pub back : (q : List Bool) (s : ℕ) → is_from o least q s ≡ true → is_from start first q s ≡ true
@@ -72,7 +72,7 @@ module _ (code : Code) (scope : Scope) (start : List Bool) (first : ℕ) where
             (left.others q.outcomes q.steps (is_taken code scope q.outcomes q.steps may) from);
       }
 
-    -- none was
+    -- no path was found
     module _ (why : Reason) (spent : IsSpent code scope o least o' (IsExcused scope why)) where
       excused : (q : List Bool) (s : ℕ) → (leaves_behind o' q ≡ true) ⊎ IsExcused scope why q s
           → (leaves_behind o' q ≡ true) ⊎ IsLeftOut scope (cut_by cut why) (path q s)
@@ -88,7 +88,7 @@ module _ (code : Code) (scope : Scope) (start : List Bool) (first : ℕ) where
           → (leaves_behind o' q ≡ true) ⊎ IsLeftOut scope (cut_by cut why) (path q s)
       all_others q s may from = still q s may (left.others q s may from)
 
-      -- and none can be
+      -- and no outcomes come after these
       none_by : (all : (q : List Bool) → leaves_behind o' q ≡ false) (q : List Bool) (s : ℕ)
           → (leaves_behind o' q ≡ true) ⊎ IsLeftOut scope (cut_by cut why) (path q s) → IsNotAfter None (path q s) ⊎ IsLeftOut scope (cut_by cut why) (path q s)
       none_by all q s (inl is) = absurd (let never = all q in cc)

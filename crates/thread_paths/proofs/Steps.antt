@@ -1,11 +1,11 @@
--- A step on the way down, by what the functions that it calls promise.
+-- A step of the descent, from the promises of the functions that it calls.
 use Rattle.std.proofs.Common.{◌≡◌, ◌∙◌, ℕ, ◌+◌, ◌<◌, ◌≤◌, inl, inr, Bool, true, false, List, [], ◌∷◌, length, Option, Some, None, ap, sym, subst, arith}
 use Rattle.std.proofs.lemmas.List.{length-append}
 use Rattle.tc_limits.specs.declared.limits.TheConstants.{STEPS}
 use Rattle.tc_code.specs.Code.{Code, instr_at}
 use Rattle.tc_code.specs.declared.instr.Instr.{Instr}
 use Rattle.path_walk.specs.Events.{excludes}
-use Rattle.path_walk.specs.Marks.{Marks, marked}
+use Rattle.path_walk.specs.Marks.{Marks, marks_after_instr}
 use Rattle.thread_marks.specs.Own.{Own, own_of}
 use Rattle.thread_paths.specs.declared.aim.Scope.{Scope}
 use Rattle.thread_paths.specs.declared.descent.At.{At}
@@ -13,12 +13,12 @@ use Rattle.thread_paths.specs.declared.descent.Reason.TheVariants.{Dead, TooMany
 use Rattle.thread_paths.specs.helpers.Descents.{is_branch, at_after, is_end, IsOpened, IsNode, IsLowest, IsSpent, IsExcused}
 use Rattle.thread_paths.proofs.Nodes.{pushed_node, too_many, dead, next_node, found}
 
--- what is followed is some of the outcomes
+-- at most all outcomes are used
 pub used_within : (code : Code) (scope : Scope) (start : List Bool) (first n : ℕ) (at : At) (o : List Bool) (own : Own)
     → IsNode code scope start first n at o own → at.used ≤ length o
 used_within code scope start first n at o own node = omega (arith, node.count, ap length node.whole, length-append node.done node.rest)
 
--- with an outcome for a branch there is one
+-- a branch that was opened has an outcome
 pub has_outcome : (most : ℕ) (i : Instr) (at at' : At) (o o' : List Bool) (x : Option At) → x ≡ Some at' → IsOpened most i at o o' x → at.used ≤ length o
     → is_branch i ≡ true → at'.used < length o'
 has_outcome most i at at' o o' x is opened within = by (subst (IsOpened most i at o o') is opened)
@@ -31,7 +31,7 @@ has_outcome most i at at' o o' x is opened within = by (subst (IsOpened most i a
 module _ (code : Code) (scope : Scope) (start : List Bool) (first n : ℕ) (at : At) (o : List Bool) (own : Own)
     (node : IsNode code scope start first n at o own) (i : Instr) (there : instr_at code scope.function at.place ≡ Some i)
     (o' : List Bool) (x : Option At) (opened : IsOpened scope.most i at o o' x) where
-  -- there are too many
+  -- there are too many outcomes
   pub full : x ≡ None → IsSpent code scope start first o' (IsExcused scope TooMany)
   full none = by (subst (IsOpened scope.most i at o o') none opened)
     where
@@ -81,7 +81,7 @@ module _ (code : Code) (scope : Scope) (start : List Bool) (first n : ℕ) (at :
             dead code scope start first n at' o' own opened_node i still_there some (ends false told) (sym (cannot opened_node.marks opened_node.is))
 
         pub is_next_node : ((t : Marks) → own ≡ own_of t → false ≡ excludes t i false) → (own' : Own)
-            → ((t : Marks) → own ≡ own_of t → own' ≡ own_of (marked t i)) → IsNode code scope start first (n + 1) to o' own'
+            → ((t : Marks) → own ≡ own_of t → own' ≡ own_of (marks_after_instr t i)) → IsNode code scope start first (n + 1) to o' own'
         is_next_node can own' marks =
             subst (λ z. IsNode code scope start first (n + 1) z o' own') (sym is_next)
             (next_node code scope start first n at' o' own opened_node i still_there some (ends false told) (sym (can opened_node.marks opened_node.is))

@@ -1,4 +1,4 @@
--- The paths that a thread may take, told by their places and told step by step.
+-- The search by steps and the search by places find the same paths that a thread may take.
 use Rattle.std.proofs.Common.{◌≡◌, ◌∙◌, ℕ, zero, suc, ◌+◌, ◌-◌, ◌==◌, Bool, true, false, not, ◌&&◌, ◌||◌, List, [], ◌∷◌, length}
 use Rattle.std.proofs.Common.{Option, Some, None, Result, Ok, Err, refl, ap, sym, arith, unwrap_or}
 use Rattle.std.specs.Prelude.{slice_get, if◌then◌else◌}
@@ -11,8 +11,8 @@ use Rattle.tc_code.specs.Code.{Code, instr_at}
 use Rattle.tc_code.specs.declared.instr.Instr.{Instr}
 use Rattle.tc_code.specs.declared.instr.Instr.TheVariants as instr
 use Rattle.path_walk.specs.Events.{excludes, is_impossible}
-use Rattle.path_walk.specs.Marks.{Marks, unmarked, marked, marked_from, marked_steps}
-use Rattle.path_walk.specs.Steps.{Onward, onward, before, places_from, end_from, step_at, steps_at, is_site}
+use Rattle.path_walk.specs.Marks.{Marks, marks_at_start, marks_after_instr, marked_from, marked_steps}
+use Rattle.path_walk.specs.Steps.{Onward, onward, with_place, places_from, end_from, step_at, steps_at, is_site}
 use Rattle.path_walk.specs.declared.fault.Misfit.{Misfit}
 use Rattle.path_walk.proofs.Places.{past_exit, short, step_more, end_more, count}
 use Rattle.thread_paths.specs.Ends.{is_exit, is_used, last_is, has_end, fails_at_end, MayTake}
@@ -23,7 +23,7 @@ use Rattle.thread_paths.specs.declared.aim.Scope.{Scope}
 use Rattle.thread_paths.specs.helpers.Descents.{ends_with, is_last, goes, stays, takes}
 use Rattle.thread_paths.proofs.Nodes.{goes_nowhere, goes_short, goes_last, goes_more}
 
--- the last of a place and those after it
+-- the last of one place and the places after it
 abbrev last_of : ℕ → List ℕ → ℕ
 last_of k [] = k
 last_of k (p ∷ ps) = last_of p ps
@@ -61,7 +61,7 @@ module _ (code : Code) (f : ℕ) (aim : Aim) where
   abbrev fails_by : ℕ → List ℕ → Bool
   fails_by k ps = aim.may_fail && is_site (last_instr k ps)
 
-  -- whether a way of these places, the first of which is k, is one that a thread may take, and ends as it should
+  -- whether a thread may take a path with these places, of which k is the first, to its proper end
   abbrev judged : Marks → ℕ → ℕ → Result (List ℕ) Misfit → Bool
   judged t number to (Ok []) = false
   judged t number to (Ok (k ∷ ps)) =
@@ -78,7 +78,7 @@ module _ (code : Code) (f : ℕ) (aim : Aim) where
 
     -- the last step
     one_place : (last : List Bool) (place : ℕ) → (is_nil last && is_last code f aim t i place)
-        ≡ judged t number (end_from code f 0 place last) (before k (places_from code f 0 place last))
+        ≡ judged t number (end_from code f 0 place last) (with_place k (places_from code f 0 place last))
     one_place [] place =
         not_one (fails_by k []) aim.may_fail (is_site i) (excludes t i true) (excludes t i false) (ends_with code f aim.end i place)
         (ap (λ x. aim.may_fail && is_site x) instr_is)
@@ -90,18 +90,18 @@ module _ (code : Code) (f : ℕ) (aim : Aim) where
         one_by false = ap (λ x. not (excludes t x false || false) && ends_with code f aim.end x place) (sym instr_is)
     one_place (b ∷ last) place = refl
 
-    -- a step more
+    -- one more step
     more_places : (n : ℕ) (on : Onward) (r : Result (List ℕ) Misfit) (to : ℕ) → places_from code f (suc n) on.place on.outcomes ≡ r
-        → (not (excludes t i false) && judged (marked t i) (number + 1) to r) ≡ judged t number to (before k r)
+        → (not (excludes t i false) && judged (marks_after_instr t i) (number + 1) to r) ≡ judged t number to (with_place k r)
     more_places n on (Err e) to is = and_none (not (excludes t i false))
     more_places n on (Ok []) to is = absurd (omega (arith, count code f (suc n) on.place on.outcomes [] is))
     more_places n on (Ok (p ∷ ps)) to is =
-        not_more (excludes t i false) (list_any is_impossible (marked_from (fails_by p ps) (number + 1) (marked t i) (steps_at code f (p ∷ ps))))
+        not_more (excludes t i false) (list_any is_impossible (marked_from (fails_by p ps) (number + 1) (marks_after_instr t i) (steps_at code f (p ∷ ps))))
         (fails_by p ps || ends_with code f aim.end (last_instr p ps) to)
-        ∙ ap (λ x. not (excludes t x false || list_any is_impossible (marked_from (fails_by p ps) (number + 1) (marked t x) (steps_at code f (p ∷ ps))))
+        ∙ ap (λ x. not (excludes t x false || list_any is_impossible (marked_from (fails_by p ps) (number + 1) (marks_after_instr t x) (steps_at code f (p ∷ ps))))
         && (fails_by p ps || ends_with code f aim.end (last_instr p ps) to)) (sym instr_is)
         ∙ ap (λ v. not (excludes t (step_at code f k).instr v
-        || list_any is_impossible (marked_from (fails_by p ps) (number + 1) (marked t (step_at code f k).instr) (steps_at code f (p ∷ ps))))
+        || list_any is_impossible (marked_from (fails_by p ps) (number + 1) (marks_after_instr t (step_at code f k).instr) (steps_at code f (p ∷ ps))))
         && (fails_by p ps || ends_with code f aim.end (last_instr p ps) to)) (sym not_the_last)
       where
         not_the_last : (fails_by p ps && (length (steps_at code f (p ∷ ps)) == 0)) ≡ false
@@ -109,7 +109,7 @@ module _ (code : Code) (f : ℕ) (aim : Aim) where
             ap (λ v. fails_by p ps && v) (ne_eqb (length (steps_at code f (p ∷ ps))) 0 (λ e. absurd (omega (arith, e)))) ∙ and_none (fails_by p ps)
 
   module _ (t : Marks) (k : ℕ) (o : List Bool) (number : ℕ) where
-    -- of no instruction or outcome
+    -- without an instruction
     told_past : (n : ℕ) → instr_at code f k ≡ None → Told n t k o number
     told_past n at =
         goes_nowhere code f aim n t k o at ∙ sym (ap (judged t number (end_from code f (suc n) k o)) (past_exit code f (suc n) k o (omega arith) at))
@@ -120,14 +120,14 @@ module _ (code : Code) (f : ℕ) (aim : Aim) where
         ∙ sym (ap (judged t number (end_from code f (suc n) k o)) (short code f (suc n) k o i (omega arith) at leads))
 
     module _ (i : Instr) (at : instr_at code f k ≡ Some i) (on : Onward) (leads : onward k i o ≡ Some on) where
-      places_are : (n : ℕ) → places_from code f (suc n) k o ≡ before k (places_from code f n on.place on.outcomes)
+      places_are : (n : ℕ) → places_from code f (suc n) k o ≡ with_place k (places_from code f n on.place on.outcomes)
       places_are n = step_more code f (suc n) n k o i on (omega arith) at leads
 
       end_is : (n : ℕ) → end_from code f (suc n) k o ≡ end_from code f n on.place on.outcomes
       end_is n = end_more code f (suc n) n k o i on (omega arith) at leads
 
       judged_is : (n : ℕ) → judged t number (end_from code f (suc n) k o) (places_from code f (suc n) k o)
-          ≡ judged t number (end_from code f n on.place on.outcomes) (before k (places_from code f n on.place on.outcomes))
+          ≡ judged t number (end_from code f n on.place on.outcomes) (with_place k (places_from code f n on.place on.outcomes))
       judged_is n =
           ap (λ x. judged t number x (places_from code f (suc n) k o)) (end_is n)
           ∙ ap (judged t number (end_from code f n on.place on.outcomes)) (places_are n)
@@ -135,7 +135,7 @@ module _ (code : Code) (f : ℕ) (aim : Aim) where
       told_last : Told 0 t k o number
       told_last = goes_last code f aim t k o i at on leads ∙ one_place t k o number i at on.outcomes on.place ∙ sym (judged_is 0)
 
-      told_more : (n : ℕ) → Told n (marked t i) on.place on.outcomes (number + 1) → Told (suc n) t k o number
+      told_more : (n : ℕ) → Told n (marks_after_instr t i) on.place on.outcomes (number + 1) → Told (suc n) t k o number
       told_more n later =
           goes_more code f aim t k o i at on leads n
           ∙ ap (λ v. not (excludes t i false) && v) later
@@ -153,18 +153,18 @@ module _ (code : Code) (f : ℕ) (aim : Aim) where
     module _ (n : ℕ) (rest : (u : Marks) (j : ℕ) (later : List Bool) (m : ℕ) → Told n u j later m) where
       next_by : (i : Instr) → instr_at code f k ≡ Some i → (x : Option Onward) → onward k i o ≡ x → Told (suc n) t k o number
       next_by i at None leads = told_short (suc n) i at leads
-      next_by i at (Some on) leads = told_more i at on leads n (rest (marked t i) on.place on.outcomes (number + 1))
+      next_by i at (Some on) leads = told_more i at on leads n (rest (marks_after_instr t i) on.place on.outcomes (number + 1))
 
       next_of : (x : Option Instr) → instr_at code f k ≡ x → Told (suc n) t k o number
       next_of None at = told_past (suc n) at
       next_of (Some i) at = next_by i at (onward k i o) refl
 
-  -- step by step and by places the same paths are told
+  -- the search by steps finds a path if and only if the search by places does
   pub told : (n : ℕ) (t : Marks) (k : ℕ) (o : List Bool) (number : ℕ) → Told n t k o number
   told zero t k o number = first_of t k o number (instr_at code f k) refl
   told (suc n) t k o number = next_of t k o number n (told n) (instr_at code f k) refl
 
-  -- Ends, by the places.
+  -- The end of a path, by its places.
 
   fails_is : (k : ℕ) (ps : List ℕ) → fails_at_end code f aim (k ∷ ps) ≡ fails_by k ps
   fails_is k ps = ap (λ x. aim.may_fail && option_map_or (λ j. is_site (step_at code f j).instr) x false) (get_last k ps)
@@ -194,22 +194,22 @@ module _ (code : Code) (scope : Scope) where
     abbrev there : Result (List ℕ) Misfit → Type 0
     there r = places_from code f (suc n) 0 o ≡ r
 
-    judged_by : (r : Result (List ℕ) Misfit) → there r → takes code scope o (suc n) ≡ judged code f aim (unmarked code f) 0 (end_from code f (suc n) 0 o) r
-    judged_by r is = told code f aim n (unmarked code f) 0 o 0 ∙ ap (judged code f aim (unmarked code f) 0 (end_from code f (suc n) 0 o)) is
+    judged_by : (r : Result (List ℕ) Misfit) → there r → takes code scope o (suc n) ≡ judged code f aim (marks_at_start code f) 0 (end_from code f (suc n) 0 o) r
+    judged_by r is = told code f aim n (marks_at_start code f) 0 o 0 ∙ ap (judged code f aim (marks_at_start code f) 0 (end_from code f (suc n) 0 o)) is
 
     to_places : (r : Result (List ℕ) Misfit) → there r → takes code scope o (suc n) ≡ true → MayTake code f aim (path o (suc n))
     to_places (Err e) is may = absurd (let never = judged_by (Err e) is in cc)
     to_places (Ok []) is may = absurd (let never = judged_by (Ok []) is in cc)
     to_places (Ok (k ∷ ps)) is may =
         let parts = and_parts
-        (not (list_any is_impossible (marked_from (fails_by code f aim k ps) 0 (unmarked code f) (steps_at code f (k ∷ ps)))))
+        (not (list_any is_impossible (marked_from (fails_by code f aim k ps) 0 (marks_at_start code f) (steps_at code f (k ∷ ps)))))
         (fails_by code f aim k ps || ends_with code f aim.end (last_instr code f aim k ps) (end_from code f (suc n) 0 o))
         (sym (judged_by (Ok (k ∷ ps)) is) ∙ may) in
         record {
           places = k ∷ ps;
           along = is;
           possible = ap (λ v. list_any is_impossible (marked_steps code f v (steps_at code f (k ∷ ps)))) (fails_is code f aim k ps)
-              ∙ not-true (list_any is_impossible (marked_from (fails_by code f aim k ps) 0 (unmarked code f) (steps_at code f (k ∷ ps)))) parts.0;
+              ∙ not-true (list_any is_impossible (marked_from (fails_by code f aim k ps) 0 (marks_at_start code f) (steps_at code f (k ∷ ps)))) parts.0;
           ends = ap (λ v. v || has_end code f aim.end (path o (suc n)) (k ∷ ps)) (fails_is code f aim k ps)
               ∙ ap (λ v. fails_by code f aim k ps || v) (end_by code f aim aim.end n o k ps) ∙ parts.1;
         }
@@ -228,7 +228,7 @@ module _ (code : Code) (scope : Scope) where
         judged_by (Ok (k ∷ ps)) along ∙ ap (λ v. not v && (fails_by code f aim k ps
         || ends_with code f aim.end (last_instr code f aim k ps) (end_from code f (suc n) 0 o))) possible ∙ ends
 
-  -- a path of no steps
+  -- a path without steps
   stays_is : (end : End) → stays code f end ≡ has_end code f end (path [] 0) []
   stays_is Exit = refl
   stays_is Used = refl

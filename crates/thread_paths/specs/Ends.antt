@@ -13,12 +13,12 @@ use Rattle.thread_paths.specs.declared.aim.Aim.{Aim}
 use Rattle.thread_paths.specs.declared.aim.End.{End}
 use Rattle.thread_paths.specs.declared.aim.End.TheVariants.{Exit, Used, Open, Rest}
 
--- whether it is an exit
+-- whether an instruction is an exit
 abbrev pub is_exit : Instr → Bool
 is_exit instr.Exit = true
 is_exit _ = false
 
--- whether another thread may have a use for what an instruction does
+-- whether another thread may use the effect of an instruction
 abbrev pub is_used : Instr → Bool
 is_used (instr.Store c e) = true
 is_used (instr.StoreAt first len i e) = true
@@ -32,27 +32,27 @@ is_used (instr.Create h f es) = true
 is_used _ = false
 
 module _ (code : Code) (f : ℕ) where
-  -- whether there is a step, and the last is of a kind
+  -- whether there is a last step, and it is of this kind
   abbrev pub last_is : (Instr → Bool) → List ℕ → Bool
   last_is kind places =
       option_map_or (λ k. kind (step_at code f k).instr) (slice_get places (length places - 1)) false
 
-  -- whether the path to these places ends as it should, where the thread doesn't fail
+  -- whether a path to these places ends as it should, if the thread doesn't fail
   abbrev pub has_end : End → Path → List ℕ → Bool
   has_end Exit p places = last_is is_exit places
   has_end Used p places = last_is is_used places
   has_end Open p places = p.steps == 0 || last_is is_used places
   has_end Rest p places = option_map_or can_block (standing code f p) true
 
-  -- a thread that may fail does so where its path ends at a site: no other path ends there
+  -- whether a thread fails at the end of its path: it may fail, and the path ends at a site
   abbrev pub fails_at_end : Aim → List ℕ → Bool
   fails_at_end aim places = aim.may_fail && ends_at_site code f places
 
-  -- a thread that does the function may take a path
+  -- a thread that runs the function may take this path
   pub record MayTake (aim : Aim) (p : Path) : Type 0 where
     pub places : List ℕ
     pub along : places_from code f p.steps 0 p.outcomes ≡ Ok places
-    -- the path doesn't tell by itself that no run goes so
+    -- the path alone doesn't rule out every run
     pub possible : list_any is_impossible
         (marked_steps code f (fails_at_end aim places) (steps_at code f places)) ≡ false
     pub ends : (fails_at_end aim places || has_end aim.end p places) ≡ true

@@ -1,9 +1,9 @@
--- The order in which the paths of a thread are gone through.
+-- The order of the paths of a thread.
 use Rattle.std.specs.Prelude.{ℕ, Bool, true, false, nat_le, List, [], ◌∷◌}
 use Rattle.tc_base.specs.Paths.{Path}
 
--- whether outcomes and steps are those of a position or come after it: a false comes before a true,
--- fewer outcomes before more of them, and with the same outcomes fewer steps before more
+-- whether outcomes and steps are those of a position or come after it: false comes before true,
+-- fewer outcomes before more, and with equal outcomes fewer steps before more
 abbrev pub is_from : List Bool → ℕ → List Bool → ℕ → Bool
 is_from [] least [] steps = nat_le least steps
 is_from [] least (_ ∷ _) steps = true

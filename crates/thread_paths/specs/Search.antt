@@ -1,4 +1,4 @@
--- What a search for a path gives.
+-- The result of a search for a path.
 use Rattle.std.specs.Prelude.{◌≡◌, ◌<◌, ◌≤◌, ◌⊎◌, length, true, Option, Some, None, IfSome}
 use Rattle.tc_base.specs.Paths.{Path}
 use Rattle.tc_limits.specs.declared.limits.TheConstants.{STEPS}
@@ -8,22 +8,23 @@ use Rattle.thread_paths.specs.Order.{comes_from}
 use Rattle.thread_paths.specs.declared.aim.Scope.{Scope}
 use Rattle.thread_paths.specs.declared.found.Cut.{Cut}
 
--- a path that was found, if there is one, and what was cut in the search for it
+-- the path that was found, if any, and what the search left out
 pub record Found : Type 0 where
   pub path : Option Path
   pub cut : Cut
 
--- a path is left out, which is told, since it has too many outcomes, or more steps than a log holds
+-- a path is left out, and the cut says why: too many outcomes, or more steps than a log holds
 abbrev pub IsLeftOut : Scope → Cut → Path → Type 0
 IsLeftOut scope cut q =
     ((scope.most < length q.outcomes) × (cut.outcomes ≡ true)) ⊎ ((STEPS < q.steps) × (cut.steps ≡ true))
 
--- the path that was found is this one, or one before it
+-- a path was found, and it is this one or comes before it
 abbrev pub IsNotAfter : Option Path → Path → Type 0
 IsNotAfter None q = ⊥
 IsNotAfter (Some p) q = comes_from p q ≡ true
 
--- a search from a position on found the first path that the thread may take, but for those that are left out
+-- the search found the first path from a position on that the thread may take, apart from those
+-- left out
 pub record IsFirst (code : Code) (scope : Scope) (start : Path) (found : Found) : Type 0 where
   pub takes : IfSome found.path (MayTake code scope.function scope.aim)
   pub within : IfSome found.path (λ p. comes_from start p ≡ true)

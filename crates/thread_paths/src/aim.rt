@@ -1,34 +1,34 @@
-//! Which paths are looked for.
+//! The paths that a search looks for.
 
-/// How a path ends in which the thread doesn't fail.
+/// How a path ends if the thread doesn't fail.
 #[derive(Clone, Copy, Debug, PartialEq, Eq)]
 pub enum End {
-    /// With its exit.
+    /// With the thread's exit.
     Exit,
-    /// With a step that another thread may have a use for.
+    /// With a step that another thread may use.
     Used,
-    /// The same, or the thread does nothing.
+    /// With such a step, or the thread does nothing.
     Open,
-    /// With its exit, or where the thread may have to wait for others.
+    /// With the thread's exit, or at a place where it may have to wait for others.
     Rest,
 }
 
 /// How a path ends.
 #[derive(Clone, Copy, Debug, PartialEq, Eq)]
 pub struct Aim {
-    /// Where the thread doesn't fail.
+    /// The end if the thread doesn't fail.
     pub end: End,
     /// Whether the thread may fail in its last step.
     pub may_fail: bool,
 }
 
-/// The paths that are looked for.
+/// The scope of a search.
 #[derive(Clone, Copy, Debug)]
 pub struct Scope {
-    /// The number of the function that the thread does.
+    /// The number of the function that the thread runs.
     pub function: usize,
     /// How they end.
     pub aim: Aim,
-    /// How many outcomes they have at most.
+    /// The greatest number of outcomes.
     pub most: u16,
 }

@@ -1,4 +1,5 @@
-//! One way down from outcomes: they are followed, and behind them each branch is false, until a path may end or none goes on.
+//! One descent: follows the given outcomes, then takes each branch with a false outcome, until a
+//! path may end or none goes on.
 ghost use Rattle.std.specs.Prelude.{◌≡◌, ℕ, List, Bool, true, false, ◌&&◌, ◌≤◌, ◌<◌, ◌+◌, ◌^◌, length, IfOk, []};
 ghost use Rattle.tc_limits.specs.declared.limits.TheConstants.{STEPS};
 ghost use Rattle.path_walk.specs.Marks.{Marks};
@@ -13,44 +14,44 @@ use tc_code::{Code, Instr};
 use tc_limits::limits::STEPS;
 use thread_marks::Own;
 
-/// Why a way down leads to no path.
+/// Why a descent finds no path.
 #[derive(Clone, Copy, Debug)]
 pub enum Reason {
     /// No path goes on.
     Dead,
-    /// A branch comes after as many outcomes as there may be.
+    /// A branch comes after the greatest number of outcomes.
     TooMany,
-    /// There are as many steps as a log holds.
+    /// The thread has taken as many steps as a log holds.
     TooLong,
 }
 
-/// How a way down ends.
+/// The result of a descent.
 #[derive(Clone, Copy, Debug)]
 pub enum Descent {
-    /// With a path of so many steps.
+    /// A path with this number of steps.
     Found(u16),
-    /// With none.
+    /// No path, for this reason.
     Spent(Reason),
 }
 
-/// Where a thread is on its way down.
+/// The position of a thread in its descent.
 #[derive(Clone, Copy)]
 pub struct At {
     place: usize,
-    /// How many of the outcomes it has followed.
+    /// The number of outcomes followed.
     used: usize,
-    /// How many steps a path has at least that ends with these outcomes.
+    /// The least number of steps of a path that ends with these outcomes.
     least: usize,
 }
 
-/// A step further, or an end.
+/// One step further, or the end of the descent.
 pub enum Advance {
     On(At),
     Ends(Descent),
 }
 
-/// Where the thread is with an outcome for its next instruction: behind all of them comes a false. There is none where it has
-/// as many as it may have.
+/// The position with an outcome for the next instruction, appending a false if a branch needs one.
+/// `None` if there would be too many outcomes.
 fn with_outcome(
     most: u16,
     instr: &Instr,
@@ -72,7 +73,7 @@ fn with_outcome(
     Ok(Some(At { least: 0, ..at }))
 }
 
-/// Where a thread is after an instruction.
+/// The position of a thread after an instruction.
 fn after(instr: &Instr, at: At, outcomes: &[bool]) -> At
     requires place { at.place + 1 < 2 ^ 64 }
     requires outcome { is_branch instr.now ≡ true → at.used < length outcomes.now }
@@ -91,7 +92,7 @@ fn after(instr: &Instr, at: At, outcomes: &[bool]) -> At
     }
 }
 
-/// Whether a path may end after an instruction, with so many steps.
+/// Whether a path may end after an instruction, with `steps` steps.
 fn is_end(
     code: &Code,
     scope: Scope,
@@ -108,7 +109,7 @@ fn is_end(
         && is_last(code, scope.function, scope.aim, own, instr, to.place)
 }
 
-/// One step further, after so many.
+/// Takes one step further, after `steps` of them.
 fn go_on(
     code: &Code,
     scope: Scope,
@@ -139,8 +140,8 @@ fn go_on(
     Ok(Advance::On(to))
 }
 
-/// The way down by these outcomes, which it adds to: to the first path of at least so many steps, if any begins so. A path of
-/// no steps isn't looked at.
+/// Follows these outcomes and extends them to the first path of at least `least` steps, if one
+/// begins like them. Skips the path of no steps.
 pub fn descend(
     alloc: Global,
     code: &Code,

@@ -1,4 +1,4 @@
-//! Paths that were found.
+//! The paths that a search finds.
 use std::marker::Model;
 
 /// A path of a thread.
@@ -6,7 +6,7 @@ use std::marker::Model;
 pub struct Path {
     /// The outcomes of its branches, in order.
     pub outcomes: Vec<bool>,
-    /// How many steps it has, one that fails included.
+    /// The number of steps, including one that fails.
     pub steps: u16,
 }
 
@@ -18,16 +18,16 @@ impl Model for Path {
     ghost view = { λ p. record { outcomes = p.outcomes.items; steps = p.steps } };
 }
 
-/// Whether paths were left out.
+/// Whether paths were left out, by reason.
 #[derive(Clone, Copy, Debug, PartialEq, Eq)]
 pub struct Cut {
-    /// Since they may have more outcomes than were asked for.
+    /// They may have more outcomes than the caller allows.
     pub outcomes: bool,
-    /// Since they may have more steps than a log holds.
+    /// They may have more steps than a log holds.
     pub steps: bool,
 }
 
-/// The path that was found, if there is one, and what was left out before it.
+/// The path, if one was found, and what the search left out before it.
 #[derive(Debug, Drop)]
 pub struct Found {
     /// The path.

@@ -1,4 +1,4 @@
-//! What a thread does at an instruction.
+//! The effect of an instruction on a thread's place.
 ghost use Rattle.std.specs.Prelude.{◌≡◌, ◌+◌, ◌<◌, ◌^◌, true};
 ghost use Rattle.std.specs.Option.{option_map_or};
 ghost use Rattle.tc_code.specs.Code.{instr_at};
@@ -12,14 +12,14 @@ use crate::aim::{Aim, End};
 use tc_code::{Code, Instr};
 use thread_marks::Own;
 
-/// Whether a thread goes two ways from an instruction.
+/// Whether an instruction has two ways to go on.
 pub fn is_branch(instr: &Instr) -> bool
     ensures { result ≡ is_branch instr.now }
 {
     matches!(instr, Instr::Branch { .. })
 }
 
-/// Where a thread goes on after an instruction at a place, with this outcome where it is a branch.
+/// The place after an instruction, given the outcome if it is a branch.
 pub fn place_after(instr: &Instr, place: usize, outcome: bool) -> usize
     requires { place + 1 < 2 ^ 64 }
     ensures { result ≡ place_after place instr.now outcome }
@@ -31,7 +31,7 @@ pub fn place_after(instr: &Instr, place: usize, outcome: bool) -> usize
     }
 }
 
-/// Whether an instruction only tests something, and fails where that is false.
+/// Whether an instruction only tests something, and fails if that is false.
 fn is_site(instr: &Instr) -> bool
     ensures { result ≡ is_site instr.now }
 {
@@ -46,7 +46,7 @@ fn is_site(instr: &Instr) -> bool
     )
 }
 
-/// Whether another thread may have a use for what an instruction does.
+/// Whether another thread may use the effect of an instruction.
 fn is_used(instr: &Instr) -> bool
     ensures { result ≡ is_used instr.now }
 {
@@ -64,14 +64,15 @@ fn is_used(instr: &Instr) -> bool
     )
 }
 
-/// Whether it is an exit.
+/// Whether an instruction is an exit.
 fn is_exit(instr: &Instr) -> bool
     ensures { result ≡ is_exit instr.now }
 {
     matches!(instr, Instr::Exit)
 }
 
-/// Whether a thread may rest at a place: it has exited, since no instruction is there, or may have to wait for others.
+/// Whether a thread may rest at a place: it has exited, so that there is no instruction, or may
+/// have to wait for others.
 pub fn can_rest(code: &Code, function: usize, place: usize) -> bool
     ensures { result ≡ option_map_or can_block (instr_at code.now function place) true }
 {
@@ -84,7 +85,8 @@ pub fn can_rest(code: &Code, function: usize, place: usize) -> bool
     }
 }
 
-/// Whether a path in which the thread doesn't fail may end with an instruction that leads to a place.
+/// Whether a path may end with this instruction, which leads to a place, if the thread doesn't
+/// fail.
 fn ends_with(code: &Code, function: usize, end: End, instr: &Instr, to: usize) -> bool
     ensures { result ≡ ends_with code.now function end instr.now to }
 {
@@ -95,7 +97,7 @@ fn ends_with(code: &Code, function: usize, end: End, instr: &Instr, to: usize) -
     }
 }
 
-/// Whether a path may end with an instruction that leads to a place.
+/// Whether a path may end with this instruction, which leads to a place.
 pub fn is_last(code: &Code, function: usize, aim: Aim, own: &Own, instr: &Instr, to: usize) -> bool
     ensures { (t : Marks) → own.now ≡ own_of t → result ≡ is_last code.now function aim t instr.now to }
 {

@@ -1,8 +1,9 @@
-//! Which paths a thread may take, one after another: those that fit its function, that don't tell by themselves that no run
-//! goes so, and that end as the log of a failure or a deadlock needs it.
+//! The paths that a thread may take, one after another: they fit its function, don't alone rule out
+//! every run, and end as the log of a failure or a deadlock needs it.
 //!
-//! A path is told by its outcomes and how many steps it has, so that is what is kept between two of them: the next one is
-//! looked for from the path before it, whose outcomes are followed, and then the last false is turned into a true.
+//! A path is determined by its outcomes and its number of steps, so only these are kept between two
+//! paths. The search for the next path follows the outcomes of the one before it, and then turns
+//! the last false into a true.
 #![tactic(auto)]
 
 mod aim;

@@ -1,4 +1,4 @@
-//! From a path to the next one.
+//! The first path, and the next one after a path.
 ghost use Rattle.std.specs.Prelude.{◌≡◌, ◌+◌, ◌≤◌, ◌&&◌, [], length, false, IfOk};
 ghost use Rattle.thread_paths.specs.Order.{is_from};
 ghost use Rattle.thread_paths.specs.Search.{IsFirst};
@@ -12,7 +12,7 @@ use crate::turn::turn;
 use std::alloc::{AllocError, Global};
 use tc_code::Code;
 
-/// Whether a path may end before its first step.
+/// Whether the path of no steps may end this way.
 fn stays(code: &Code, function: usize, end: End) -> bool
     ensures { result ≡ stays code.now function end }
 {
@@ -37,7 +37,7 @@ fn cut_by(cut: Cut, why: Reason) -> Cut
     }
 }
 
-/// The first path with a step, of these outcomes and at least so many steps, or after that.
+/// The first path that has a step and comes at or after these outcomes and this number of steps.
 fn search(
     alloc: Global,
     code: &Code,
@@ -86,7 +86,7 @@ pub fn first_path(alloc: Global, code: &Code, scope: Scope) -> Result<Found, All
     search(alloc, code, scope, outcomes, 0)
 }
 
-/// The first path after one.
+/// The first path after this one.
 pub fn next_path(alloc: Global, code: &Code, scope: Scope, path: Path) -> Result<Found, AllocError>
     requires { length path.outcomes ≤ scope.most }
     ensures { IfOk result (IsFirst code.now scope (record { outcomes = path.outcomes; steps = path.steps + 1 })) }

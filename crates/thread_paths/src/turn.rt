@@ -1,11 +1,11 @@
-//! From outcomes to the next ones.
+//! The next outcomes after given ones.
 ghost use Rattle.std.specs.Prelude.{IfOk};
 ghost use Rattle.thread_paths.specs.helpers.Descents.{IsTurned};
 
 use std::alloc::AllocError;
 
-/// The next outcomes after all that begin with these: the last false is turned into a true, and those after it are dropped.
-/// There are none where each is true.
+/// Turns the outcomes into the next ones after all that begin with them: makes the last false true,
+/// and drops what follows it. There are none if all are true.
 pub fn turn(outcomes: &mut Vec<bool>) -> Result<bool, AllocError>
     ensures { IfOk result (λ turned. IsTurned outcomes.old.items outcomes.new.items turned) }
 {

@@ -119,7 +119,7 @@ module _ {B : Type 0} (ops : BufferOps B) (model : Model) (bound : Binding) (cod
       (subst (λ (b : Blasted). AreReachedGroups s.formula b lines groups) (own_clauses lives) are) (kept paths w) (world_in w groups m)
       (holds_in w groups m)
 
-  -- what is told over the clauses that are posed is told of the log
+  -- what holds for the posed clauses holds for the log
   told : (reasons : List Reason) → IsClosed (blasted_of ops.buffered bound code log).clauses lines
       → AreReasonsOn code log (posed_of ops.buffered bound code log) lines reasons
       → RestsOn ops bound code log lines reasons ⊎ TellsCause code log (posed_of ops.buffered bound code log) reasons

@@ -32,8 +32,8 @@ pub enum Explained {
     Open,
 }
 
-/// What a derivation proves over the clauses of a log, whoever made it, and by which rules. Another
-/// derivation may use other rules.
+/// What a derivation proves over the clauses of a log, and by which rules. Any tool may have made
+/// it. Another derivation may use other rules.
 ///
 /// Fails if [`check_impossible`](clap_solve::check_impossible) does.
 pub fn why<M: MemoryModel>(

@@ -1,4 +1,4 @@
--- What a search over numbered elements finds.
+-- Searches over numbered elements.
 use Rattle.std.proofs.Common.{◌≡◌, ◌∙◌, ℕ, zero, suc, ◌+◌, ◌<◌, Bool, true, false, ◌||◌, cond, List, [], ◌∷◌, ◌++◌, take, length, get_or, fold}
 use Rattle.std.proofs.Common.{Some, None, refl, sym, ap, arith}
 use Rattle.std.specs.List.{enumerate_from, find, list_any, range_with_len}
@@ -38,12 +38,12 @@ module _ {X : Type 0} (p : ℕ × X → Bool) (xs : List X) (i : ℕ) where
   at_place x within at =
       get_or-enumerate_from 0 xs i (i, x) within ∙ ap (λ y. (0 + i, y)) (sym at) ∙ ap (λ n. (n, x)) (let e : 0 + i ≡ i = omega arith in e)
 
-  -- the first that passes
+  -- the first element that passes is found
   pub found : (x : X) → list_any p (take i all) ≡ false → i < length xs → x ≡ get_or xs i x → p (i, x) ≡ true → find p all ≡ Some (i, x)
   found x none within at hit =
       found_in p all i (i, x) none (omega (arith, within, length-enumerate_from 0 xs)) (sym (at_place x within at)) hit
 
-  -- one that doesn't is passed
+  -- an element that doesn't pass is skipped
   pub passed : (x : X) → list_any p (take i all) ≡ false → i < length xs → x ≡ get_or xs i x → p (i, x) ≡ false → list_any p (take (i + 1) all) ≡ false
   passed x none within at missed =
       ap (list_any p) (take_more all i (i, x) (omega (arith, within, length-enumerate_from 0 xs)))
@@ -54,14 +54,14 @@ module _ {X : Type 0} (p : ℕ × X → Bool) (xs : List X) (i : ℕ) where
   pub nowhere : list_any p (take i all) ≡ false → i ≡ length xs → find p all ≡ None
   nowhere none end = nowhere_in p all i none (omega (arith, end, length-enumerate_from 0 xs))
 
--- one number more, at the end
+-- a range with one more number at its end
 range_more : (a n : ℕ) → range_with_len a (n + 1) ≡ range_with_len a n ++ (a + n) ∷ []
 range_more a zero = ap (λ m. m ∷ []) (let e : a ≡ a + 0 = omega arith in e)
 range_more a (suc n) =
     ap (range_with_len a) (let e : suc n + 1 ≡ suc (n + 1) = omega arith in e)
     ∙ ap (λ ms. a ∷ ms) (range_more (a + 1) n ∙ ap (λ m. range_with_len (a + 1) n ++ m ∷ []) (let e : a + 1 + n ≡ a + suc n = omega arith in e))
 
--- a fold over the numbers below one goes on by it
+-- one more step of a fold over the numbers below one
 pub fold_range : {Y : Type 0} (f : Y → ℕ → Y) (y : Y) (n : ℕ) → fold f y (range_with_len 0 (n + 1)) ≡ f (fold f y (range_with_len 0 n)) n
 fold_range f y n =
     ap (fold f y) (range_more 0 n) ∙ fold-append f y (range_with_len 0 n) ((0 + n) ∷ [])

@@ -1,4 +1,4 @@
--- The numbers of events: what stands at a place among all events has that number.
+-- The number of an event is its place among all events.
 use Rattle.std.proofs.Common.{◌≡◌, ◌∙◌, ◌⊎◌, inl, inr, ℕ, zero, suc, ◌+◌, ◌<◌, ◌≤◌, List, [], ◌∷◌, ◌++◌, map, length, get_or, Option, Some, None, refl, sym, ap, arith}
 use Rattle.std.specs.Prelude.{slice_get, option_map}
 use Rattle.std.specs.List.{Contains, AllByRecursion as Each, IsDistinct, find}
@@ -14,7 +14,7 @@ use Rattle.lawful_order.specs.Whole.{HasStep, AreWhole}
 use Rattle.order_events.proofs.Lists.{of_cons, in_back, at_in, in_at}
 use Rattle.order_events.proofs.Numbers.{of_all_from, has_number, is_step, is_step_at, is_own, one_step}
 
--- what a search finds passes, and is there; where something passes it finds one
+-- an element that is found is in the list and passes
 pub of_find : {X : Type 0} (p : X → Bool) (xs : List X) (x : X) → find p xs ≡ Some x → Contains xs x × (p x ≡ true)
 of_find p [] x is = absurd (none-some x is)
 of_find {X} p (y ∷ ys) x is = by (p y) refl is (of_find p ys x)
@@ -51,7 +51,7 @@ one_place (x ∷ xs) (suc i) zero distinct one two same =
 one_place (x ∷ xs) (suc i) (suc j) distinct one two same =
     ap suc (one_place xs i j (IsDistinct-tail (λ p q. p == q) x xs distinct) (omega (arith, one)) (omega (arith, two)) same)
 
--- what stands at a place of two lists together, and of what a function gives
+-- an element of two joined lists is in the first or in the second
 pub get_both : {X : Type 0} (xs ys : List X) (k : ℕ) (x : X) → slice_get (xs ++ ys) k ≡ Some x
     → (slice_get xs k ≡ Some x) ⊎ ((j : ℕ) × (k ≡ length xs + j) × (slice_get ys j ≡ Some x))
 get_both [] ys k x at = inr (k, omega arith, at)
@@ -66,7 +66,8 @@ from_mapped_at {X} {Y} f xs k y at = by (slice_get xs k) refl
     by None none = absurd (none-some y (sym (slice_get-map f xs k ∙ ap (option_map f) none) ∙ at))
     by (Some x) here = (x, here, same_Some (f x) y (sym (slice_get-map f xs k ∙ ap (option_map f) here) ∙ at))
 
--- What threads have whose steps rise, one thread after another: it is in the order of threads, and of a thread in that of its steps.
+-- What threads with rising steps have, one thread after another: this list is ordered by threads,
+-- and within a thread by its steps.
 abbrev pub Rise : {W X : Type 0} → (W → List X) → (X → ℕ) → List W → Type 0
 Rise {W} {X} has step ws = (u j k : ℕ) (q : W) (x y : X) → slice_get ws u ≡ Some q → slice_get (has q) j ≡ Some x → slice_get (has q) k ≡ Some y → j < k
     → step x < step y
@@ -112,7 +113,7 @@ of_rise {W} {X} has step t (w ∷ ws) rise i j a b ia jb lt =
     by later (inr r) (inr s) = later r.0 s.0 r.2 s.2 (omega (arith, r.1, s.1, lt))
 
 module _ (paths : Paths) (whole : AreWhole paths) where
-  -- two events of one thread with one step are one
+  -- two events of one thread with the same step are equal
   pub one_event : (t : ℕ) (q : Walk) (x y : Event) → slice_get paths.threads t ≡ Some q → Contains q.events x → Contains q.events y
       → x.step ≡ y.step → x ≡ y
   one_event t q x y there i j same =
@@ -127,7 +128,7 @@ module _ (paths : Paths) (whole : AreWhole paths) where
             ]
       ]
 
-  -- what stands at a place among all events is an event of a thread
+  -- the element at a place among all events is an event of a thread
   pub event_numbered : (g : ℕ) (e : Of Event) → slice_get (all_events paths) g ≡ Some e
       → (q : Walk) × (slice_get paths.threads e.thread ≡ Some q) × Contains q.events e.it
   event_numbered g e at =
@@ -135,7 +136,7 @@ module _ (paths : Paths) (whole : AreWhole paths) where
       let same : o.place ≡ e.thread = omega (arith, o.thread) in
       (o.owner, ap (slice_get paths.threads) (sym same) ∙ o.at, o.among)
 
-  -- and that place is its number
+  -- the place is the number of the event
   pub number_is : (g : ℕ) (e : Of Event) → slice_get (all_events paths) g ≡ Some e → number_of paths e.thread e.it.step ≡ g
   number_is g e at =
       let within = slice_get_within (all_events paths) g e at in
@@ -159,7 +160,7 @@ module _ (paths : Paths) (whole : AreWhole paths) where
           let same = same_Some e (get_or (all_events paths) g e) (sym at ∙ slice_get-get_or (all_events paths) g e lt) in
           ap (is_step e.thread e.it.step) (sym same) ∙ is_own e.thread e.it.step e refl refl
 
--- of two steps of a thread that are events the first has the lesser number
+-- of two events of a thread, the one with the lesser step has the lesser number
 pub numbers_rise : (paths : Paths) → AreWhole paths → (t k j : ℕ) → HasStep paths t k → HasStep paths t j → k < j → number_of paths t k < number_of paths t j
 numbers_rise paths whole t k j s u less =
     elim (cases_order (number_of paths t k) (number_of paths t j)) [

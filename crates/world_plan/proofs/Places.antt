@@ -1,4 +1,4 @@
--- Where a world has the events of paths.
+-- The positions of a world's events.
 use Rattle.std.proofs.Common.{◌≡◌, ◌∙◌, ℕ, ◌==◌, length, Some, None, refl, sym, ap, ap₂, subst, arith}
 use Rattle.std.specs.Prelude.{slice_get}
 use Rattle.std.specs.List.{Contains}
@@ -16,7 +16,7 @@ use Rattle.world_plan.proofs.Numbers.{of_find, in_find, one_place, one_event}
 abbrev the_event : Of Event → Of Event
 the_event e = e
 
--- a thread's event is a step, and is among all events
+-- a thread's event is a step and is among all events
 pub step_of : (paths : Paths) (t : ℕ) (q : Walk) (x : Event) → slice_get paths.threads t ≡ Some q → Contains q.events x → HasStep paths t x.step
 step_of paths t q x there i = (x, (q, there, i), refl)
 

@@ -13,12 +13,12 @@ use Rattle.tc_code.specs.declared.instr.Instr.TheVariants.{Exit}
 use Rattle.run_log.specs.Logs.{is_log}
 use Rattle.path_walk.specs.Events.{asks, kind_with}
 use Rattle.path_walk.specs.Fits.{fails_in, Fits}
-use Rattle.path_walk.specs.Marks.{Marks, unmarked, marks_after}
+use Rattle.path_walk.specs.Marks.{Marks, marks_at_start, marks_after}
 use Rattle.path_walk.specs.Paths.{Walk}
 use Rattle.path_walk.specs.Steps.{step_at, steps_at}
 use Rattle.path_walk.specs.declared.event.Event.{Event}
 use Rattle.path_walk.specs.declared.event.EventKind.TheVariants as kind
-use Rattle.path_laws.specs.history.Along.{IsThread}
+use Rattle.path_laws.specs.history.Along.{IsThread, path_thread}
 use Rattle.path_laws.proofs.of_history.Walks.{thread_path_at, walk_is}
 use Rattle.path_laws.proofs.of_events.Events.{at_step}
 use Rattle.path_laws.proofs.of_events.Lists.{in_contains}
@@ -29,7 +29,7 @@ one_fails : (f : Failing) (t u : ℕ) → has_failed f t ≡ true → has_failed
 one_fails (failing.Thread k) t u a b = eqb-true t k a ∙ sym (eqb-true u k b)
 one_fails failing.Deadlock t u a b = absurd (false≢true a)
 
--- an event fails only where its step is to
+-- no instruction asks for a failure by itself
 no_failure : (m : Marks) (i : Instr) → asks m i ≡ Some kind.Fail → ⊥
 no_failure m Exit e = cc
 no_failure m i e = cc
@@ -45,7 +45,7 @@ module _ (code : Code) (log : Log) (is : is_log log ≡ true) where
       let b = thread_path_at code log u q bt in
       one_place log is t u a.0 b.0 a.1 b.1 (ap (λ (x : Walk). x.name) a.2 ∙ same ∙ sym (ap (λ (x : Walk). x.name) b.2))
 
-  -- a thread fails where the log says so of its place
+  -- a thread fails if the log says so for its place
   pub fails_by_place : (t : ℕ) (q : Walk) → IsThread code log t q → fails_in log q.name ≡ has_failed log.failing t
   fails_by_place t q at =
       let a = thread_path_at code log t q at in
@@ -55,14 +55,14 @@ module _ (code : Code) (log : Log) (is : is_log log ≡ true) where
       → fails_in log q.name ≡ true → t ≡ u
   one_failing t u p q at bt a b = one_fails log.failing t u (sym (fails_by_place t p at) ∙ a) (sym (fails_by_place u q bt) ∙ b)
 
-  -- an event that fails is the last step of the thread that does
+  -- an event that fails is the last step of the failing thread
   pub fail_is_last : Fits code log → (t : ℕ) (q : Walk) (x : Event) → IsThread code log t q → Contains q.events x → x.kind ≡ kind.Fail
       → (fails_in log q.name ≡ true) × (x.step + 1 ≡ length q.places)
   fail_is_last fits t q x there i fail =
       let ss = steps_at code q.function q.places in
-      let e = at_step code log q (walk_is code log is fits t q there) x (in_contains x q.events i) in
+      let e = at_step code log q (walk_is code log is fits (path_thread t q there)) x (in_contains x q.events i) in
       let both = and_parts (fails_in log q.name) (length (drop (suc e.place) ss) == 0)
-      (to_fail (marks_after (unmarked code q.function) (take e.place ss)) e.step.instr (fails_in log q.name && length (drop (suc e.place) ss) == 0) (e.asks ∙ ap (λ a. Some a) fail)) in
+      (to_fail (marks_after (marks_at_start code q.function) (take e.place ss)) e.step.instr (fails_in log q.name && length (drop (suc e.place) ss) == 0) (e.asks ∙ ap (λ a. Some a) fail)) in
       let rest = eqb-true (length (drop (suc e.place) ss)) 0 both.1 in
       let within = slice_get_within ss e.place e.step e.there in
       let long = length-map q.places (step_at code q.function) in

@@ -11,7 +11,7 @@ use Rattle.path_walk.specs.declared.event.Event.{Event}
 use Rattle.path_walk.specs.declared.event.Sleep.{Sleep}
 use Rattle.path_laws.specs.Setting.{Setting}
 use Rattle.path_laws.specs.events.Done.{IsAsleepIn}
-use Rattle.path_laws.specs.history.Along.{IsAlongPaths, IsThread}
+use Rattle.path_laws.specs.history.Along.{IsAlongPaths, IsThread, PathThread}
 use Rattle.sym_terms.specs.Terms.{AreTerms}
 use Rattle.sym_terms.specs.declared.node.Node.{Node}
 use Rattle.sym_laws.specs.Valued.{AgreesWith, found}
@@ -51,11 +51,11 @@ module _ (code : Code) (log : Log) (w : World) where
       → x.it.step < steps_in h q.name → IsAsleepIn h q.name x.it ↔ ((g : ℕ) → ender_of w s ≡ Some g → p ≤ position w g)
 
 module _ {B : Type 0} (s : Setting B) (nodes : List Node) (w : World) where
-  open s use {ops, bound, code, log}
+  open s use {ops, code, log}
 
   -- a history along the paths, up to position p: exactly the events before p took place, in order
   pub record HasGone (p : ℕ) (h : List Deed) : Type 0 where
-    pub along : IsAlongPaths ops.buffered bound code log h
+    pub along : IsAlongPaths s.machine log h
     pub agrees : AgreesWith (found code log nodes).symbolic w.loads h
     pub going : failed_in h ≡ None
     pub did : (t : ℕ) (q : Walk) (x : Event) → IsThread code log t q → Contains q.events x → place code log w t x < p → x.step < steps_in h q.name
@@ -65,10 +65,18 @@ module _ {B : Type 0} (s : Setting B) (nodes : List Node) (w : World) where
     pub sleeps : SleepUntilEnded code log w p h
     pub order : AreInOrder ops.buffered (paths_of code log) w h
 
-  -- the history has gone up to p, where the thread t is about to do its event x
-  pub record IsAtEvent (p : ℕ) (h : List Deed) (t : ℕ) (q : Walk) (x : Event) : Type 0 where
-    pub gone : HasGone p h
-    pub thread : IsThread code log t q
-    pub event : Contains q.events x
-    pub at : place code log w t x ≡ p
-    pub steps : steps_in h q.name ≡ x.step
+  -- a history up to a position, and the event of a thread at that position
+  pub record EventAt : Type 0 where
+    pub position : ℕ
+    pub deeds : List Deed
+    pub gone : HasGone position deeds
+    pub thread : PathThread code log
+    pub event : Event
+    pub among : Contains thread.walk.events event
+    pub at : place code log w thread.index event ≡ position
+
+  -- such an event, which its thread is about to do
+  pub record NextEvent : Type 0 where
+    pub here : EventAt
+    pub open here use *
+    pub steps : steps_in here.deeds here.thread.walk.name ≡ here.event.step

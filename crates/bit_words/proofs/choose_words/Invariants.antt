@@ -1,12 +1,12 @@
 use Rattle.std.proofs.Common.{◌≡◌, ◌*◌, length}
-use Rattle.bit_gates.specs.Folded.{IsLarger, chosen}
+use Rattle.bit_gates.specs.Folded.{IsLarger, conditional}
 use Rattle.bit_words.specs.Words.{AreWithin, chosen_words, made_place}
 use Rattle.bit_words.proofs.Loops.{IsReached}
 use Rattle.bit_words.proofs.choose_words.Given as goal
 
 abbrev pub invariant-loop-place : goal.invariant-loop-place
 invariant-loop-place l = record {
-  reached : IsReached (λ h a b. made_place (chosen h l.condition a b)) (chosen_words l.condition l.initial.circuit l.initial.word l.other) l.place l.circuit l.word
+  reached : IsReached (λ h a b. made_place (conditional h l.condition a b)) (chosen_words l.condition l.initial.circuit l.initial.word l.other) l.place l.circuit l.word
       l.other;
   within : AreWithin l.circuit.vars l.word;
   length : length l.word ≡ length l.initial.word;

@@ -16,7 +16,7 @@ use Rattle.cdcl_steps.specs.declared.loading.Loaded.{Loaded}
 use Rattle.cdcl_steps.specs.declared.loading.Loaded.TheVariants.{Taken, Refuted}
 use Rattle.cdcl_lines.specs.Keeping.{Represents, KeepsAll}
 use Rattle.cdcl_lines.specs.Fresh.{AreFresh}
-use Rattle.cdcl_core.specs.Searches.{checked, adds, added_in, deleted_in, DeletesFew, IsSolution}
+use Rattle.cdcl_core.specs.Searches.{checked, adds, count_of_added, count_of_deleted, DeletesFew, IsSolution}
 use Rattle.tc_limits.specs.declared.limits.TheConstants.{BUDGET}
 use Rattle.cdcl_core.specs.declared.state.State.{State}
 use Rattle.cdcl_core.specs.declared.turns.Step.{Step}
@@ -47,10 +47,10 @@ pub record BelongTogether (f : Formula) (cs : List Clause) (lines : List Line) (
   pub represents : Represents cs (checked f lines)
   pub vars : (checked f lines).vars ≡ f.vars
   pub unclosed : (checked f lines).closed ≡ false
-  pub counted : n ≡ added_in lines
+  pub counted : n ≡ count_of_added lines
   pub not_empty : n ≡ count_by adds lines
   pub many : n ≤ BUDGET
-  pub deleted : d ≡ deleted_in lines
+  pub deleted : d ≡ count_of_deleted lines
   pub half : 2 * d ≤ n
   pub bound : HasNearlyBound f.vars n d
   pub kept : kept_in cs + d ≡ length cs
@@ -70,7 +70,7 @@ pub record IsLive (s : State) : Type 0 where
 pub record Ended (f : Formula) (lines : List Line) (n : ℕ) : Type 0 where
   pub passes : (checked f lines).fault ≡ None
   pub closed : (checked f lines).closed ≡ true
-  pub counted : n ≡ added_in lines
+  pub counted : n ≡ count_of_added lines
   pub many : n ≤ BUDGET
   pub fresh : AreFresh f lines
   pub few_deleted : DeletesFew f lines

@@ -6,7 +6,7 @@ use Rattle.path_log.specs.Texts.{IsOfOther}
 use Rattle.tc_io.specs.Outside.{ShelfTells, GaveReading, FailedReading}
 use Rattle.refute_check.specs.Laws.{whole_lines}
 use Rattle.refute_check.specs.Reading.{Reading, Reads, beginning, first_breach}
-use Rattle.refute_check.specs.Refutations.{Checking, after, start, verdict}
+use Rattle.refute_check.specs.Refutations.{Checking, state_after_line, start, verdict}
 use Rattle.refute_check.specs.declared.head.Head.{Head}
 use Rattle.refute_check.specs.declared.verdict.CheckFault.{CheckFault}
 use Rattle.refute_check.specs.declared.verdict.Checked.{Checked}
@@ -39,7 +39,7 @@ IsWhyUnchecked program code run _ = ⊥
 pub record IsCheckedSo (program : List ℕ) (code : Code) (run : StoredLog) (head : Head) (lines : List Line) (checker : Checking) : Type 0 where
   pub recorded : IsOfOther program run → ⊥
   pub within : IsWithin code run.log
-  pub is : checker ≡ fold after (start (head_clauses head code run.log)) lines
+  pub is : checker ≡ fold state_after_line (start (head_clauses head code run.log)) lines
 
 -- the checker's lines pass and prove this
 abbrev pub IsShown : Option ℕ → Checking → Shown → Type 0
@@ -58,7 +58,7 @@ counts_switches _ = false
 
 -- the stage after another line
 abbrev pub stage_after : Stage → Line → Stage
-stage_after (Checks most checker) line = Checks most (after checker line)
+stage_after (Checks most checker) line = Checks most (state_after_line checker line)
 stage_after stage line = stage
 
 -- the checker may take another line

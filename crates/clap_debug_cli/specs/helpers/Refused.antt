@@ -5,7 +5,7 @@ use Rattle.run_log.specs.Logs.{StoredLog}
 use Rattle.path_log.specs.Texts.{IsOfOther}
 use Rattle.tc_code.specs.Code.{Code}
 use Rattle.tc_compile.specs.Programs.{IsCodeOf, IsRefusal}
-use Rattle.tc_io.specs.Outside.{ShelfTells, KeptPart, closed}
+use Rattle.tc_io.specs.Outside.{ShelfTells, KeptPart, without_reading}
 use Rattle.tc_record.specs.Seeded.{Ended}
 use Rattle.run_log.specs.Logs.{Log}
 use Rattle.path_walk.specs.declared.fault.WalkFault.TheVariants as walk
@@ -90,7 +90,7 @@ IsEndOf run _ = ⊥
 
 -- why a result wasn't kept under its name
 abbrev pub IsWhyUnkept : (name text : List ℕ) → ShelfTells → ShelfTells → Answer → Type 0
-IsWhyUnkept name text old new NoMemory = new ≡ closed old
+IsWhyUnkept name text old new NoMemory = new ≡ without_reading old
 IsWhyUnkept name text old new (WriteFault lost) = (lost ≡ name) × KeptPart old new name text
 IsWhyUnkept name text old new _ = ⊥
 

@@ -1,4 +1,4 @@
--- The names that the words of a call have.
+-- The names that appear in the words of a call.
 use Rattle.std.specs.Prelude.{true, [], ◌∷◌, codes}
 use Rattle.clap.specs.Words.{App, new_app, new_rule}
 use Rattle.clap.specs.Simple.{new_shape}

@@ -30,12 +30,12 @@ abbrev pub schedule_fault : ScheduleFault → Fault
 schedule_fault (schedule.Form line) = Refused (ScheduleRefused line)
 schedule_fault schedule.Memory = Memory
 
--- there is no memory, or the file shows nothing for this reason
+-- memory ran out, or this is the reason why the file shows nothing
 abbrev pub IsWhyNoStory : Code → (program file : List ℕ) → Fault → Type 0
 IsWhyNoStory code program file (Refused refusal) = IsFileRefusal code program file refusal
 IsWhyNoStory code program file Memory = Unit {0}
 
--- the same of two files
+-- the same for the bytes of two files
 abbrev pub IsWhyNotShown : (program file : List ℕ) → Fault → Type 0
 IsWhyNotShown program file (Refused refusal) = IsRefusalOf program file refusal
 IsWhyNotShown program file Memory = Unit {0}

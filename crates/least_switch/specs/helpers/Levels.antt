@@ -14,7 +14,7 @@ use Rattle.bit_order.specs.Comparators.{ordered}
 use Rattle.bit_order.specs.Layouts.{Layout, base}
 use Rattle.bit_blast.specs.Blasted.{Blasted, blast, impossible}
 use Rattle.bit_blast.specs.Sizes.{whole_size}
-use Rattle.switch_order.specs.Levels.{levelled}
+use Rattle.switch_order.specs.Levels.{with_levels}
 use Rattle.switch_order.specs.Sizes.{size_of}
 use Rattle.switch_runs.specs.Worlds.{failing_of, threads_of}
 use Rattle.switch_clauses.specs.Clauses.{asked_of_all}
@@ -26,7 +26,7 @@ pub record StandsOnOrder (b : Blasted) : Type 0 where
 -- clauses with levels up to `most`, and their layout
 pub record AreLevelled (paths : Paths) (b : Blasted) (most : ℕ) (made : Layout × Formula) : Type 0 where
   pub layout : made.0 ≡ b.layout
-  pub clauses : made.1 ≡ levelled b.layout (threads_of paths) (failing_of paths) most b.clauses
+  pub clauses : made.1 ≡ with_levels b.layout (threads_of paths) (failing_of paths) most b.clauses
   pub variables : (base made.0).vars ≤ made.1.vars
 
 -- a formula over an order that can ask about every two events of the paths

@@ -18,53 +18,53 @@ use Rattle.log_walk.specs.declared.bounds.LeftOut.{LeftOut}
 use Rattle.log_walk.specs.declared.rest.Awaited.{Awaited}
 use Rattle.log_walk.specs.declared.told.Position.{Position}
 
--- where a thread is, by its place and the outcomes that are left
+-- the position of a thread: its place and the outcomes that are left
 abbrev pub position_of : List Bool → Position → Onward
 position_of outcomes at = record { place = at.place; outcomes = drop at.used outcomes }
 
--- what was told stays told
+-- limits that were reported as reached stay reported
 pub record IsKept (before after : LeftOut) : Type 0 where
   pub outcomes : before.outcomes ≡ true → after.outcomes ≡ true
   pub steps : before.steps ≡ true → after.steps ≡ true
   pub depth : before.depth ≡ true → after.depth ≡ true
   pub threads : before.threads ≡ true → after.threads ≡ true
 
--- what was left out, with what a search for a path left out
+-- what was left out, including what a search for a path left out
 abbrev pub with_cut : LeftOut → Cut → LeftOut
 with_cut out cut = record out { outcomes = out.outcomes || cut.outcomes; steps = out.steps || cut.steps }
 
--- the paths that an awaited thread may take
+-- the scope of the search for an awaited thread's path
 abbrev pub scope_of : Bounds → Rest → Awaited → Scope
 scope_of bounds rest next = record { function = next.function; aim = aim_of bounds.kind rest.ends next.end; most = bounds.most }
 
--- whether a thread of this name may be added; where it may not, it is told why
+-- whether a thread of this name may be added; if not, the limit in its way is reported
 abbrev pub IsOpen : Name → ℕ → LeftOut → Bool → Type 0
 IsOpen n room out true = (1 ≤ room) × (length n ≤ DEPTH)
 IsOpen n room out false = ((room ≡ 0) × (out.threads ≡ true)) ⊎ ((DEPTH < length n) × (out.depth ≡ true))
 
--- the first of the threads that were given last, and those behind it
+-- the first thread of the log given last, and below it the other threads
 abbrev pub first_of : Option (List ThreadPath) → Option ThreadPath
 first_of last = option_and_then (λ ts. slice_get ts 0) last
 
 abbrev pub others_of : Option (List ThreadPath) → Option (List ThreadPath)
 others_of last = option_map (drop 1) last
 
--- threads to look for
+-- a test for the threads to look for
 abbrev pub Wanted : Type 0
 Wanted = List ThreadPath → Bool
 
--- whether there is a first thread, whose path is this one or comes after it
+-- whether there is a first thread, and its path is this one or a later one
 abbrev pub begin_from : Path → Wanted
 begin_from start [] = false
 begin_from start (t ∷ ts) = comes_from start t.path
 
--- whether there is a first thread, with this path, and the others are to come
+-- whether there is a first thread, with this path, and the others come after those given last
 abbrev pub behind : Path → Option (List ThreadPath) → Wanted
 behind p last [] = false
 behind p last (t ∷ ts) = (comes_from p t.path && comes_from t.path p) && are_to_come last ts
 
 module _ (code : Code) (bounds : Bounds) (rest : Rest) (wanted : Wanted) (room : ℕ) (out : LeftOut) where
-  -- these are the first
+  -- these are the first threads that complete the log and pass the test
   pub record AreFirst (ts : List ThreadPath) : Type 0 where
     pub make_up : MakeUp code bounds.kind rest ts
     pub meets : wanted ts ≡ true
@@ -73,7 +73,7 @@ module _ (code : Code) (bounds : Bounds) (rest : Rest) (wanted : Wanted) (room :
     pub others : (us : List ThreadPath) → MakeUp code bounds.kind rest us → wanted us ≡ true
         → (are_from ts us ≡ true) ⊎ IsLeftOut bounds.most room out us
 
-  -- there are none
+  -- no threads complete the log and pass the test, except those left out
   abbrev pub AreNone : Type 0
   AreNone = (us : List ThreadPath) → MakeUp code bounds.kind rest us → wanted us ≡ true → IsLeftOut bounds.most room out us
 
@@ -82,11 +82,11 @@ pub record IsTaken (code : Code) (bounds : Bounds) (rest : Rest) (next : Awaited
   pub may : MayTake code next.function (aim_of bounds.kind rest.ends next.end) p
   pub within : IsWithin bounds.most (record { name = next.name; path = p })
 
--- threads that were given last, if any were, make up the rest within the bounds
+-- the threads given last, if there are any, make up the rest within the bounds
 abbrev pub CanFollow : Code → Bounds → Rest → Option (List ThreadPath) → Type 0
 CanFollow code bounds rest last = IfSome last (λ ts. MakeUp code bounds.kind rest ts × All (IsWithin bounds.most) ts)
 
--- the first were added, or there are none
+-- the first threads were added after those before
 pub record IsAdded (code : Code) (bounds : Bounds) (rest : Rest) (wanted : Wanted) (room : ℕ) (before after : List ThreadPath) (out : LeftOut)
     : Type 0 where
   pub added : List ThreadPath

@@ -8,16 +8,16 @@ use Rattle.tc_tree.specs.declared.word.Word.{Word}
 use Rattle.next_tokens.specs.Next.{AreProgram, IsStuck}
 use Rattle.next_tokens.specs.declared.stuck.Stuck.{Stuck}
 
--- the text has tokens of which this holds
+-- the text has tokens with this property
 abbrev pub HasTokens : (text : List ℕ) → (List Token → Type 0) → Type 0
 HasTokens text P = (tokens : List Token) × AreTokens 3 text tokens × P tokens
 
--- where the tokens of a text stop being a program's, or nothing if they are one
+-- the result of the search: the place where tokens stop being a program's, or none if they are one
 abbrev pub IsSearched : (text : List ℕ) → Option Stuck → Type 0
 IsSearched text stuck = MatchOption stuck
     (HasTokens text (λ tokens. AreProgram (words_of tokens)))
     (λ s. HasTokens text (λ tokens. IsStuck (words_of tokens) s))
 
--- `left` is the number of words from their fault on, or nothing if they are a program
+-- `left` is the number of words from their fault on, or none if they are a program
 abbrev pub IsLeft : List Word → Option ℕ → Type 0
 IsLeft words left = MatchOption left (AreProgram words) (λ n. (n ≤ length words) × IsSyntaxFault 3 words (length words - n))

@@ -3,4 +3,4 @@ use Rattle.path_laws.proofs.Logs.{reproduced_alive}
 use Rattle.path_laws.proofs.dead_logs_are_not_reproduced.Goals as goal
 
 pub returns : goal.returns
-returns g c = λ machine log moves dead r. true≢false (sym dead ∙ reproduced_alive machine.code machine.ops machine.model machine.bound machine.laws machine.lawful log moves r)
+returns g c = λ machine log moves dead r. true≢false (sym dead ∙ reproduced_alive machine log moves r)

@@ -19,25 +19,24 @@ use Rattle.run_history.specs.Told.{steps_in}
 use Rattle.run_history.specs.pending.Deeds.{is_bar_between, has_bar_between}
 use Rattle.run_history.proofs.of_pending.In.{In, in_at, in_split, any_in, in_any}
 use Rattle.path_walk.specs.Events.{kind_with}
-use Rattle.path_walk.specs.Fits.{fails_in, Fits}
-use Rattle.path_walk.specs.Marks.{Marks, unmarked, marked, marks_after}
-use Rattle.path_walk.specs.Paths.{Walk}
+use Rattle.path_walk.specs.Fits.{fails_in}
+use Rattle.path_walk.specs.Marks.{Marks, marks_at_start, marks_after_instr, marks_after}
 use Rattle.path_walk.specs.Steps.{Step, step_at, steps_at}
 use Rattle.path_walk.specs.declared.event.Event.{Event}
 use Rattle.path_walk.specs.declared.event.EventKind.{EventKind}
 use Rattle.path_laws.specs.Setting.{Setting}
-use Rattle.path_laws.specs.history.Along.{IsAlongPaths, IsThread}
 use Rattle.path_laws.proofs.of_history.Walks.{IsWalk, walk_is}
 use Rattle.path_laws.proofs.of_history.Next.{path_step}
 use Rattle.path_laws.proofs.Local.{marks-append}
 use Rattle.path_laws.proofs.of_events.Events.{at_step, event_within}
 use Rattle.path_laws.proofs.of_events.Steps.{IsStep, step_is, deed_of}
+use Rattle.path_laws.specs.history.Along.{HistoryAlong, PathThread}
 
 abbrev is_bar : Instr → Bool
 is_bar Stbar = true
 is_bar _ = false
 
--- a bar is one instruction's
+-- only one instruction is a bar
 stbar_is : (i : Instr) → is_bar i ≡ true → i ≡ Stbar
 stbar_is Stbar e = refl
 stbar_is i e = absurd (true≢false (sym e))
@@ -56,14 +55,14 @@ bar_is t (Nonzero x) e = absurd (site_is_no_bar _ e)
 bar_is t (InRange x) e = absurd (site_is_no_bar _ e)
 bar_is t i e = absurd cc
 
--- it adds one, and nothing else does
-bars_more : (m : Marks) (i : Instr) → (marked m i).bars ≡ m.bars + cond (is_bar i) 1 0
+-- a bar adds one, and nothing else does
+bars_more : (m : Marks) (i : Instr) → (marks_after_instr m i).bars ≡ m.bars + cond (is_bar i) 1 0
 bars_more m Stbar = refl
 bars_more m i = omega arith
 
 -- The bars before a step.
 
--- what is at a place within a list
+-- there is an element at each place within a list
 there : {X : Type 0} (xs : List X) (k : ℕ) → k < length xs → (x : X) × (slice_get xs k ≡ Some x)
 there xs k few = elim (slice_get_cases xs k).1 [ inl is ↦ (is.0, is.2) | inr past ↦ absurd (omega (arith, few, past.0)) ]
 
@@ -80,7 +79,7 @@ module _ (m : Marks) (ss : List Step) where
       ∙ ap (λ (x : Marks). x.bars) (marks-append m (take k ss) (s ∷ []))
       ∙ bars_more (marks_after m (take k ss)) s.instr
 
-  -- as many where no bar stands between
+  -- two places have the same number of bars before them if there is no bar between
   bars_same : (d a : ℕ) → a + d ≤ length ss → ((i : ℕ) (s : Step) → a ≤ i → i < a + d → slice_get ss i ≡ Some s → is_bar s.instr ≡ false)
       → bars_at (a + d) ≡ bars_at a
   bars_same zero a few none = let same : a + 0 ≡ a = omega arith in ap bars_at same
@@ -91,7 +90,7 @@ module _ (m : Marks) (ss : List Step) where
       let no = none (a + d) s.0 (omega arith) (omega arith) s.1 in
       ap bars_at next ∙ bars_next (a + d) s.0 s.1 ∙ ap₂ (λ x b. x + cond b 1 0) rest no ∙ omega arith
 
-  -- never fewer
+  -- there are never fewer bars later
   bars_rise : (d a : ℕ) → a + d ≤ length ss → bars_at a ≤ bars_at (a + d)
   bars_rise zero a few = let same : a ≡ a + 0 = omega arith in let e = ap bars_at same in omega (arith, e)
   bars_rise (suc d) a few =
@@ -101,7 +100,7 @@ module _ (m : Marks) (ss : List Step) where
       let one = ap bars_at next ∙ bars_next (a + d) s.0 s.1 in
       omega (arith, rest, one)
 
-  -- and more behind a bar
+  -- there are more bars after a bar
   bars_grow : (a i b : ℕ) (s : Step) → a ≤ i → i < b → b ≤ length ss → slice_get ss i ≡ Some s → is_bar s.instr ≡ true → bars_at a < bars_at b
   bars_grow a i b s lo hi few at bar =
       let one = bars_next i s at ∙ ap (λ x. bars_at i + cond x 1 0) bar in
@@ -140,27 +139,28 @@ is_between n j i k took other lo hi =
     ∙ ap (λ b. true && b && nat_lt i k) (lt-ltb j i lo)
     ∙ ap (λ b. true && true && b) (lt-ltb i k hi)
 
--- a step that is an event is no bar
+-- a bar that is an event fails
 event_is_no_bar : (m : Marks) (i : Instr) (fails : Bool) (asked : EventKind) → kind_with m i fails ≡ Some asked → is_bar i ≡ true → fails ≡ true
 event_is_no_bar m i true asked e bar = refl
 event_is_no_bar m i false asked e bar = absurd (none-some asked (ap (λ x. kind_with m x false) (sym (stbar_is i bar)) ∙ e))
 
-module _ {B : Type 0} (setting : Setting B) (fits : Fits setting.code setting.log) (h : List Deed)
-    (along : IsAlongPaths setting.ops.buffered setting.bound setting.code setting.log h) (j : ℕ) (w : Walk) (there_at : IsThread setting.code setting.log j w) where
+module _ {B : Type 0} (setting : Setting B) (history : HistoryAlong setting) (thread : PathThread setting.code setting.log) where
   open setting use {code, log, log_is as is}
+  open history use {deeds as h, fits}
+  open thread use {walk as w}
 
   abbrev walk : IsWalk code log w
-  walk = walk_is code log is fits j w there_at
+  walk = walk_is code log is fits thread
 
   abbrev ss : List Step
   ss = steps_at code w.function w.places
 
   abbrev start : Marks
-  start = unmarked code w.function
+  start = marks_at_start code w.function
 
-  -- a deed's step on the path does the instruction that asks for it
+  -- the path has the instruction of a deed's step
   step_on : (older : List Deed) (i : ℕ) (r : Request) (took : ℤ) (other : Option Name)
-      (s : IsStep setting fits h along j w there_at older i r took other)
+      (s : IsStep setting history thread older i r took other)
       → slice_get ss i ≡ Some (record { place = s.next.local.instruction; instr = s.next.instr })
   step_on older i r took other s =
       path_step code w i s.next.local.instruction s.next.instr (ap (slice_get w.places) s.may.number ∙ s.next.place) s.next.at
@@ -186,20 +186,20 @@ module _ {B : Type 0} (setting : Setting B) (fits : Fits setting.code setting.lo
         let p = any_in (is_bar_between w.name x.step y.step) h has in
         let b = bar_between w.name x.step y.step p.one p.passes in
         let at = in_split p.one h p.there in
-        let s = step_is setting fits h along j w there_at at.older at.newer b.number Bar b.took b.other
+        let s = step_is setting history thread at.older at.newer b.number Bar b.took b.other
         (at.there ∙ ap (λ d. at.older ++ d ∷ at.newer) b.is) in
         let grow = bars_grow start ss x.step b.number y.step _ (omega (arith, b.after)) b.before (omega (arith, within))
         (step_on at.older b.number Bar b.took b.other s) (bar_is s.next.local s.next.instr s.asks) in
         omega (arith, grow, x_bars, y_bars)
 
-    -- where none stands in the history none stands on the path
+    -- if the history has no bar between two steps, neither has the path
     no_bar_at : has_bar_between h w.name x.step y.step ≡ false → (i : ℕ) (s : Step) → x.step ≤ i → i < y.step → slice_get ss i ≡ Some s
         → is_bar s.instr ≡ true → ⊥
     no_bar_at none i s lo hi at bar = by (nat_lt x.step i) refl
       where
         by : (b : Bool) → nat_lt x.step i ≡ b → ⊥
         by true e =
-            let d = deed_of setting fits h along j w there_at i (omega (arith, hi, few)) in
+            let d = deed_of setting history thread i (omega (arith, hi, few)) in
             let same : s.instr ≡ d.step.next.instr =
             ap (λ (z : Step). z.instr) (same_Some s _ (sym at ∙ step_on d.older i d.request d.took d.other d.step)) in
             let asks : d.request ≡ Bar = sym d.step.asks ∙ ap (request d.step.next.local) (sym same ∙ stbar_is s.instr bar) in

@@ -17,8 +17,8 @@ use Rattle.run_history.specs.History.{Deed, Did, Drained, same}
 use Rattle.run_history.specs.Told.{is_thread_in, steps_in}
 use Rattle.run_history.proofs.Threads.{none_done}
 use Rattle.run_history.proofs.of_pending.In.{In, in_at, in_split, in_filter, from_filter, in_mapped, from_mapped}
-use Rattle.path_walk.specs.Fits.{fails_in, Fits}
-use Rattle.path_walk.specs.Marks.{unmarked}
+use Rattle.path_walk.specs.Fits.{fails_in}
+use Rattle.path_walk.specs.Marks.{marks_at_start}
 use Rattle.path_walk.specs.Paths.{Walk}
 use Rattle.path_walk.specs.Steps.{step_at, steps_at}
 use Rattle.path_walk.specs.declared.event.Event.{Event}
@@ -26,8 +26,8 @@ use Rattle.path_walk.specs.declared.event.EventKind.{EventKind}
 use Rattle.path_laws.specs.Setting.{Setting}
 use Rattle.path_laws.specs.Deeds.{kind_of, EventDone, done_as, event_by, events_before}
 use Rattle.path_laws.proofs.Deeds.{deeds_are_events}
-use Rattle.path_laws.specs.history.Along.{IsAlongPaths, IsThread, HasDoneAll}
-use Rattle.path_laws.proofs.of_history.Told.{RunOf, run_of, thread_of, steps_of}
+use Rattle.path_laws.specs.history.Along.{HasDoneAll, HistoryAlong, PathThread}
+use Rattle.path_laws.proofs.of_history.Told.{RunOf, thread_of, steps_of, its_run}
 use Rattle.path_laws.proofs.of_history.Walks.{IsWalk, walk_is}
 use Rattle.path_laws.specs.events.Done.{IsDoneIn}
 use Rattle.path_laws.proofs.of_events.Lists.{in_map, from_map, each_of, all_pass}
@@ -37,7 +37,7 @@ use Rattle.path_laws.proofs.of_events.Steps.{step_is}
 abbrev the_done : EventDone → EventDone
 the_done e = e
 
--- a deed is a thread's step of a number, and asks this
+-- a deed is the step of a thread with this number, and has this kind
 record IsDeedOf (d : Deed) (n : Name) (k : ℕ) (asked : EventKind) : Type 0 where
   request : Request
   took : ℤ
@@ -45,7 +45,7 @@ record IsDeedOf (d : Deed) (n : Name) (k : ℕ) (asked : EventKind) : Type 0 whe
   is : d ≡ Did n k request took other
   asks : kind_of request other ≡ Some asked
 
--- so is one that tells of an event
+-- a deed that gives an event is the step of that event
 deed_tells : (n : Name) (d : Deed) (e : EventDone) → event_by n d ≡ Some e → IsDeedOf d n e.step e.kind
 deed_tells n (Drained q k c v) e told = absurd (none-some e told)
 deed_tells n (Did q k r v o) e told = by (same n q) refl told
@@ -68,7 +68,7 @@ deed_tells n (Did q k r v o) e told = by (same n q) refl told
     by true s m = asked_by (kind_of r o) refl s m
     by false s m = absurd (none-some e m)
 
--- where it stands in a history, that is done
+-- the event of a deed in a history is done in that history
 done_by : (h : List Deed) (d : Deed) (n : Name) (k : ℕ) (asked : EventKind) → In d h → IsDeedOf d n k asked → IsDoneIn h n k asked
 done_by h d n k asked i e =
     let s = in_split d h i in
@@ -85,11 +85,11 @@ done_by h d n k asked i e =
 module _ (code : Code) (log : Log) (w : Walk) (k : IsWalk code log w) where
   -- the events of a thread are those of its steps
   abbrev pub AtStep : Event → Type 0
-  AtStep x = IsEventAt (fails_in log w.name) 0 (unmarked code w.function) (steps_at code w.function w.places) x
+  AtStep x = IsEventAt (fails_in log w.name) 0 (marks_at_start code w.function) (steps_at code w.function w.places) x
 
   pub at_step : (x : Event) → In x w.events → AtStep x
   at_step x i =
-      event_is_at code w.function (fails_in log w.name) 0 (unmarked code w.function) (steps_at code w.function w.places) x
+      event_is_at code w.function (fails_in log w.name) 0 (marks_at_start code w.function) (steps_at code w.function w.places) x
       (subst (In x) k.events i)
 
   pub event_within : (x : Event) → In x w.events → x.step < length w.places
@@ -98,17 +98,18 @@ module _ (code : Code) (log : Log) (w : Walk) (k : IsWalk code log w) where
       let within = slice_get_within (steps_at code w.function w.places) e.place e.step e.there in
       omega (arith, within, e.number, length-map w.places (step_at code w.function))
 
-module _ {B : Type 0} (setting : Setting B) (fits : Fits setting.code setting.log) (h : List Deed)
-    (along : IsAlongPaths setting.ops.buffered setting.bound setting.code setting.log h) (j : ℕ) (w : Walk) (there : IsThread setting.code setting.log j w) where
+module _ {B : Type 0} (setting : Setting B) (history : HistoryAlong setting) (thread : PathThread setting.code setting.log) where
   open setting use {machine, ops, code, lawful, log, log_is as is}
+  open history use {deeds as h, fits}
+  open thread use {walk as w}
 
   abbrev r : RunOf machine log h
-  r = run_of machine log h along
+  r = its_run setting history
 
   abbrev k : IsWalk code log w
-  k = walk_is code log is fits j w there
+  k = walk_is code log is fits thread
 
-  -- a thread that has done a step is there
+  -- a thread that has done a step exists
   pub there_by_step : 0 < steps_in h w.name → (t : Thread B) × (fin.get r.state.threads w.name ≡ Some t)
   there_by_step some = by (fin.get r.state.threads w.name) refl
     where
@@ -116,7 +117,7 @@ module _ {B : Type 0} (setting : Setting B) (fits : Fits setting.code setting.lo
       by None none = absurd (omega (arith, some, none_done ops code r.state h w.name r.told.tells.deeds.buffers.threads none))
       by (Some t) here = (t, here)
 
-  -- its events so far
+  -- the events of a thread so far
   told_events : (t : Thread B) → fin.get r.state.threads w.name ≡ Some t → filter_map (event_by w.name) h ≡ events_before (steps_in h w.name) w.events
   told_events t here =
       let p = k.thread in
@@ -134,12 +135,12 @@ module _ {B : Type 0} (setting : Setting B) (fits : Fits setting.code setting.lo
       let from = from_mapped (event_by w.name) (done_as x) h told in
       done_by h from.of w.name x.step x.kind from.there (deed_tells w.name from.of (done_as x) from.gives)
 
-  -- a step that asks something is an event
+  -- a step that has a kind is an event
   pub done_event : (n : ℕ) (asked : EventKind) → IsDoneIn h w.name n asked
       → (x : Event) × In x w.events × (x.step ≡ n) × (x.kind ≡ asked) × (n < steps_in h w.name)
   done_event n asked d =
       let deed = Did w.name n d.request d.took d.other in
-      let s = step_is setting fits h along j w there d.older d.newer n d.request d.took d.other d.there in
+      let s = step_is setting history thread d.older d.newer n d.request d.took d.other d.there in
       let t = there_by_step (omega (arith, s.done)) in
       let tells : event_by w.name deed ≡ Some (the_done (record { step = n; kind = asked })) =
       ap (λ b. cond b (option_map (λ asked. the_done (record { step = n; kind = asked })) (kind_of d.request d.other)) None) (same_self w.name w.name refl)
@@ -150,7 +151,7 @@ module _ {B : Type 0} (setting : Setting B) (fits : Fits setting.code setting.lo
       let kept = from_filter (λ (e : Event). nat_lt e.step (steps_in h w.name)) from.0 w.events from.1 in
       (from.0, kept.0, ap (λ (e : EventDone). e.step) from.2, ap (λ (e : EventDone). e.kind) from.2, s.done)
 
-  -- where all steps are done all events are
+  -- if all steps are done, all events are
   pub whole_events : is_thread_in h w.name ≡ true → HasDoneAll h w → filter_map (event_by w.name) h ≡ map done_as w.events
   whole_events is_there done =
       let t = thread_of machine log h r w.name is_there in

@@ -1,4 +1,4 @@
--- What is in lists.
+-- Elements of lists.
 use Rattle.std.proofs.Common.{◌≡◌, ◌∙◌, inl, inr, ℕ, zero, suc, ◌<◌, List, [], ◌∷◌, length, map, Bool, true, cond, Some, refl, ap, subst, arith, slice_index_or}
 use Rattle.std.specs.Prelude.{slice_get}
 use Rattle.std.specs.List.{AllByRecursion as Each, Contains, filter}
@@ -15,13 +15,13 @@ from_map f y [] i = absurd i
 from_map f y (x ∷ xs) (inl e) = (x, inl refl, e)
 from_map f y (x ∷ xs) (inr i) = let rest = from_map f y xs i in (rest.0, inr rest.1, rest.2)
 
--- what is at a place is in the list
+-- the element at a place is in the list
 pub in_place : {X : Type 0} (x : X) (xs : List X) (k : ℕ) → slice_get xs k ≡ Some x → In x xs
 in_place x [] k at = absurd (none-some x at)
 in_place x (y ∷ xs) zero at = inl (same_Some y x at)
 in_place x (y ∷ xs) (suc k) at = inr (in_place x xs k at)
 
--- as std says it
+-- the same in the terms of the library
 pub contains_in : {X : Type 0} (x : X) (xs : List X) → In x xs → Contains xs x
 contains_in x [] i = absurd i
 contains_in x (y ∷ xs) (inl e) = (0, omega arith, e)
@@ -35,7 +35,7 @@ in_index x (y ∷ xs) (suc k) lt e = inr (in_index x xs k (omega (arith, lt)) e)
 pub in_contains : {X : Type 0} (x : X) (xs : List X) → Contains xs x → In x xs
 in_contains x xs c = in_index x xs c.0 c.1 c.2
 
--- what each of a list is, one that is in it is
+-- a property of each element of a list holds for each one in it
 pub each_in : {X : Type 0} (P : X → Type 0) (x : X) (xs : List X) → Each P xs → In x xs → P x
 each_in P x [] each i = absurd i
 each_in P x (y ∷ xs) each (inl e) = subst P e each.0
@@ -45,7 +45,7 @@ pub each_of : {X : Type 0} (P : X → Type 0) (xs : List X) → ((x : X) → In 
 each_of P [] all = tt
 each_of P (x ∷ xs) all = (all x (inl refl), each_of P xs (λ y i. all y (inr i)))
 
--- all pass
+-- if all elements pass, the filtered list is the same
 pub all_pass : {X : Type 0} (p : X → Bool) (xs : List X) → Each (λ x. p x ≡ true) xs → filter p xs ≡ xs
 all_pass p [] each = refl
 all_pass p (x ∷ xs) each = ap (λ b. cond b (x ∷ filter p xs) (filter p xs)) each.0 ∙ ap (λ ys. x ∷ ys) (all_pass p xs each.1)

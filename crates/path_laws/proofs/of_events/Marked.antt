@@ -7,7 +7,7 @@ use Rattle.std.proofs.lemmas.Bool.{eq-eqb}
 use Rattle.std.proofs.lemmas.Option.{none-some, same_Some}
 use Rattle.tc_code.specs.Code.{Code, line_at}
 use Rattle.path_walk.specs.Steps.{Step}
-use Rattle.path_walk.specs.Marks.{Marks, Marked, marked, marks_after, marked_from}
+use Rattle.path_walk.specs.Marks.{Marks, Marked, marks_after_instr, marks_after, marked_from}
 use Rattle.path_walk.specs.Events.{kind_with, event_of, events_of}
 use Rattle.path_walk.specs.declared.event.Event.{Event}
 use Rattle.path_walk.specs.declared.event.EventKind.{EventKind}
@@ -33,11 +33,11 @@ module _ (code : Code) (f : ℕ) (fails : Bool) where
   abbrev pub events_from : ℕ → Marks → List Step → List Event
   events_from j m ss = events_of code f (marked_from fails j m ss)
 
-  -- the event of a step, by what it asks
+  -- the event of a step, by its kind
   abbrev pub event_at : ℕ → Step → Marks → EventKind → Event
   event_at j s m asked = record { step = j; line = unwrap_or (line_at code f s.place) 0; kind = asked; bars = m.bars }
 
-  further : (j : ℕ) (m : Marks) (s : Step) (ss : List Step) (x : Event) → IsEventAt fails (j + 1) (marked m s.instr) ss x → IsEventAt fails j m (s ∷ ss) x
+  further : (j : ℕ) (m : Marks) (s : Step) (ss : List Step) (x : Event) → IsEventAt fails (j + 1) (marks_after_instr m s.instr) ss x → IsEventAt fails j m (s ∷ ss) x
   further j m s ss x e = record {
     place = suc e.place;
     step = e.step;
@@ -50,19 +50,19 @@ module _ (code : Code) (f : ℕ) (fails : Bool) where
   pub event_is_at : (j : ℕ) (m : Marks) (ss : List Step) (x : Event) → In x (events_from j m ss) → IsEventAt fails j m ss x
   event_is_at j m [] x i = absurd i
   event_is_at j m (s ∷ ss) x i =
-      by (kind_with m s.instr (fails && length ss == 0)) refl i (λ later. further j m s ss x (event_is_at (j + 1) (marked m s.instr) ss x later))
+      by (kind_with m s.instr (fails && length ss == 0)) refl i (λ later. further j m s ss x (event_is_at (j + 1) (marks_after_instr m s.instr) ss x later))
     where
       here : (asked : EventKind) → kind_with m s.instr (fails && length ss == 0) ≡ Some asked → IsEventAt fails j m (s ∷ ss) (event_at j s m asked)
       here asked e = record { place = 0; step = s; there = refl; number = omega arith; asks = e; bars = refl }
 
       by : (o : Option EventKind) → kind_with m s.instr (fails && length ss == 0) ≡ o
-          → In x (cons_option (option_map (event_at j s m) o) (events_from (j + 1) (marked m s.instr) ss))
-          → (In x (events_from (j + 1) (marked m s.instr) ss) → IsEventAt fails j m (s ∷ ss) x) → IsEventAt fails j m (s ∷ ss) x
+          → In x (cons_option (option_map (event_at j s m) o) (events_from (j + 1) (marks_after_instr m s.instr) ss))
+          → (In x (events_from (j + 1) (marks_after_instr m s.instr) ss) → IsEventAt fails j m (s ∷ ss) x) → IsEventAt fails j m (s ∷ ss) x
       by None e i rest = rest i
       by (Some asked) e (inl same) rest = subst (IsEventAt fails j m (s ∷ ss)) same (here asked e)
       by (Some asked) e (inr i) rest = rest i
 
-  -- a step that asks something is an event
+  -- a step with the kind of an event is an event
   pub event_there : (j : ℕ) (m : Marks) (ss : List Step) (k : ℕ) (s : Step) (asked : EventKind) → slice_get ss k ≡ Some s
       → kind_with (marks_after m (take k ss)) s.instr (fails && length (drop (suc k) ss) == 0) ≡ Some asked
       → In (event_at (j + k) s (marks_after m (take k ss)) asked) (events_from j m ss)
@@ -76,17 +76,17 @@ module _ (code : Code) (f : ℕ) (fails : Bool) where
   none_earlier j m ss =
       each_of (λ x. j ≤ x.step) (events_from j m ss) (λ x i. let e = event_is_at j m ss x i in omega (arith, e.number))
 
-  -- and their steps rise
+  -- the steps of events rise
   pub events_rise : (j : ℕ) (m : Marks) (ss : List Step) → Rising (events_from j m ss)
   events_rise j m [] = tt
-  events_rise j m (s ∷ ss) = by (kind_with m s.instr (fails && length ss == 0)) (events_rise (j + 1) (marked m s.instr) ss)
+  events_rise j m (s ∷ ss) = by (kind_with m s.instr (fails && length ss == 0)) (events_rise (j + 1) (marks_after_instr m s.instr) ss)
     where
-      by : (o : Option EventKind) → Rising (events_from (j + 1) (marked m s.instr) ss)
-          → Rising (cons_option (option_map (event_at j s m) o) (events_from (j + 1) (marked m s.instr) ss))
+      by : (o : Option EventKind) → Rising (events_from (j + 1) (marks_after_instr m s.instr) ss)
+          → Rising (cons_option (option_map (event_at j s m) o) (events_from (j + 1) (marks_after_instr m s.instr) ss))
       by None rest = rest
       by (Some asked) rest = (
-        each_of (λ y. j < y.step) (events_from (j + 1) (marked m s.instr) ss)
-            (λ y i. let e = event_is_at (j + 1) (marked m s.instr) ss y i in omega (arith, e.number)),
+        each_of (λ y. j < y.step) (events_from (j + 1) (marks_after_instr m s.instr) ss)
+            (λ y i. let e = event_is_at (j + 1) (marks_after_instr m s.instr) ss y i in omega (arith, e.number)),
         rest,
       )
 
@@ -116,12 +116,12 @@ module _ (code : Code) (f : ℕ) (fails : Bool) where
   event_found j m [] k s n at is = absurd (none-some s at)
   event_found j m (x ∷ ss) zero s n at is =
       let first : j ≡ n = omega (arith, is) in
-      let later = events_from (j + 1) (marked m x.instr) ss in
+      let later = events_from (j + 1) (marks_after_instr m x.instr) ss in
       subst (λ i. find (λ (y : Event). y.step == i) (events_from j m (x ∷ ss)) ≡ option_map (event_at i s m) (kind_with m s.instr (fails && length ss == 0)))
       first
       (found_first j x m (kind_with m x.instr (fails && length ss == 0)) later
-      (each_of (λ y. j < y.step) later (λ y i. let e = event_is_at (j + 1) (marked m x.instr) ss y i in omega (arith, e.number)))
+      (each_of (λ y. j < y.step) later (λ y i. let e = event_is_at (j + 1) (marks_after_instr m x.instr) ss y i in omega (arith, e.number)))
       ∙ ap (λ (y : Step). option_map (event_at j y m) (kind_with m y.instr (fails && length ss == 0))) (same_Some x s at))
   event_found j m (x ∷ ss) (suc k) s n at is =
-      found_behind n j x m (kind_with m x.instr (fails && length ss == 0)) (events_from (j + 1) (marked m x.instr) ss) (omega (arith, is))
-      ∙ event_found (j + 1) (marked m x.instr) ss k s n at (omega (arith, is))
+      found_behind n j x m (kind_with m x.instr (fails && length ss == 0)) (events_from (j + 1) (marks_after_instr m x.instr) ss) (omega (arith, is))
+      ∙ event_found (j + 1) (marks_after_instr m x.instr) ss k s n at (omega (arith, is))

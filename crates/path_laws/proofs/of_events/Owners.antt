@@ -1,4 +1,4 @@
--- Who owns a mutex is told by the regions of paths.
+-- The regions of paths determine who owns a mutex.
 use Rattle.std.proofs.Common.{◌≡◌, ◌↔◌, ◌∙◌, inl, inr, ℕ, suc, ◌<◌, ℤ, Bool, true, false, cond, ◌==◌, ◌&&◌, length, take, drop, List, [], ◌∷◌, ◌++◌}
 use Rattle.std.proofs.Common.{Option, Some, None, refl, sym, ap, subst, arith}
 use Rattle.std.specs.Prelude.{unwrap_or, option_map}
@@ -20,16 +20,16 @@ use Rattle.run_history.specs.Told.{owner_by, owner_in, steps_in}
 use Rattle.run_history.proofs.Last.{owners_are_last}
 use Rattle.run_follows.proofs.of_deeds.Cells.{next_within}
 use Rattle.run_history.proofs.of_pending.In.{In}
-use Rattle.path_walk.specs.Events.{takes, left_at, regions_of}
-use Rattle.path_walk.specs.Fits.{fails_in, Fits}
-use Rattle.path_walk.specs.Marks.{unmarked, marks_after}
+use Rattle.path_walk.specs.Events.{acquired_mutex, release_step, regions_of}
+use Rattle.path_walk.specs.Fits.{fails_in}
+use Rattle.path_walk.specs.Marks.{marks_at_start, marks_after}
 use Rattle.path_walk.specs.Paths.{Walk}
 use Rattle.path_walk.specs.Steps.{steps_at}
 use Rattle.path_walk.specs.declared.event.Event.{Event}
 use Rattle.path_walk.specs.declared.event.Region.{Region}
 use Rattle.path_laws.specs.Setting.{Setting}
-use Rattle.path_laws.specs.history.Along.{IsAlongPaths, IsThread, IsNameOfThread}
-use Rattle.path_laws.proofs.of_history.Told.{RunOf, run_of, reached, steps_of, first_along}
+use Rattle.path_laws.specs.history.Along.{IsNameOfThread, HistoryAlong, PathThread}
+use Rattle.path_laws.proofs.of_history.Told.{RunOf, reached, steps_of, its_run, up_to}
 use Rattle.path_laws.proofs.of_history.Walks.{IsWalk, walking, walk_is, thread_named}
 use Rattle.path_laws.specs.events.Done.{IsOpenAfter}
 use Rattle.path_laws.proofs.of_events.Lists.{in_contains, contains_in}
@@ -39,7 +39,7 @@ use Rattle.path_laws.proofs.of_events.Regions.{held_upto, to_region, from_region
 use Rattle.path_laws.proofs.of_events.Sites.{takes_by, taken_within}
 use Rattle.path_laws.proofs.of_events.Held.{holds_told}
 
--- a deed that takes a mutex
+-- a deed that acquires a mutex
 record IsTaking (m : ℕ) (n : Name) (d : Deed) : Type 0 where
   number : ℕ
   request : Request
@@ -88,20 +88,20 @@ taking m n (Did q k (BeginWait c l) took other) e = absurd (left_so m l n e)
 taking m n (Did q k Silent took other) e = absurd (none-some (Some n) e)
 taking m n d e = absurd (none-some (Some n) e)
 
--- the region of an event that takes a mutex
+-- the region of an event that acquires a mutex
 abbrev region_at : Event → List Event → ℕ → Region
-region_at x later l = record { mutex = l; «from» = x.step; to = left_at l later }
+region_at x later l = record { mutex = l; «from» = x.step; to = release_step l later }
 
 -- the event that begins a region
-region_event : (es : List Event) (r : Region) → In r (regions_of es) → (x : Event) × In x es × (takes x.kind ≡ Some r.mutex)
+region_event : (es : List Event) (r : Region) → In r (regions_of es) → (x : Event) × In x es × (acquired_mutex x.kind ≡ Some r.mutex)
 region_event [] r i = absurd i
-region_event (x ∷ es) r i = by (takes x.kind) refl i (λ j. later (region_event es r j))
+region_event (x ∷ es) r i = by (acquired_mutex x.kind) refl i (λ j. later (region_event es r j))
   where
-    later : (y : Event) × In y es × (takes y.kind ≡ Some r.mutex) → (y : Event) × In y (x ∷ es) × (takes y.kind ≡ Some r.mutex)
+    later : (y : Event) × In y es × (acquired_mutex y.kind ≡ Some r.mutex) → (y : Event) × In y (x ∷ es) × (acquired_mutex y.kind ≡ Some r.mutex)
     later y = (y.0, inr y.1, y.2)
 
-    by : (o : Option ℕ) → takes x.kind ≡ o → In r (cons_option (option_map (region_at x es) o) (regions_of es))
-        → (In r (regions_of es) → (y : Event) × In y (x ∷ es) × (takes y.kind ≡ Some r.mutex)) → (y : Event) × In y (x ∷ es) × (takes y.kind ≡ Some r.mutex)
+    by : (o : Option ℕ) → acquired_mutex x.kind ≡ o → In r (cons_option (option_map (region_at x es) o) (regions_of es))
+        → (In r (regions_of es) → (y : Event) × In y (x ∷ es) × (acquired_mutex y.kind ≡ Some r.mutex)) → (y : Event) × In y (x ∷ es) × (acquired_mutex y.kind ≡ Some r.mutex)
     by None t i rest = rest i
     by (Some l) t (inl same) rest = (x, inl refl, t ∙ ap (λ (g : Region). Some g.mutex) same)
     by (Some l) t (inr i) rest = rest i
@@ -109,14 +109,14 @@ region_event (x ∷ es) r i = by (takes x.kind) refl i (λ j. later (region_even
 abbrev HasOpen : Walk → ℕ → ℕ → Type 0
 HasOpen w m n = (r : Region) × Contains w.regions r × (r.mutex ≡ m) × IsOpenAfter n r
 
-module _ {B : Type 0} (setting : Setting B) (fits : Fits setting.code setting.log) (h : List Deed)
-    (along : IsAlongPaths setting.ops.buffered setting.bound setting.code setting.log h) where
-  open setting use {machine, ops, bound, code, lawful, log, log_is as is}
+module _ {B : Type 0} (setting : Setting B) (history : HistoryAlong setting) where
+  open setting use {machine, ops, code, lawful, log, log_is as is}
+  open history use {deeds as h, fits, along}
 
   abbrev r : RunOf machine log h
-  r = run_of machine log h along
+  r = its_run setting history
 
-  -- the deed by which an owner took a mutex
+  -- the deed by which an owner acquired a mutex
   pub record TookIt (m : ℕ) (n : Name) : Type 0 where
     pub within : m < code.mutexes
     pub thread : IsNameOfThread code log n
@@ -127,35 +127,35 @@ module _ {B : Type 0} (setting : Setting B) (fits : Fits setting.code setting.lo
       let t = taking m n last.deed last.gives in
       let at = last.there ∙ ap (λ d. last.older ++ d ∷ last.newer) t.is in
       let d = Did n t.number t.request t.took t.other in
-      let before = first_along machine log last.older (d ∷ last.newer)
-      (subst (IsAlongPaths ops.buffered bound code log) at along) in
+      let before = up_to setting history last.older (d ∷ last.newer) at in
       let may = (along.follow last.older last.newer d at).1 in
       record {
-        within = t.within code (next_within machine last.older n t.request before.follow may.asks);
-        thread = thread_named setting fits last.older n before
-            (r.told.threads last.older last.newer n t.number t.request t.took t.other at).there;
+        within = t.within code (next_within machine last.older n t.request before.along.follow may.asks);
+        thread = thread_named setting before n (r.told.threads last.older last.newer n t.number t.request t.took t.other at).there;
       }
 
-  module _ (j : ℕ) (w : Walk) (there : IsThread code log j w) (m : ℕ) where
+  module _ (thread : PathThread code log) (m : ℕ) where
+    open thread use {walk as w}
+
     abbrev k : IsWalk code log w
-    k = walk_is code log is fits j w there
+    k = walk_is code log is fits thread
 
     abbrev n : Name
     n = w.name
 
-    -- a region is of a mutex that is there
+    -- the mutex of a region exists
     region_within : (g : Region) → In g w.regions → g.mutex ≡ m → m < code.mutexes
     region_within g i mutex =
         let e = region_event w.events g (subst (In g) k.regions i) in
         let s = at_step code log w k e.0 e.1 in
         let ss = steps_at code w.function w.places in
         taken_within code log w k lawful m s.place s.step s.there
-        (takes_by (marks_after (unmarked code w.function) (take s.place ss)) s.step.instr (fails_in log n && length (drop (suc s.place) ss) == 0) e.0.kind m
+        (takes_by (marks_after (marks_at_start code w.function) (take s.place ss)) s.step.instr (fails_in log n && length (drop (suc s.place) ss) == 0) e.0.kind m
         s.asks (e.2 ∙ ap (λ l. Some l) mutex))
 
     rising : Rising w.events
     rising =
-        subst Rising (sym k.events) (events_rise code w.function (fails_in log n) 0 (unmarked code w.function) (steps_at code w.function w.places))
+        subst Rising (sym k.events) (events_rise code w.function (fails_in log n) 0 (marks_at_start code w.function) (steps_at code w.function w.places))
 
     module _ (t : Thread B) (here : fin.get r.state.threads n ≡ Some t) (within : m < code.mutexes) where
       steps : t.local.steps ≡ steps_in h n
@@ -163,8 +163,7 @@ module _ {B : Type 0} (setting : Setting B) (fits : Fits setting.code setting.lo
 
       holds_by : holds t.local m ≡ unwrap_or (held_upto m (steps_in h n) w.events) false
       holds_by =
-          holds_told setting fits w t r.state.failed (walking setting fits h r j w t there here)
-          m within
+          holds_told setting history thread t (walking setting history thread t here) m within
           ∙ ap (λ i. unwrap_or (held_upto m i w.events) false) steps
 
       some_true : (o : Option Bool) → unwrap_or o false ≡ true → o ≡ Some true
@@ -196,6 +195,6 @@ module _ {B : Type 0} (setting : Setting B) (fits : Fits setting.code setting.lo
           to_open t.0 t.1 within owns,
       λ o.
           let i = in_contains o.0 w.regions o.1 in
-          let t = there_by_step setting fits h along j w there (omega (arith, o.3.begun)) in
+          let t = there_by_step setting history thread (omega (arith, o.3.begun)) in
           from_open t.0 t.1 (region_within o.0 i o.2) o.0 i o.2 o.3,
     )

@@ -1,4 +1,5 @@
--- A thread has a mutex, by the steps that it has done, exactly where a region of its path is open after them.
+-- After some steps of its path, a thread holds a mutex exactly if a region of the path is open
+-- then.
 use Rattle.std.proofs.Common.{◌≡◌, ◌∙◌, inl, inr, ℕ, zero, suc, ◌+◌, ◌-◌, ◌≤◌, ◌<◌, Bool, true, false, cond, ◌==◌, ◌&&◌, List, [], ◌∷◌, length, take}
 use Rattle.std.proofs.Common.{Option, Some, None, refl, sym, ap, ap₂, subst, arith, true≢false}
 use Rattle.std.specs.Prelude.{slice_get, nat_lt, unwrap_or, option_map, option_and_then}
@@ -15,8 +16,8 @@ use Rattle.tc_code.specs.declared.instr.Instr.{Instr}
 use Rattle.tc_code.specs.declared.instr.Instr.TheVariants.{Inside, Holds, Ready, Assert, Nonzero, InRange, Lock, Unlock, Sleep, Wake}
 use Rattle.run_history.proofs.Lists.{index_or-set}
 use Rattle.run_history.proofs.of_pending.In.{In}
-use Rattle.path_walk.specs.Events.{kind_with, takes, leaves, left_at, region_of, regions_of}
-use Rattle.path_walk.specs.Marks.{Marks, marked, marks_after, has_mutex}
+use Rattle.path_walk.specs.Events.{kind_with, acquired_mutex, released_mutex, release_step, region_of, regions_of}
+use Rattle.path_walk.specs.Marks.{Marks, marks_after_instr, marks_after, has_mutex}
 use Rattle.path_walk.specs.Steps.{Step, is_site}
 use Rattle.path_walk.specs.declared.event.Event.{Event}
 use Rattle.path_walk.specs.declared.event.EventKind.{EventKind}
@@ -24,7 +25,7 @@ use Rattle.path_walk.specs.declared.event.Region.{Region}
 use Rattle.path_laws.specs.events.Done.{IsOpenAfter}
 use Rattle.path_laws.proofs.of_events.Marked.{events_from, none_earlier, Rising}
 
--- the thread fails, if it does, at a site, in its last step
+-- if the thread fails, it does so at a site, in its last step
 abbrev pub FailsAtSite : Bool → List Step → Type 0
 FailsAtSite b [] = Unit {0}
 FailsAtSite b (s ∷ []) = b ≡ true → is_site s.instr ≡ true
@@ -46,8 +47,8 @@ site_later : (b : Bool) (s : Step) (ss : List Step) → FailsAtSite b (s ∷ ss)
 site_later b s [] h = tt
 site_later b s (t ∷ ss) h = h
 
--- a site marks nothing
-pub site_marks : (m : Marks) (i : Instr) → is_site i ≡ true → marked m i ≡ m
+-- a site changes no mark
+pub site_marks : (m : Marks) (i : Instr) → is_site i ≡ true → marks_after_instr m i ≡ m
 site_marks m (Inside len e) h = refl
 site_marks m (Holds k) h = refl
 site_marks m (Ready v) h = refl
@@ -56,8 +57,8 @@ site_marks m (Nonzero e) h = refl
 site_marks m (InRange e) h = refl
 site_marks m i h = absurd (true≢false (sym h))
 
--- the marks have as many mutexes after each instruction
-held_long : (t : Marks) (i : Instr) → length (marked t i).held ≡ length t.held
+-- each instruction keeps the number of marks for mutexes
+held_long : (t : Marks) (i : Instr) → length (marks_after_instr t i).held ≡ length t.held
 held_long t (Lock l) = length-set t.held l true
 held_long t (Unlock l) = length-set t.held l false
 held_long t (Sleep c l) = length-set t.held l false
@@ -68,11 +69,11 @@ module _ (m : ℕ) where
   abbrev is_it : Option ℕ → Bool
   is_it o = option_map_or (λ l. l == m) o false
 
-  -- whether an event takes the mutex, or leaves it
+  -- whether an event acquires the mutex (true) or releases it (false)
   abbrev hold : EventKind → Option Bool
-  hold k = cond (is_it (takes k)) (Some true) (cond (is_it (leaves k)) (Some false) None)
+  hold k = cond (is_it (acquired_mutex k)) (Some true) (cond (is_it (released_mutex k)) (Some false) None)
 
-  -- what the last of the events before a step that does either does
+  -- the effect on the mutex of the last event before a step that has one
   abbrev pub held_upto : ℕ → List Event → Option Bool
   held_upto n [] = None
   held_upto n (e ∷ es) = option_or (held_upto n es) (cond (nat_lt e.step n) (hold e.kind) None)
@@ -81,9 +82,9 @@ module _ (m : ℕ) where
   either true c d = refl
   either false c d = refl
 
-  -- a step does to the marks what its event does
+  -- a step changes the marks as its event does
   mutex_step : (t : Marks) (i : Instr) (fails : Bool) → (fails ≡ true → is_site i ≡ true) → m < length t.held
-      → unwrap_or (option_and_then hold (kind_with t i fails)) (has_mutex t m) ≡ has_mutex (marked t i) m
+      → unwrap_or (option_and_then hold (kind_with t i fails)) (has_mutex t m) ≡ has_mutex (marks_after_instr t i) m
   mutex_step t i true site within = ap (λ (x : Marks). has_mutex x m) (sym (site_marks t i (site refl)))
   mutex_step t (Lock l) false site within = either (l == m) true (has_mutex t m) ∙ sym (index_or-set t.held l m true false within)
   mutex_step t (Unlock l) false site within = either (l == m) false (has_mutex t m) ∙ sym (index_or-set t.held l m false false within)
@@ -91,7 +92,7 @@ module _ (m : ℕ) where
   mutex_step t (Wake c l) false site within = either (l == m) true (has_mutex t m) ∙ sym (index_or-set t.held l m true false within)
   mutex_step t i false site within = refl
 
-  -- no event before the first step
+  -- no event comes before the first step
   none_held : (n : ℕ) (es : List Event) → Each (λ x. n ≤ x.step) es → held_upto n es ≡ None
   none_held n [] each = refl
   none_held n (e ∷ es) each =
@@ -109,7 +110,7 @@ module _ (m : ℕ) where
   unwrap_both None y d = refl
   unwrap_both (Some b) y d = refl
 
-  -- so the marks tell what the events do
+  -- the marks are as the events leave them
   pub held_is : (code : Code) (f : ℕ) (b : Bool) (j : ℕ) (t : Marks) (ss : List Step) (k : ℕ) → m < length t.held → k ≤ length ss → FailsAtSite b ss
       → has_mutex (marks_after t (take k ss)) m ≡ unwrap_or (held_upto (j + k) (events_from code f b j t ss)) (has_mutex t m)
   held_is code f b j t ss zero within few site =
@@ -119,21 +120,21 @@ module _ (m : ℕ) where
   held_is code f b j t [] (suc k) within few site = absurd (omega (arith, few))
   held_is code f b j t (s ∷ ss) (suc k) within few site =
       let fails = b && length ss == 0 in
-      let later = events_from code f b (j + 1) (marked t s.instr) ss in
+      let later = events_from code f b (j + 1) (marks_after_instr t s.instr) ss in
       let number : (j + 1) + k ≡ j + suc k = omega arith in
-      let rest = held_is code f b (j + 1) (marked t s.instr) ss k (omega (arith, within, held_long t s.instr)) (omega (arith, few)) (site_later b s ss site) in
+      let rest = held_is code f b (j + 1) (marks_after_instr t s.instr) ss k (omega (arith, within, held_long t s.instr)) (omega (arith, few)) (site_later b s ss site) in
       let first = held_cons (j + suc k) j (kind_with t s.instr fails) _ later (omega arith) (λ a. refl) (λ a. refl) in
       rest
-      ∙ ap (λ n. unwrap_or (held_upto n later) (has_mutex (marked t s.instr) m)) number
+      ∙ ap (λ n. unwrap_or (held_upto n later) (has_mutex (marks_after_instr t s.instr) m)) number
       ∙ ap (unwrap_or (held_upto (j + suc k) later)) (sym (mutex_step t s.instr fails (site_here b s ss site) within))
       ∙ sym (unwrap_both (held_upto (j + suc k) later) (option_and_then hold (kind_with t s.instr fails)) (has_mutex t m))
       ∙ ap (λ o. unwrap_or o (has_mutex t m)) (sym first)
 
   -- Open regions.
 
-  -- the region of an event that takes a mutex
+  -- the region of an event that acquires a mutex
   abbrev region_at : Event → List Event → ℕ → Region
-  region_at e later l = record { mutex = l; «from» = e.step; to = left_at l later }
+  region_at e later l = record { mutex = l; «from» = e.step; to = release_step l later }
 
   pub record OpenRegion (n : ℕ) (es : List Event) : Type 0 where
     pub region : Region
@@ -152,43 +153,43 @@ module _ (m : ℕ) where
   test_is None e = absurd (true≢false (sym e))
   test_is (Some l) e = ap (λ k. Some k) (eqb-true l m e)
 
-  hold_true : (k : EventKind) → hold k ≡ Some true → takes k ≡ Some m
-  hold_true k e = by (is_it (takes k)) refl (is_it (leaves k)) e
+  hold_true : (k : EventKind) → hold k ≡ Some true → acquired_mutex k ≡ Some m
+  hold_true k e = by (is_it (acquired_mutex k)) refl (is_it (released_mutex k)) e
     where
-      by : (b : Bool) → is_it (takes k) ≡ b → (c : Bool) → cond b (Some true) (cond c (Some false) None) ≡ Some true → takes k ≡ Some m
-      by true t c e = test_is (takes k) t
+      by : (b : Bool) → is_it (acquired_mutex k) ≡ b → (c : Bool) → cond b (Some true) (cond c (Some false) None) ≡ Some true → acquired_mutex k ≡ Some m
+      by true t c e = test_is (acquired_mutex k) t
       by false t true e = absurd (true≢false (sym (same_Some false true e)))
       by false t false e = absurd (none-some true e)
 
-  hold_false : (k : EventKind) → hold k ≡ Some false → is_it (leaves k) ≡ true
-  hold_false k e = by (is_it (takes k)) (is_it (leaves k)) refl e
+  hold_false : (k : EventKind) → hold k ≡ Some false → is_it (released_mutex k) ≡ true
+  hold_false k e = by (is_it (acquired_mutex k)) (is_it (released_mutex k)) refl e
     where
-      by : (b c : Bool) → is_it (leaves k) ≡ c → cond b (Some true) (cond c (Some false) None) ≡ Some false → is_it (leaves k) ≡ true
+      by : (b c : Bool) → is_it (released_mutex k) ≡ c → cond b (Some true) (cond c (Some false) None) ≡ Some false → is_it (released_mutex k) ≡ true
       by true c t e = absurd (true≢false (same_Some true false e))
       by false true t e = t
       by false false t e = absurd (none-some false e)
 
-  hold_leaves : (k : EventKind) → is_it (leaves k) ≡ true → hold k ≡ None → ⊥
-  hold_leaves k leaves_it e = by (is_it (takes k)) (ap (λ c. cond (is_it (takes k)) (Some true) (cond c (Some false) None)) (sym leaves_it) ∙ e)
+  hold_leaves : (k : EventKind) → is_it (released_mutex k) ≡ true → hold k ≡ None → ⊥
+  hold_leaves k leaves_it e = by (is_it (acquired_mutex k)) (ap (λ c. cond (is_it (acquired_mutex k)) (Some true) (cond c (Some false) None)) (sym leaves_it) ∙ e)
     where
       by : (b : Bool) → cond b (Some true) (Some false) ≡ None → ⊥
       by true e = none-some true (sym e)
       by false e = none-some false (sym e)
 
-  -- parts of an option of which neither is there
+  -- if the first of two options or else the second is none, both are
   neither : (x y : Option Bool) → option_or x y ≡ None → (x ≡ None) × (y ≡ None)
   neither None y e = (refl, e)
   neither (Some b) y e = absurd (none-some b (sym e))
 
-  -- where no event before a step does anything, the first that leaves the mutex isn't before it
-  none_left : (n : ℕ) (es : List Event) (j : ℕ) → held_upto n es ≡ None → left_at m es ≡ Some j → n ≤ j
+  -- if no event before a step has an effect, the first release isn't before it
+  none_left : (n : ℕ) (es : List Event) (j : ℕ) → held_upto n es ≡ None → release_step m es ≡ Some j → n ≤ j
   none_left n [] j none left = absurd (none-some j left)
   none_left n (e ∷ es) j none left =
       let both = neither (held_upto n es) (cond (nat_lt e.step n) (hold e.kind) None) none in
-      by (is_it (leaves e.kind)) refl (nat_lt e.step n) refl left both.1 (λ l. none_left n es j both.0 l)
+      by (is_it (released_mutex e.kind)) refl (nat_lt e.step n) refl left both.1 (λ l. none_left n es j both.0 l)
     where
-      by : (b : Bool) → is_it (leaves e.kind) ≡ b → (c : Bool) → nat_lt e.step n ≡ c → cond b (Some e.step) (left_at m es) ≡ Some j
-          → cond c (hold e.kind) None ≡ None → (left_at m es ≡ Some j → n ≤ j) → n ≤ j
+      by : (b : Bool) → is_it (released_mutex e.kind) ≡ b → (c : Bool) → nat_lt e.step n ≡ c → cond b (Some e.step) (release_step m es) ≡ Some j
+          → cond c (hold e.kind) None ≡ None → (release_step m es ≡ Some j → n ≤ j) → n ≤ j
       by true t true lt left none rest = absurd (hold_leaves e.kind t none)
       by true t false lt left none rest = let same = same_Some e.step j left in grind (arith, lt, same)
       by false t c lt left none rest = rest left
@@ -197,13 +198,13 @@ module _ (m : ℕ) where
   to_region n [] e = absurd (none-some true e)
   to_region n (x ∷ es) e = by (held_upto n es) refl e (λ later. to_region n es later)
     where
-      here : (l : ℕ) → takes x.kind ≡ Some l → l ≡ m → x.step < n → held_upto n es ≡ None → OpenRegion n (x ∷ es)
+      here : (l : ℕ) → acquired_mutex x.kind ≡ Some l → l ≡ m → x.step < n → held_upto n es ≡ None → OpenRegion n (x ∷ es)
       here l takes_it same lt none =
           record {
             region = region_at x es l;
             there = subst (λ o. In (region_at x es l) (cons_option o (regions_of es))) (sym (ap (option_map (region_at x es)) takes_it)) (inl refl);
             mutex = same;
-            open_after = record { begun = lt; lasts = λ j left. none_left n es j none (ap (λ k. left_at k es) (sym same) ∙ left) };
+            open_after = record { begun = lt; lasts = λ j left. none_left n es j none (ap (λ k. release_step k es) (sym same) ∙ left) };
           }
 
       by_step : (c : Bool) → nat_lt x.step n ≡ c → cond c (hold x.kind) None ≡ Some true → held_upto n es ≡ None → OpenRegion n (x ∷ es)
@@ -216,67 +217,67 @@ module _ (m : ℕ) where
       by (Some true) is e rest = further n x es (rest is)
       by (Some false) is e rest = absurd (true≢false (sym (same_Some false true e)))
 
-  -- the first step that leaves it is one of the events'
-  left_in : (es : List Event) (j k : ℕ) → left_at m es ≡ Some j → Each (λ y. k < y.step) es → k < j
+  -- the first step that releases the mutex is that of an event
+  left_in : (es : List Event) (j k : ℕ) → release_step m es ≡ Some j → Each (λ y. k < y.step) es → k < j
   left_in [] j k left each = absurd (none-some j left)
-  left_in (e ∷ es) j k left each = by (is_it (leaves e.kind)) left (λ l. left_in es j k l each.1)
+  left_in (e ∷ es) j k left each = by (is_it (released_mutex e.kind)) left (λ l. left_in es j k l each.1)
     where
-      by : (b : Bool) → cond b (Some e.step) (left_at m es) ≡ Some j → (left_at m es ≡ Some j → k < j) → k < j
+      by : (b : Bool) → cond b (Some e.step) (release_step m es) ≡ Some j → (release_step m es ≡ Some j → k < j) → k < j
       by true left rest = subst (λ i. k < i) (same_Some e.step j left) each.0
       by false left rest = rest left
 
-  -- where none leaves it before a step, the last before it isn't one that does
-  never_left : (n : ℕ) (es : List Event) → Rising es → ((j : ℕ) → left_at m es ≡ Some j → n ≤ j) → held_upto n es ≡ Some false → ⊥
+  -- if no event before a step releases the mutex, the last effect before it isn't a release
+  never_left : (n : ℕ) (es : List Event) → Rising es → ((j : ℕ) → release_step m es ≡ Some j → n ≤ j) → held_upto n es ≡ Some false → ⊥
   never_left n [] rise lasts e = none-some false e
   never_left n (x ∷ es) rise lasts e = by (held_upto n es) refl e (λ later. never_left n es rise.1 later)
     where
-      later : (j : ℕ) → left_at m es ≡ Some j → n ≤ j
-      later j left = by_leaves (is_it (leaves x.kind)) refl
+      later : (j : ℕ) → release_step m es ≡ Some j → n ≤ j
+      later j left = by_leaves (is_it (released_mutex x.kind)) refl
         where
-          by_leaves : (b : Bool) → is_it (leaves x.kind) ≡ b → n ≤ j
+          by_leaves : (b : Bool) → is_it (released_mutex x.kind) ≡ b → n ≤ j
           by_leaves true t =
-              let first = lasts x.step (ap (λ b. cond b (Some x.step) (left_at m es)) t) in
+              let first = lasts x.step (ap (λ b. cond b (Some x.step) (release_step m es)) t) in
               omega (arith, first, left_in es j x.step left rise.0)
-          by_leaves false t = lasts j (ap (λ b. cond b (Some x.step) (left_at m es)) t ∙ left)
+          by_leaves false t = lasts j (ap (λ b. cond b (Some x.step) (release_step m es)) t ∙ left)
 
       by_step : (c : Bool) → nat_lt x.step n ≡ c → cond c (hold x.kind) None ≡ Some false → ⊥
       by_step true lt h =
-          let first = lasts x.step (ap (λ b. cond b (Some x.step) (left_at m es)) (hold_false x.kind h)) in
+          let first = lasts x.step (ap (λ b. cond b (Some x.step) (release_step m es)) (hold_false x.kind h)) in
           omega (arith, first, ltb-true x.step n lt)
       by_step false lt h = none-some false h
 
       by : (o : Option Bool) → held_upto n es ≡ o → option_or o (cond (nat_lt x.step n) (hold x.kind) None) ≡ Some false
-          → (((j : ℕ) → left_at m es ≡ Some j → n ≤ j) → held_upto n es ≡ Some false → ⊥) → ⊥
+          → (((j : ℕ) → release_step m es ≡ Some j → n ≤ j) → held_upto n es ≡ Some false → ⊥) → ⊥
       by None none e rest = by_step (nat_lt x.step n) refl e
       by (Some b) is e rest = rest later (is ∙ e)
 
   pub from_region : (n : ℕ) (es : List Event) → Rising es → OpenRegion n es → held_upto n es ≡ Some true
   from_region n [] rise o = absurd o.there
   from_region n (x ∷ es) rise o =
-      by (takes x.kind) refl o.there
+      by (acquired_mutex x.kind) refl o.there
       (λ i. from_region n es rise.1 (record { region = o.region; there = i; mutex = o.mutex; open_after = o.open_after }))
     where
-      -- the last of the later ones is none, or takes it
-      last_by : (y : Option Bool) → held_upto n es ≡ y → ((j : ℕ) → left_at m es ≡ Some j → n ≤ j) → option_or y (Some true) ≡ Some true
+      -- the last later event with an effect is none, or acquires the mutex
+      last_by : (y : Option Bool) → held_upto n es ≡ y → ((j : ℕ) → release_step m es ≡ Some j → n ≤ j) → option_or y (Some true) ≡ Some true
       last_by None e lasts = refl
       last_by (Some true) e lasts = refl
       last_by (Some false) e lasts = absurd (never_left n es rise.1 lasts e)
 
-      here : (l : ℕ) → takes x.kind ≡ Some l → region_at x es l ≡ o.region → held_upto n (x ∷ es) ≡ Some true
+      here : (l : ℕ) → acquired_mutex x.kind ≡ Some l → region_at x es l ≡ o.region → held_upto n (x ∷ es) ≡ Some true
       here l takes_it same =
           let mutex : l ≡ m = ap (λ (r : Region). r.mutex) same ∙ o.mutex in
           let begun : x.step < n = subst (λ i. i < n) (sym (ap (λ (r : Region). r.«from») same)) o.open_after.begun in
-          let lasts : (j : ℕ) → left_at m es ≡ Some j → n ≤ j =
-          λ j left. o.open_after.lasts j (sym (ap (λ (r : Region). r.to) same) ∙ ap (λ k. left_at k es) mutex ∙ left) in
-          let takes_m : is_it (takes x.kind) ≡ true = ap is_it takes_it ∙ eq_itself l mutex in
+          let lasts : (j : ℕ) → release_step m es ≡ Some j → n ≤ j =
+          λ j left. o.open_after.lasts j (sym (ap (λ (r : Region). r.to) same) ∙ ap (λ k. release_step k es) mutex ∙ left) in
+          let takes_m : is_it (acquired_mutex x.kind) ≡ true = ap is_it takes_it ∙ eq_itself l mutex in
           ap (λ b. option_or (held_upto n es) (cond b (hold x.kind) None)) (lt-ltb x.step n begun)
-          ∙ ap (λ b. option_or (held_upto n es) (cond b (Some true) (cond (is_it (leaves x.kind)) (Some false) None))) takes_m
+          ∙ ap (λ b. option_or (held_upto n es) (cond b (Some true) (cond (is_it (released_mutex x.kind)) (Some false) None))) takes_m
           ∙ last_by (held_upto n es) refl lasts
         where
           eq_itself : (l : ℕ) → l ≡ m → (l == m) ≡ true
           eq_itself l e = grind (arith, e)
 
-      by : (t : Option ℕ) → takes x.kind ≡ t → In o.region (cons_option (option_map (region_at x es) t) (regions_of es))
+      by : (t : Option ℕ) → acquired_mutex x.kind ≡ t → In o.region (cons_option (option_map (region_at x es) t) (regions_of es))
           → (In o.region (regions_of es) → held_upto n es ≡ Some true) → held_upto n (x ∷ es) ≡ Some true
       by None t i rest = ap (λ y. option_or y (cond (nat_lt x.step n) (hold x.kind) None)) (rest i)
       by (Some l) t (inl same) rest = here l t same

@@ -1,4 +1,4 @@
--- The failing step of a path is a site, and the mutexes of its steps are there.
+-- The failing step of a path is a site, and the mutexes of its steps exist.
 use Rattle.std.proofs.Common.{◌≡◌, ◌∙◌, ℕ, ◌+◌, ◌-◌, ◌<◌, ◌==◌, ◌&&◌, Bool, true, false, cond, List, length, Option, Some, None, Result, Ok, Err}
 use Rattle.std.proofs.Common.{refl, sym, ap, subst, arith, true≢false}
 use Rattle.std.specs.Prelude.{slice_get, unwrap_or, option_map, nat_lt}
@@ -13,11 +13,11 @@ use Rattle.tc_code.specs.Lawful.{IsLawful}
 use Rattle.tc_code.specs.declared.instr.Instr.{Instr}
 use Rattle.tc_code.specs.declared.instr.Instr.TheVariants.{Lock, Wake, Exit}
 use Rattle.tc_code.proofs.Facts.{placed}
-use Rattle.path_walk.specs.Events.{kind_with, takes}
+use Rattle.path_walk.specs.Events.{kind_with, acquired_mutex}
 use Rattle.path_walk.specs.Fits.{ending_of, fails_in}
 use Rattle.path_walk.specs.Marks.{Marks}
 use Rattle.path_walk.specs.Paths.{Walk}
-use Rattle.path_walk.specs.Steps.{Step, is_failing, is_site, ended, ends_at_site, step_at, steps_at}
+use Rattle.path_walk.specs.Steps.{Step, is_failing, is_site, places_if_well_ended, ends_at_site, step_at, steps_at}
 use Rattle.path_walk.specs.declared.ending.Ending.{Ending}
 use Rattle.path_walk.specs.declared.ending.Ending.TheVariants.{Fails, Rests, Open}
 use Rattle.path_walk.specs.declared.event.EventKind.{EventKind}
@@ -31,7 +31,7 @@ abbrev the_ok : List ℕ → Result (List ℕ) Misfit
 the_ok ps = Ok ps
 
 -- a path that fails ends at a site
-ends_so : (code : Code) (f : ℕ) (e : Ending) (p : Path) (ps : List ℕ) → ended code f e p (Ok ps) ≡ Ok ps → is_failing e ≡ true → ends_at_site code f ps ≡ true
+ends_so : (code : Code) (f : ℕ) (e : Ending) (p : Path) (ps : List ℕ) → places_if_well_ended code f e p (Ok ps) ≡ Ok ps → is_failing e ≡ true → ends_at_site code f ps ≡ true
 ends_so code f Open p ps told fails = absurd (true≢false (sym fails))
 ends_so code f Rests p ps told fails = absurd (true≢false (sym fails))
 ends_so code f Fails p ps told fails = by (ends_at_site code f ps) told
@@ -40,20 +40,20 @@ ends_so code f Fails p ps told fails = by (ends_at_site code f ps) told
     by true e = refl
     by false e = absurd cc
 
--- an instruction takes a mutex
+-- an instruction acquires this mutex
 pub data TakesMutex (i : Instr) (m : ℕ) : Type 0 where
   By_lock : i ≡ Lock m → TakesMutex i m
   By_wake : (c : ℕ) → i ≡ Wake c m → TakesMutex i m
 
-pub takes_by : (t : Marks) (i : Instr) (fails : Bool) (k : EventKind) (m : ℕ) → kind_with t i fails ≡ Some k → takes k ≡ Some m → TakesMutex i m
-takes_by t i true k m is takes_it = let none : None ≡ takes k = ap (λ x. option_map_or takes x None) is in absurd (none-some m (none ∙ takes_it))
+pub takes_by : (t : Marks) (i : Instr) (fails : Bool) (k : EventKind) (m : ℕ) → kind_with t i fails ≡ Some k → acquired_mutex k ≡ Some m → TakesMutex i m
+takes_by t i true k m is takes_it = let none : None ≡ acquired_mutex k = ap (λ x. option_map_or acquired_mutex x None) is in absurd (none-some m (none ∙ takes_it))
 takes_by t (Lock l) false k m is takes_it =
-    let same : Some l ≡ takes k = ap (λ x. option_map_or takes x None) is in By_lock (ap Lock (same_Some l m (same ∙ takes_it)))
+    let same : Some l ≡ acquired_mutex k = ap (λ x. option_map_or acquired_mutex x None) is in By_lock (ap Lock (same_Some l m (same ∙ takes_it)))
 takes_by t (Wake c l) false k m is takes_it =
-    let same : Some l ≡ takes k = ap (λ x. option_map_or takes x None) is in By_wake c (ap (Wake c) (same_Some l m (same ∙ takes_it)))
-takes_by t i false k m is takes_it = let none : None ≡ takes k = ap (λ x. option_map_or takes x None) is in absurd (none-some m (none ∙ takes_it))
+    let same : Some l ≡ acquired_mutex k = ap (λ x. option_map_or acquired_mutex x None) is in By_wake c (ap (Wake c) (same_Some l m (same ∙ takes_it)))
+takes_by t i false k m is takes_it = let none : None ≡ acquired_mutex k = ap (λ x. option_map_or acquired_mutex x None) is in absurd (none-some m (none ∙ takes_it))
 
--- which is there
+-- the mutex that an instruction acquires exists
 instr_within : (code : Code) (f p : ℕ) (i : Instr) (m : ℕ) → IsLawful code → instr_at code f p ≡ Some i → TakesMutex i m → m < code.mutexes
 instr_within code f p i m lawful at (By_lock is) =
     let at_lock = at ∙ ap (λ x. Some x) is in
@@ -82,7 +82,7 @@ module _ (code : Code) (log : Log) (w : Walk) (k : IsWalk code log w) where
   last_site s at fails =
       let long = length-map w.places (step_at code w.function) in
       let ends = ends_so code w.function (ending_of log w.name) k.path w.places
-      (ap (ended code w.function (ending_of log w.name) k.path) (sym k.places) ∙ k.fits) fails in
+      (ap (places_if_well_ended code w.function (ending_of log w.name) k.path) (sym k.places) ∙ k.fits) fails in
       site_by (slice_get w.places (length w.places - 1)) s
       (sym (slice_get-map (step_at code w.function) w.places (length w.places - 1))
       ∙ ap (λ n. slice_get walk_steps (n - 1)) (sym long) ∙ at) ends
@@ -90,7 +90,7 @@ module _ (code : Code) (log : Log) (w : Walk) (k : IsWalk code log w) where
   pub walk_fails_at_site : FailsAtSite (fails_in log w.name) walk_steps
   walk_fails_at_site = fails_at_site (fails_in log w.name) walk_steps last_site
 
-  -- so is the instruction at the place of that step
+  -- the instruction at the place of that step is a site
   pub last_is_site : (n p : ℕ) (i : Instr) → slice_get w.places n ≡ Some p → instr_at code w.function p ≡ Some i
       → (fails_in log w.name && n + 1 == length w.places) ≡ true → is_site i ≡ true
   last_is_site n p i at instr fails =
@@ -99,7 +99,7 @@ module _ (code : Code) (log : Log) (w : Walk) (k : IsWalk code log w) where
       omega (arith, eqb-true (n + 1) (length w.places) both.1, length-map w.places (step_at code w.function)) in
       last_site (record { place = p; instr = i }) (ap (slice_get walk_steps) last ∙ path_step code w n p i at instr) both.0
 
-  -- a step that takes a mutex names one that is there
+  -- the mutex that a step acquires exists
   pub taken_within : IsLawful code → (m place : ℕ) (s : Step) → slice_get walk_steps place ≡ Some s → TakesMutex s.instr m → m < code.mutexes
   taken_within lawful m place s at takes_it = by (slice_get w.places place) (sym (slice_get-map (step_at code w.function) w.places place) ∙ at)
     where

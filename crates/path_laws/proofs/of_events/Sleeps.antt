@@ -16,7 +16,7 @@ use Rattle.tc_code.proofs.Facts.{placed}
 use Rattle.run_history.proofs.of_pending.In.{In}
 use Rattle.path_walk.specs.Events.{kind_with, sleep_by, sleeps_of}
 use Rattle.path_walk.specs.Fits.{fails_in}
-use Rattle.path_walk.specs.Marks.{Marks, unmarked, marked}
+use Rattle.path_walk.specs.Marks.{Marks, marks_at_start, marks_after_instr}
 use Rattle.path_walk.specs.Paths.{Walk}
 use Rattle.path_walk.specs.Steps.{Step, Onward, onward, places_from, step_at, steps_at}
 use Rattle.path_walk.specs.declared.event.Event.{Event}
@@ -29,7 +29,7 @@ use Rattle.path_laws.proofs.of_events.Marked.{event_at, events_from}
 
 -- Sleeps begin with events.
 
--- a sleep is begun by an event
+-- an event begins this sleep
 pub record IsSleepOf (x : Event) (c m : ℕ) (s : Sleep) : Type 0 where
   pub step : s.step ≡ x.step
   pub condition : s.condition ≡ c
@@ -53,7 +53,7 @@ sleep_of_event (e ∷ es) x c m (inr i) is =
 
 -- Wakes follow sleeps.
 
--- the step after one that begins a wait wakes from it
+-- the step after one that begins a wait is its wake
 abbrev NextWakes : Step → List Step → Type 0
 NextWakes s [] = Unit {0}
 NextWakes s (t ∷ ss) = (c m : ℕ) → s.instr ≡ instr.Sleep c m → t.instr ≡ instr.Wake c m
@@ -62,7 +62,7 @@ abbrev WakesFollow : List Step → Type 0
 WakesFollow [] = Unit {0}
 WakesFollow (s ∷ ss) = NextWakes s ss × WakesFollow ss
 
--- the second half of a wait stands behind the first
+-- the second half of a wait follows the first
 wake_behind : (code : Code) (f k c m : ℕ) → IsLawful code → instr_at code f k ≡ Some (instr.Sleep c m) → instr_at code f (k + 1) ≡ Some (instr.Wake c m)
 wake_behind code f k c m lawful at =
     let g = placed code f k (instr.Sleep c m) lawful at in
@@ -96,18 +96,18 @@ module _ (code : Code) (lawful : IsLawful code) (f : ℕ) where
       subst (λ xs. WakesFollow (steps_at code f xs)) (sym u.all)
       (next_wakes n k os u.instr u.next u.rest u.at u.leads u.told, wakes_follow n u.next.place u.next.outcomes u.rest u.told)
 
-  -- when a sleep ends, in steps that end before a number
+  -- the end of a sleep, among steps that end before a number
   pub record WakesSo (end : ℕ) (s : Sleep) : Type 0 where
     pub next : (k : ℕ) → s.wake ≡ Some k → k ≡ s.step + 1
     pub last : s.wake ≡ None → s.step + 1 ≡ end
 
-  -- an event that begins a wait is of the first half of one
+  -- an event that begins a wait is the first half of a wait
   sleep_is : (m : Marks) (i : Instr) (fails : Bool) (c l : ℕ) → kind_with m i fails ≡ Some (kind.Sleep c l) → i ≡ instr.Sleep c l
   sleep_is m i true c l e = absurd cc
   sleep_is m (instr.Sleep d n) false c l e = let same : instr.Sleep d n ≡ instr.Sleep c l = cc in same
   sleep_is m i false c l e = absurd cc
 
-  -- a wake is an event, even if it were to fail
+  -- a wake is an event, even as the failing step
   wake_asks : (m : Marks) (c l : ℕ) (fails : Bool) → (k : EventKind) × (kind_with m (instr.Wake c l) fails ≡ Some k)
   wake_asks m c l true = (kind.Fail, refl)
   wake_asks m c l false = (kind.Wake c l, refl)
@@ -117,7 +117,7 @@ module _ (code : Code) (lawful : IsLawful code) (f : ℕ) where
         → option_map (λ (e : Event). e.step) (slice_get (events_from code f b j m (t ∷ ss)) 0) ≡ Some j
     first_step j m t ss c l is =
         let k = wake_asks m c l (b && length ss == 0) in
-        let later = events_from code f b (j + 1) (marked m t.instr) ss in
+        let later = events_from code f b (j + 1) (marks_after_instr m t.instr) ss in
         let asked : kind_with m t.instr (b && length ss == 0) ≡ Some k.0 = ap (λ i. kind_with m i (b && length ss == 0)) is ∙ k.1 in
         ap (λ o. option_map (λ (e : Event). e.step) (slice_get (cons_option (option_map (event_at code f b j t m) o) later) 0)) asked
 
@@ -138,32 +138,32 @@ module _ (code : Code) (lawful : IsLawful code) (f : ℕ) where
     wakes_so j m (x ∷ ss) s follow i =
         let end : (j + 1) + length ss ≡ j + suc (length ss) = omega arith in
         by (kind_with m x.instr (b && length ss == 0)) refl i
-        (λ g. subst (λ e. WakesSo e s) end (wakes_so (j + 1) (marked m x.instr) ss s follow.1 g))
+        (λ g. subst (λ e. WakesSo e s) end (wakes_so (j + 1) (marks_after_instr m x.instr) ss s follow.1 g))
       where
         by_kind : (k : EventKind) → kind_with m x.instr (b && length ss == 0) ≡ Some k
-            → In s (cons_option (sleep_by j (slice_get (events_from code f b (j + 1) (marked m x.instr) ss) 0) k)
-            (sleeps_of (events_from code f b (j + 1) (marked m x.instr) ss)))
-            → (In s (sleeps_of (events_from code f b (j + 1) (marked m x.instr) ss)) → WakesSo (j + suc (length ss)) s) → WakesSo (j + suc (length ss)) s
+            → In s (cons_option (sleep_by j (slice_get (events_from code f b (j + 1) (marks_after_instr m x.instr) ss) 0) k)
+            (sleeps_of (events_from code f b (j + 1) (marks_after_instr m x.instr) ss)))
+            → (In s (sleeps_of (events_from code f b (j + 1) (marks_after_instr m x.instr) ss)) → WakesSo (j + suc (length ss)) s) → WakesSo (j + suc (length ss)) s
         by_kind (kind.Sleep c l) e (inl same) rest =
             subst (WakesSo (j + suc (length ss))) same
-            (begun_so j c l (marked m x.instr) x ss (sleep_is m x.instr (b && length ss == 0) c l e) follow.0)
+            (begun_so j c l (marks_after_instr m x.instr) x ss (sleep_is m x.instr (b && length ss == 0) c l e) follow.0)
         by_kind (kind.Sleep c l) e (inr i) rest = rest i
         by_kind k e i rest = rest i
 
         by : (o : Option EventKind) → kind_with m x.instr (b && length ss == 0) ≡ o
-            → In s (sleeps_of (cons_option (option_map (event_at code f b j x m) o) (events_from code f b (j + 1) (marked m x.instr) ss)))
-            → (In s (sleeps_of (events_from code f b (j + 1) (marked m x.instr) ss)) → WakesSo (j + suc (length ss)) s) → WakesSo (j + suc (length ss)) s
+            → In s (sleeps_of (cons_option (option_map (event_at code f b j x m) o) (events_from code f b (j + 1) (marks_after_instr m x.instr) ss)))
+            → (In s (sleeps_of (events_from code f b (j + 1) (marks_after_instr m x.instr) ss)) → WakesSo (j + suc (length ss)) s) → WakesSo (j + suc (length ss)) s
         by None e i rest = rest i
         by (Some k) e i rest = by_kind k e i rest
 
--- so it is on the path of each thread
+-- the sleeps of each thread's path end with their wakes
 pub walk_wakes : (code : Code) (lawful : IsLawful code) (log : Log) (w : Walk) → IsWalk code log w → (s : Sleep) → In s w.sleeps
     → WakesSo code lawful w.function (length w.places) s
 walk_wakes code lawful log w k s i =
     let ss = steps_at code w.function w.places in
     let long : 0 + length ss ≡ length w.places = omega (arith, length-map w.places (step_at code w.function)) in
-    let events : w.sleeps ≡ sleeps_of (events_from code w.function (fails_in log w.name) 0 (unmarked code w.function) ss) =
+    let events : w.sleeps ≡ sleeps_of (events_from code w.function (fails_in log w.name) 0 (marks_at_start code w.function) ss) =
     k.sleeps ∙ ap sleeps_of k.events in
     subst (λ e. WakesSo code lawful w.function e s) long
-    (wakes_so code lawful w.function (fails_in log w.name) 0 (unmarked code w.function) ss s
+    (wakes_so code lawful w.function (fails_in log w.name) 0 (marks_at_start code w.function) ss s
     (wakes_follow code lawful w.function k.path.steps 0 k.path.outcomes w.places k.places) (subst (In s) events i))

@@ -10,23 +10,21 @@ use Rattle.run_laws.proofs.Names.{is_same, same_self}
 use Rattle.run_history.specs.History.{Deed, Did, Drained, same}
 use Rattle.run_history.specs.Told.{is_step_of, steps_in, failed_in}
 use Rattle.run_follows.specs.Follow.{MayFollow}
-use Rattle.path_walk.specs.Fits.{Fits}
-use Rattle.path_walk.specs.Paths.{Walk}
 use Rattle.path_laws.specs.Setting.{Setting}
-use Rattle.path_laws.specs.history.Along.{IsAlongPaths, IsThread}
 use Rattle.path_laws.specs.history.Next.{IsNextOnPath}
-use Rattle.path_laws.proofs.of_history.Told.{run_of, first_along}
 use Rattle.path_laws.proofs.of_history.Walks.{few_steps}
 use Rattle.path_laws.proofs.of_history.Next.{next_on_path, asks_told}
+use Rattle.path_laws.specs.history.Along.{HistoryAlong, PathThread}
+use Rattle.path_laws.proofs.of_history.Told.{its_run, up_to}
 
--- how many steps the parts of a history have
+-- the number of steps in two parts of a history
 pub steps_both : (xs ys : List Deed) (n : Name) → steps_in (xs ++ ys) n ≡ steps_in xs n + steps_in ys n
 steps_both xs ys n = sum_by-append (λ d. cond (is_step_of n d) 1 0) xs ys
 
 pub steps_first : (d : Deed) (h : List Deed) (n : Name) → steps_in (d ∷ h) n ≡ cond (is_step_of n d) 1 0 + steps_in h n
 steps_first d h n = sum_by-cons (λ d. cond (is_step_of n d) 1 0) d h
 
--- a step of a thread in a history, after so many others of it
+-- a step of a thread in a history, after `k` others of that thread
 pub record StepAt (h : List Deed) (n : Name) (k : ℕ) : Type 0 where
   pub older : List Deed
   pub newer : List Deed
@@ -77,13 +75,13 @@ step_at (Did q i r v o ∷ h) n k few = by (same n q) refl k few (λ m less. ste
         let count = steps_first d h n ∙ ap (λ b. cond b 1 0 + steps_in h n) e in
         behind d h n k k (rest k (omega (arith, few, count))) (ap (λ b. cond b 1 0 + k) e ∙ omega arith)
 
-module _ {B : Type 0} (setting : Setting B) (fits : Fits setting.code setting.log) (h : List Deed)
-    (along : IsAlongPaths setting.ops.buffered setting.bound setting.code setting.log h) (j : ℕ) (w : Walk) (there : IsThread setting.code setting.log j w) where
+module _ {B : Type 0} (setting : Setting B) (history : HistoryAlong setting) (thread : PathThread setting.code setting.log) where
   open setting use {machine, ops, bound, code, log}
+  open history use {deeds as h, along}
+  open thread use {walk as w}
 
-  -- a deed of a thread is the next step of its path after those before it
+  -- a deed of a thread is the next step of its path after the deeds before it
   pub record IsStep (older : List Deed) (k : ℕ) (r : Request) (took : ℤ) (other : Option Name) : Type 0 where
-    pub begins : IsAlongPaths ops.buffered bound code log older
     pub going : failed_in older ≡ None
     pub may : MayFollow ops.buffered bound code older (Did w.name k r took other)
     pub next : IsNextOnPath code older w
@@ -95,17 +93,14 @@ module _ {B : Type 0} (setting : Setting B) (fits : Fits setting.code setting.lo
   step_is older newer k r took other at =
       let d = Did w.name k r took other in
       let f = along.follow older newer d at in
-      let a = first_along machine log older (d ∷ newer) (subst (IsAlongPaths ops.buffered bound code log) at along) in
-      let left = (run_of machine log h along).told.threads older newer w.name k r took other at in
+      let left = (its_run setting history).told.threads older newer w.name k r took other at in
       let count : steps_in h w.name ≡ steps_in older w.name + (1 + steps_in newer w.name) =
       ap (λ g. steps_in g w.name) at
       ∙ steps_both older (d ∷ newer) w.name
       ∙ ap (λ m. steps_in older w.name + m) (steps_first d newer w.name ∙ ap (λ b. cond b 1 0 + steps_in newer w.name) (same_self w.name w.name refl)) in
-      let few = few_steps setting fits h j w along there in
-      let x = next_on_path setting fits older j w there f.0 (run_of machine log older a) left.there
-      (omega (arith, count, few)) in
+      let few = few_steps setting history thread in
+      let x = next_on_path setting (up_to setting history older (d ∷ newer) at) thread f.0 left.there (omega (arith, count, few)) in
       record {
-        begins = a;
         going = f.0;
         may = f.1;
         next = x;

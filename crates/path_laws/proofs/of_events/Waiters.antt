@@ -1,4 +1,4 @@
--- Who waits, and who has exited, is told by the sleeps and the events of paths.
+-- The sleeps and the events of paths determine who waits and who has exited.
 use Rattle.std.proofs.Common.{◌≡◌, ◌↔◌, ◌∙◌, inl, inr, ℕ, ◌+◌, ◌<◌, ◌==◌, ◌&&◌, ◌||◌, ℤ, Bool, true, false, not, cond, List, [], ◌∷◌, ◌++◌}
 use Rattle.std.proofs.Common.{Option, Some, None, refl, sym, ap, ap₂, subst, arith, append_assoc, true≢false}
 use Rattle.std.specs.Prelude.{is_none, option_map, option_and_then}
@@ -24,15 +24,13 @@ use Rattle.run_history.proofs.Last.{waiters_are_last}
 use Rattle.run_follows.proofs.of_deeds.Cells.{next_within}
 use Rattle.run_follows.specs.Follow.{MayFollow, may_do_in}
 use Rattle.run_history.proofs.of_pending.In.{In, in_at, in_split, any_in, in_any}
-use Rattle.path_walk.specs.Fits.{Fits}
-use Rattle.path_walk.specs.Paths.{Walk}
 use Rattle.path_walk.specs.declared.event.Event.{Event}
 use Rattle.path_walk.specs.declared.event.EventKind.TheVariants as kind
 use Rattle.path_walk.specs.declared.event.Sleep.{Sleep}
 use Rattle.path_laws.specs.Setting.{Setting}
 use Rattle.path_laws.specs.Deeds.{kind_of}
-use Rattle.path_laws.specs.history.Along.{IsAlongPaths, IsThread, IsNameOfThread}
-use Rattle.path_laws.proofs.of_history.Told.{RunOf, run_of, reached, first_along}
+use Rattle.path_laws.specs.history.Along.{IsNameOfThread, HistoryAlong, PathThread}
+use Rattle.path_laws.proofs.of_history.Told.{reached, its_run, up_to}
 use Rattle.path_laws.proofs.of_history.Walks.{IsWalk, walk_is, thread_named}
 use Rattle.path_laws.specs.events.Done.{IsDoneIn, IsAsleepIn}
 use Rattle.path_laws.proofs.of_events.Lists.{in_contains, contains_in}
@@ -72,7 +70,7 @@ begins_wait c n (Did q k (WakeAll d) took other) e = absurd (begun_so _ e)
 begins_wait c n (Did q k Silent took other) e = absurd (none-some true e)
 begins_wait c n d e = absurd (none-some true e)
 
--- one that does is the last that does or ends one
+-- the deed that begins a sleep still going is the last that begins or ends a wait of the thread
 last_wait : (h older newer : List Deed) (n : Name) (k c m : ℕ) (took : ℤ) (other : Option Name) → h ≡ older ++ Did n k (BeginWait c m) took other ∷ newer
     → filter_map (waits_by c n) newer ≡ [] → IsLast (waits_by c n) h true
 last_wait h older newer n k c m took other there lasts = record {
@@ -84,7 +82,7 @@ last_wait h older newer n k c m took other there lasts = record {
   last = lasts;
 }
 
--- of two parts of which nothing is left nothing is left of the first
+-- if two lists together are empty, the first is empty
 first_nil : {X : Type 0} (xs ys : List X) → xs ++ ys ≡ [] → xs ≡ []
 first_nil [] ys e = refl
 first_nil (x ∷ xs) ys e = absurd cc
@@ -99,7 +97,7 @@ exit_is (Start f) other e = absurd (by (option_and_then (last_or None) other) e)
     by (Some k) e = cc
 exit_is r other e = absurd cc
 
--- a deed that is one
+-- a deed that is an exit
 record IsExit (n : Name) (d : Deed) : Type 0 where
   number : ℕ
   took : ℤ
@@ -111,20 +109,15 @@ exit_of n (Did q k Finish took other) e =
     record { number = k; took = took; other = other; is = ap (λ p. Did p k Finish took other) (sym (is_same n q e)) }
 exit_of n d e = absurd (true≢false (sym e))
 
-module _ {B : Type 0} (setting : Setting B) (fits : Fits setting.code setting.log) where
-  open setting use {machine, ops, bound, code, lawful, log, log_is as is}
-
-  abbrev Along : List Deed → Type 0
-  Along h = IsAlongPaths ops.buffered bound code log h
-
-  abbrev run : (h : List Deed) → Along h → RunOf machine log h
-  run h along = run_of machine log h along
+module _ {B : Type 0} (setting : Setting B) (history : HistoryAlong setting) where
+  open setting use {machine, ops, bound, code, lawful, log}
+  open history use {deeds as h}
 
   -- a thread that waits isn't let go on
-  asleep_rests : (h : List Deed) (n : Name) (c k : ℕ) (r : Request) (took : ℤ) (other : Option Name) → Along h → c < code.conditions
+  asleep_rests : (n : Name) (c k : ℕ) (r : Request) (took : ℤ) (other : Option Name) → c < code.conditions
       → set.contains (waiting_in h c) n ≡ true → MayFollow ops.buffered bound code h (Did n k r took other) → ⊥
-  asleep_rests h n c k r took other along within waits may =
-      let a = run h along in
+  asleep_rests n c k r took other within waits may =
+      let a = its_run setting history in
       let s = a.state in
       let at = waiters_are_at_wake ops code s lawful (reached machine log h a) n c
       (ap (λ ns. set.contains ns n) (a.told.tells.waiters.waiters c within) ∙ waits) in
@@ -138,9 +131,13 @@ module _ {B : Type 0} (setting : Setting B) (fits : Fits setting.code setting.lo
       let free = and_parts (not (set.contains (waiting_in h c) n)) (is_none (owner_in h at.mutex)) met.1 in
       true≢false (sym free.0 ∙ ap not waits)
 
+module _ {B : Type 0} (setting : Setting B) (history : HistoryAlong setting) where
+  open setting use {machine, code, log, log_is as is}
+  open history use {deeds as h, fits, along}
+
   -- so a thread that sleeps has done no step since
-  pub sleeps_still : (h : List Deed) (n : Name) (s : Sleep) → Along h → IsAsleepIn h n s → steps_in h n ≡ s.step + 1
-  sleeps_still h n s along a =
+  pub sleeps_still : (n : Name) (s : Sleep) → IsAsleepIn h n s → steps_in h n ≡ s.step + 1
+  sleeps_still n s a =
       let c = s.condition in
       let d = Did n s.step (BeginWait c s.mutex) a.took a.other in
       let f = (along.follow a.older a.newer d a.there).1 in
@@ -159,28 +156,28 @@ module _ {B : Type 0} (setting : Setting B) (fits : Fits setting.code setting.lo
             let none : filter_map (waits_by c n) t.older ≡ [] =
             first_nil (filter_map (waits_by c n) t.older) (filter_map (waits_by c n) (e ∷ t.newer))
             (sym (filter_map-append (waits_by c n) t.older (e ∷ t.newer)) ∙ ap (filter_map (waits_by c n)) (sym t.there) ∙ a.lasts) in
-            let along_g = first_along machine log g (e ∷ t.newer) (subst Along there along) in
-            let before = first_along machine log a.older (d ∷ a.newer) (subst Along a.there along) in
-            let within = next_within machine a.older n (BeginWait c s.mutex) before.follow f.asks in
-            absurd (asleep_rests g n c t.number t.request t.took t.other along_g within.0
+            let before = up_to setting history a.older (d ∷ a.newer) a.there in
+            let within = next_within machine a.older n (BeginWait c s.mutex) before.along.follow f.asks in
+            absurd (asleep_rests setting (up_to setting history g (e ∷ t.newer) there) n c t.number t.request t.took t.other within.0
             ((waiters_are_last g c n).1 (last_wait g a.older t.older n s.step c s.mutex a.took a.other refl none))
             (along.follow g t.newer e there).1)
       ]
 
   -- who waits is a thread of the paths
-  pub waiter_named : (h : List Deed) (c : ℕ) (n : Name) → Along h → set.contains (waiting_in h c) n ≡ true → IsNameOfThread code log n
-  waiter_named h c n along waits =
+  pub waiter_named : (c : ℕ) (n : Name) → set.contains (waiting_in h c) n ≡ true → IsNameOfThread code log n
+  waiter_named c n waits =
       let last = (waiters_are_last h c n).0 waits in
       let b = begins_wait c n last.deed last.gives in
       let d = Did n b.number (BeginWait c b.mutex) b.took b.other in
       let at = last.there ∙ ap (λ x. last.older ++ x ∷ last.newer) b.is in
-      let before = first_along machine log last.older (d ∷ last.newer) (subst Along at along) in
-      thread_named setting fits last.older n before
-      ((run h along).told.threads last.older last.newer n b.number (BeginWait c b.mutex) b.took b.other at).there
+      thread_named setting (up_to setting history last.older (d ∷ last.newer) at) n
+      ((its_run setting history).told.threads last.older last.newer n b.number (BeginWait c b.mutex) b.took b.other at).there
 
-  module _ (h : List Deed) (along : Along h) (j : ℕ) (w : Walk) (there : IsThread code log j w) where
+  module _ (thread : PathThread code log) where
+    open thread use {walk as w}
+
     abbrev k : IsWalk code log w
-    k = walk_is code log is fits j w there
+    k = walk_is code log is fits thread
 
     abbrev HasSleep : ℕ → Type 0
     HasSleep c = (s : Sleep) × Contains w.sleeps s × (s.condition ≡ c) × IsAsleepIn h w.name s
@@ -194,7 +191,7 @@ module _ {B : Type 0} (setting : Setting B) (fits : Fits setting.code setting.lo
         let at = last.there ∙ ap (λ x. last.older ++ x ∷ last.newer) b.is in
         let done : IsDoneIn h n b.number (kind.Sleep c b.mutex) =
         record { older = last.older; newer = last.newer; request = BeginWait c b.mutex; took = b.took; other = b.other; there = at; asks = refl } in
-        let x = done_event setting fits h along j w there b.number (kind.Sleep c b.mutex) done in
+        let x = done_event setting history thread b.number (kind.Sleep c b.mutex) done in
         let s = sleep_of_event w.events x.0 c b.mutex x.1 x.3 in
         let step : b.number ≡ s.0.step = sym (s.2.step ∙ x.2) in (
           s.0,
@@ -241,12 +238,12 @@ module _ {B : Type 0} (setting : Setting B) (fits : Fits setting.code setting.lo
           there = at.there ∙ ap (λ d. at.older ++ d ∷ at.newer) e.is;
           asks = refl;
         } in
-        let x = done_event setting fits h along j w there e.number kind.Exit done in
+        let x = done_event setting history thread e.number kind.Exit done in
         (x.0, contains_in x.0 w.events x.1, x.3, subst (λ i. i < steps_in h w.name) (sym x.2) x.4)
 
     from_exit : HasExit → has_exited_in h w.name ≡ true
     from_exit x =
-        let d = event_done setting fits h along j w there x.0 (in_contains x.0 w.events x.1) x.3 in
+        let d = event_done setting history thread x.0 (in_contains x.0 w.events x.1) x.3 in
         let finish : d.request ≡ Finish = exit_is d.request d.other (d.asks ∙ ap (λ a. Some a) x.2) in
         let deed = Did w.name x.0.step Finish d.took d.other in
         in_any (is_exit_of w.name) deed h

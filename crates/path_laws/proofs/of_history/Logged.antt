@@ -14,10 +14,10 @@ use Rattle.tc_code.specs.Run.{Reproduces, path_of}
 use Rattle.run_laws.proofs.Basics.{some_value}
 use Rattle.run_laws.proofs.Created.{reached_is_created}
 use Rattle.run_laws.proofs.Main.{main_is_there}
-use Rattle.run_history.specs.History.{Deed, history}
+use Rattle.run_history.specs.History.{history}
 use Rattle.run_history.specs.Told.{is_thread_in, steps_in}
 use Rattle.run_follows.specs.Logged.{path_by, path_told, EndsAsIn, GoesAsLogged}
-use Rattle.path_walk.specs.Fits.{started, places_in, child_function, function_of, Fits}
+use Rattle.path_walk.specs.Fits.{started, places_in, child_function, function_of}
 use Rattle.path_walk.specs.Paths.{Walk}
 use Rattle.path_walk.specs.Steps.{steps_at}
 use Rattle.path_walk.proofs.Faults.{option_is, function_of_child, no_child, fitting}
@@ -25,26 +25,38 @@ use Rattle.path_laws.specs.Setting.{Setting}
 use Rattle.path_laws.specs.Prefixes.{fails_by}
 use Rattle.path_laws.proofs.Logs.{created_count, reproduced_fits}
 use Rattle.path_laws.proofs.Prefixes.{thread_path}
-use Rattle.path_laws.specs.history.Along.{IsAlongPaths, IsThread, IsNameOfThread, AllHaveDone, AllAreThere}
-use Rattle.path_laws.proofs.of_history.Told.{RunOf, run_of, reached, steps_of, reproduced_run}
-use Rattle.path_laws.proofs.of_history.Walks.{IsWalking, walking, walk_is, named}
+use Rattle.path_laws.specs.history.Along.{IsNameOfThread, AllHaveDone, AllAreThere, HistoryAlong, PathThread}
+use Rattle.path_laws.proofs.of_history.Told.{RunOf, reached, steps_of, reproduced_run, its_run, reproduced_along}
+use Rattle.path_laws.proofs.of_history.Walks.{IsWalking, walking, walk_is, named, IsWalk}
 use Rattle.path_laws.proofs.of_history.Whole.{stands_all, went_all}
 
 module _ {B : Type 0} (setting : Setting B) where
-  open setting use {machine, ops, model, bound, laws, code, lawful, log, log_is as is}
+  open setting use {machine, ops, bound, code, log, log_is as is}
 
-  -- What reproduces a log does all steps of its paths.
+  -- Moves that reproduce a log do all steps of its paths.
   module _ (moves : List Move) (again : Reproduces ops code log moves) where
+    -- the history of what reproduces a log
+    abbrev pub history_again : HistoryAlong setting
+    history_again = record {
+      deeds = history ops code moves;
+      fits = reproduced_fits machine log moves again;
+      along = reproduced_along machine log moves again;
+    }
+
     abbrev all : RunOf machine log (history ops code moves)
     all = reproduced_run machine log moves again
 
-    module _ (j : ℕ) (w : Walk) (there : IsThread code log j w) where
+    module _ (thread : PathThread code log) where
+      open thread use {walk as w}
+
+      abbrev path_walk : IsWalk code log w
+      path_walk = walk_is code log is (reproduced_fits machine log moves again) thread
+
       thread_again : (t : Thread B) × (fin.get again.state.threads w.name ≡ Some t)
       thread_again = by (fin.get again.state.threads w.name) refl
         where
-          under : option_map path_of (fin.get again.state.threads w.name)
-              ≡ Some (walk_is code log is (reproduced_fits code ops model bound laws lawful log moves again) j w there).path
-          under = again.paths w.name ∙ (walk_is code log is (reproduced_fits code ops model bound laws lawful log moves again) j w there).under
+          under : option_map path_of (fin.get again.state.threads w.name) ≡ Some path_walk.path
+          under = again.paths w.name ∙ path_walk.under
 
           by : (o : Option (Thread B)) → fin.get again.state.threads w.name ≡ o → (t : Thread B) × (fin.get again.state.threads w.name ≡ Some t)
           by None none = absurd (none-some _ (sym (ap (option_map path_of) none) ∙ under))
@@ -56,55 +68,55 @@ module _ {B : Type 0} (setting : Setting B) where
       pub has_done : steps_in (history ops code moves) w.name ≡ length w.places
       has_done =
           let t = thread_again in
-          let k = walk_is code log is (reproduced_fits code ops model bound laws lawful log moves again) j w there in
-          let path : path_of t.0 ≡ k.path = same_Some (path_of t.0) k.path (sym (thread_path ops code log moves again w.name t.0 t.1) ∙ k.under) in
+          let path : path_of t.0 ≡ path_walk.path = same_Some (path_of t.0) path_walk.path (sym (thread_path ops code log moves again w.name t.0 t.1) ∙ path_walk.under) in
           omega (
             arith,
             steps_of machine log (history ops code moves) all w.name t.0 t.1,
-            k.long,
+            path_walk.long,
             ap (λ (p : Path). p.steps) path,
           )
 
   -- A history in which each thread has done all its steps.
-  module _ (fits : Fits code log) (h : List Deed) (along : IsAlongPaths ops.buffered bound code log h)
-      (done : AllHaveDone code log h) where
+  module _ (history : HistoryAlong setting) (done : AllHaveDone code log history.deeds) where
+    open history use {deeds as h, fits}
+
     abbrev r : RunOf machine log h
-    r = run_of machine log h along
+    r = its_run setting history
 
     abbrev s : State B
     s = r.state
 
-    -- a thread that is there has gone its whole path
+    -- a thread of the state has gone its whole path
     module _ (n : Name) (t : Thread B) (here : fin.get s.threads n ≡ Some t) where
       abbrev p : IsNameOfThread code log n
       p = named code log is fits n (r.on n t here).path (r.on n t here).there
 
       abbrev w : Walk
-      w = p.walk
+      w = p.thread.walk
 
       here_too : fin.get s.threads w.name ≡ Some t
-      here_too = ap (fin.get s.threads) p.name ∙ here
+      here_too = ap (fin.get s.threads) p.name_is ∙ here
 
-      abbrev k : IsWalking setting fits w t s.failed
-      k = walking setting fits h r p.place w t p.there here_too
+      abbrev k : IsWalking setting history p.thread t
+      k = walking setting history p.thread t here_too
 
       went_its_path : Some (path_by t.local) ≡ path_under n log.threads
       went_its_path =
-          ap (λ q. Some q) (went_all setting fits h r p.place w p.there t here_too (done p.place w p.there))
-          ∙ sym k.walk.under ∙ ap (λ m. path_under m log.threads) p.name
+          ap (λ q. Some q) (went_all setting history p.thread (done p.thread) t here_too)
+          ∙ sym k.walk.under ∙ ap (λ m. path_under m log.threads) p.name_is
 
       function_told : function_of code log n ≡ Some t.local.function
-      function_told = ap (function_of code log) (sym p.name) ∙ k.walk.function ∙ ap (λ f. Some f) (sym k.function)
+      function_told = ap (function_of code log) (sym p.name_is) ∙ k.walk.function ∙ ap (λ f. Some f) (sym k.function)
 
-      -- and its children are there
+      -- the children of a thread exist
       child_there : (j f : ℕ) → child_function code log n t.local.function (suc j) ≡ Some f → (c : Thread B) × (fin.get s.threads (child n (suc j)) ≡ Some c)
       child_there j f creates =
           let g = t.local.function in
           let at : slice_get (started (steps_at code g w.places)) j ≡ Some f =
-          ap (λ ps. slice_get (started (steps_at code g ps)) j) (sym k.places ∙ ap (λ m. places_in code log m g) p.name) ∙ creates in
+          ap (λ ps. slice_get (started (steps_at code g ps)) j) (sym k.places ∙ ap (λ m. places_in code log m g) p.name_is) ∙ creates in
           let within = slice_get_within (started (steps_at code g w.places)) j f at in
           let count = created_count code (fails_by s.failed w.name) t.local w.places
-          (stands_all setting fits h r p.place w p.there t here_too (done p.place w p.there)) in
+          (stands_all setting history p.thread (done p.thread) t here_too) in
           some_value (fin.get s.threads (child n (suc j)))
           ((reached_is_created ops code s (reached machine log h r)).child_is_there n t (suc j) here
           (record { first = omega arith; last = omega (arith, count, within) }))
@@ -135,7 +147,7 @@ module _ {B : Type 0} (setting : Setting B) where
         let t = some_value (fin.get s.threads []) (main_is_there ops code s (reached machine log h r)) in
         (t.0, ap (fin.get s.threads) main ∙ t.1)
 
-    -- so all threads of the log are there, by the length of their names
+    -- all threads of the log exist, by the length of their names
     there_by : (m : ℕ) (n : Name) (p : Path) → length n ≤ m → path_under n log.threads ≡ Some p → (t : Thread B) × (fin.get s.threads n ≡ Some t)
     there_by zero n p few under =
         elim (parent_of n) [
@@ -151,10 +163,11 @@ module _ {B : Type 0} (setting : Setting B) where
         ]
 
     pub all_there : AllAreThere code log h
-    all_there j w there =
-        let k = walk_is code log is fits j w there in
-        let t = there_by (length w.name) w.name k.path (omega arith) k.under in
-        sym (r.told.tells.deeds.buffers.threads.there w.name) ∙ ap is_some t.1
+    all_there thread =
+        let n = thread.name in
+        let k = walk_is code log is fits thread in
+        let t = there_by (length n) n k.path (omega arith) k.under in
+        sym (r.told.tells.deeds.buffers.threads.there n) ∙ ap is_some t.1
 
     told_path : (n : Name) → path_told code h n ≡ path_under n log.threads
     told_path n = ap (option_map path_by) (r.told.tells.locals n) ∙ by (fin.get s.threads n) refl

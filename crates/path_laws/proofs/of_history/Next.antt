@@ -19,8 +19,8 @@ use Rattle.run_history.specs.History.{Deed}
 use Rattle.run_history.specs.Locals.{asks_next}
 use Rattle.run_history.specs.Told.{is_thread_in, steps_in, failed_in}
 use Rattle.path_walk.specs.Events.{excludes, is_impossible}
-use Rattle.path_walk.specs.Fits.{fails_in, places_in, Fits}
-use Rattle.path_walk.specs.Marks.{Marks, unmarked, marks_after, marked_steps}
+use Rattle.path_walk.specs.Fits.{fails_in, places_in}
+use Rattle.path_walk.specs.Marks.{Marks, marks_at_start, marks_after, marked_steps}
 use Rattle.path_walk.specs.Paths.{Walk, paths_of}
 use Rattle.path_walk.specs.Steps.{Step, Onward, onward, places_from, end_from, step_at, steps_at}
 use Rattle.path_laws.specs.Setting.{Setting}
@@ -29,13 +29,13 @@ use Rattle.path_laws.specs.Prefixes.{fails_by}
 use Rattle.path_laws.proofs.Blocked.{none_behind_exit}
 use Rattle.path_laws.proofs.Deeds.{same_test}
 use Rattle.path_laws.proofs.States.{Stands}
-use Rattle.path_laws.specs.history.Along.{IsThread}
 use Rattle.path_laws.specs.history.Next.{fails_next, IsNextOnPath, IsAsWanted}
-use Rattle.path_laws.proofs.of_history.Told.{RunOf, reached, thread_of, steps_of, local_is}
+use Rattle.path_laws.proofs.of_history.Told.{RunOf, reached, thread_of, steps_of, local_is, its_run}
 use Rattle.path_laws.proofs.of_history.Walks.{IsWalking, walking, walk_is, no_element}
 use Rattle.path_laws.proofs.of_history.Places.{IsNextPlace, next_place, marked_at}
+use Rattle.path_laws.specs.history.Along.{HistoryAlong, PathThread}
 
--- a path that isn't dead excludes no step
+-- paths that aren't dead exclude no step
 beq_not : (b fails : Bool) → beq b fails ≡ false → b ≡ not fails
 beq_not true true e = absurd (true≢false e)
 beq_not true false e = refl
@@ -48,7 +48,7 @@ wanted_by t m (Ready v) fails marks e = beq_not _ fails (ap (λ xs. beq (can_be_
 wanted_by t m (Lock k) fails marks e = ap (λ xs. slice_index_or xs k false) (sym marks.held) ∙ e
 wanted_by t m i fails marks e = tt
 
--- what it asks next is told by the history
+-- the history determines the thread's next request
 pub asks_told : (code : Code) (h : List Deed) (w : Walk) (x : IsNextOnPath code h w) → asks_next code h w.name ≡ Some (request x.local x.instr)
 asks_told code h w x =
     ap (option_and_then (λ (l : Local). option_map (request l) (instr_of code l))) x.there ∙ ap (option_map (request x.local)) x.next
@@ -65,7 +65,7 @@ module _ (code : Code) (w : Walk) (k : ℕ) where
       ∙ ap (option_map (step_at code w.function)) at
       ∙ ap (λ o. Some (the_step (record { place = place; instr = unwrap_or o Exit }))) instr
 
-  -- whether it is the last
+  -- whether a step is the last one
   pub last_step : k < length w.places → (length (drop (suc k) (steps_at code w.function w.places)) == 0) ≡ (k + 1 == length w.places)
   last_step few =
       let rest = length-drop (suc k) (steps_at code w.function w.places) in
@@ -73,31 +73,36 @@ module _ (code : Code) (w : Walk) (k : ℕ) where
       same_test (length (drop (suc k) (steps_at code w.function w.places))) 0 (k + 1) (length w.places)
       (λ none. omega (arith, rest, all, none, few)) (λ same. omega (arith, rest, all, same))
 
-module _ {B : Type 0} (setting : Setting B) (fits : Fits setting.code setting.log) (h : List Deed) (j : ℕ) (w : Walk)
-    (there : IsThread setting.code setting.log j w) (going : failed_in h ≡ None) (r : RunOf setting.machine setting.log h) where
+module _ {B : Type 0} (setting : Setting B) (history : HistoryAlong setting) (thread : PathThread setting.code setting.log)
+    (going : failed_in history.deeds ≡ None) where
   open setting use {machine, ops, code, lawful, log, log_is as is}
+  open history use {deeds as h, fits}
+  open thread use {walk as w}
+
+  abbrev r : RunOf machine log h
+  r = its_run setting history
 
   none_failed : r.state.failed ≡ None
   none_failed = r.told.tells.failure ∙ going
 
-  -- a thread that is there stands where the first places of its path lead
+  -- each thread of the state is where the first places of its path lead
   module _ (t : Thread B) (here : fin.get r.state.threads w.name ≡ Some t) where
-    abbrev k : IsWalking setting fits w t r.state.failed
-    k = walking setting fits h r j w t there here
+    abbrev k : IsWalking setting history thread t
+    k = walking setting history thread t here
 
     pub stands : IsAlong code t.local (take t.local.steps w.places)
     stands =
         subst (λ ps. IsAlong code t.local (take t.local.steps ps)) k.places
         (subst (λ o. Stands code (fails_by o w.name) t.local (take t.local.steps (places_in code log w.name t.local.function))) none_failed k.so.stands)
 
-    -- and has steps left where the history tells so
+    -- a thread has steps left if the history says so
     goes_on : t.local.has_exited ≡ true → (i : Instr) → instr_at code t.local.function t.local.instruction ≡ Some i → ⊥
     goes_on gone i at =
         none-some i
         (sym (none_behind_exit code t.local lawful
         ((exited_past_exit ops code r.state lawful (reached machine log h r) w.name t here).0 gone)) ∙ at)
 
-    -- its place is the next of the path
+    -- the thread's place is the next one of the path
     next_there : t.local.steps < length w.places → IsNextPlace code w.function t.local.steps 0 t.local.outcomes k.so.on.later w.places
     next_there left =
         let f = w.function in
@@ -149,11 +154,11 @@ module _ {B : Type 0} (setting : Setting B) (fits : Fits setting.code setting.lo
       by (Some t) here =
           (t, here, same_Some t.local x.local (sym (r.told.tells.locals w.name ∙ ap (option_map (λ (t : Thread B). t.local)) here) ∙ x.there))
 
-  -- its place leaves it steps
+  -- a thread with a next step on its path has steps left
   pub steps_left : (x : IsNextOnPath code h w) → steps_in h w.name < length w.places
   steps_left x = slice_get_within w.places (steps_in h w.name) x.local.instruction x.place
 
-  -- and it goes on by the outcomes that are left
+  -- the next step goes on with the outcomes that are left
   pub next_leads : (x : IsNextOnPath code h w) → (on : Onward) × (onward x.local.instruction x.instr x.later ≡ Some on)
   next_leads x =
       let t = thread_next x in
@@ -170,16 +175,16 @@ module _ {B : Type 0} (setting : Setting B) (fits : Fits setting.code setting.lo
   pub along_next : (x : IsNextOnPath code h w) → IsAlong code x.local (take x.local.steps w.places)
   along_next x = let t = thread_next x in subst (λ (l : Local). IsAlong code l (take l.steps w.places)) t.2 (stands t.0 t.1)
 
-  -- the marks that the steps before it made
+  -- the marks after the steps before it
   abbrev marks_now : Local → Marks
-  marks_now l = marks_after (unmarked code w.function) (take l.steps (steps_at code w.function w.places))
+  marks_now l = marks_after (marks_at_start code w.function) (take l.steps (steps_at code w.function w.places))
 
   pub has_marks : (x : IsNextOnPath code h w) → HasMarks x.local (marks_now x.local)
   has_marks x =
-      subst (λ ss. HasMarks x.local (marks_after (unmarked code w.function) ss)) (sym (take-map (step_at code w.function) x.local.steps w.places))
-      (subst (λ f. HasMarks x.local (marks_after (unmarked code f) (steps_at code f (take x.local.steps w.places)))) x.function (along_next x).marks)
+      subst (λ ss. HasMarks x.local (marks_after (marks_at_start code w.function) ss)) (sym (take-map (step_at code w.function) x.local.steps w.places))
+      (subst (λ f. HasMarks x.local (marks_after (marks_at_start code f) (steps_at code f (take x.local.steps w.places)))) x.function (along_next x).marks)
 
-  -- whether it is the failing step
+  -- whether the next step is the one that fails
   pub fails_there : (x : IsNextOnPath code h w)
       → (fails_in log w.name && length (drop (suc x.local.steps) (steps_at code w.function w.places)) == 0) ≡ fails_next log h w
   fails_there x =
@@ -188,13 +193,13 @@ module _ {B : Type 0} (setting : Setting B) (fits : Fits setting.code setting.lo
 
   pub as_wanted : (x : IsNextOnPath code h w) → (paths_of code log).dead ≡ false → IsAsWanted (fails_next log h w) x.local x.instr
   as_wanted x dead =
-      let k = walk_is code log is fits j w there in
+      let k = walk_is code log is fits thread in
       let n = x.local.steps in
       let ss = steps_at code w.function w.places in
       let fails = fails_in log w.name in
       let place = ap (slice_get w.places) x.steps ∙ x.place in
       let step = path_step code w n x.local.instruction x.instr place x.at in
-      let marked = marked_at fails 0 (unmarked code w.function) ss n (record { place = x.local.instruction; instr = x.instr }) step in
+      let marked = marked_at fails 0 (marks_at_start code w.function) ss n (record { place = x.local.instruction; instr = x.instr }) step in
       let possible = no_element is_impossible (marked_steps code w.function fails ss) n _ (k.alive dead) marked in
       wanted_by x.local (marks_now x.local) x.instr (fails_next log h w) (has_marks x)
       (ap (excludes (marks_now x.local) x.instr) (sym (fails_there x)) ∙ possible)

@@ -6,16 +6,16 @@ use Rattle.std.proofs.lemmas.Option.{none-some, same_Some}
 use Rattle.tc_code.specs.Code.{Code, instr_at}
 use Rattle.tc_code.specs.declared.instr.Instr.{Instr}
 use Rattle.path_walk.specs.Steps.{Step, Onward, onward, places_from, end_from}
-use Rattle.path_walk.specs.Marks.{Marks, Marked, marked, marks_after, marked_from}
+use Rattle.path_walk.specs.Marks.{Marks, Marked, marks_after_instr, marks_after, marked_from}
 use Rattle.path_walk.proofs.Places.{unrolled, end_more}
 use Rattle.path_laws.proofs.Local.{onward_more}
 
--- where the steps lead is the next place, with an instruction
+-- the place to which the steps lead is the next one, and has an instruction
 pub record IsNextPlace (code : Code) (f n k : ℕ) (os more : List Bool) (qs : List ℕ) : Type 0 where
   pub place : slice_get qs n ≡ Some (end_from code f n k os)
   pub instr : Instr
   pub at : instr_at code f (end_from code f n k os) ≡ Some instr
-  -- which goes on by the outcomes that are left
+  -- the instruction goes on with the outcomes that are left
   pub next : Onward
   pub leads : onward (end_from code f n k os) instr more ≡ Some next
 
@@ -46,7 +46,7 @@ next_place code f (suc n) (suc m) k os more ps qs few h g =
       leads = ap (λ e. onward e rest.instr more) end ∙ rest.leads;
     }
 
--- as many steps leave no outcome over
+-- the same number of steps leaves no outcome over
 pub none_over : (code : Code) (f n k : ℕ) (os more : List Bool) (ps qs : List ℕ) → places_from code f n k os ≡ Ok ps
     → places_from code f n k (os ++ more) ≡ Ok qs → more ≡ []
 none_over code f zero k [] [] ps qs h g = refl
@@ -64,7 +64,7 @@ none_over code f (suc n) k os more ps qs h g =
 
 -- Marked steps.
 
--- the step of a number among marked ones
+-- the marked step with this number
 pub marked_at : (fails : Bool) (j : ℕ) (m : Marks) (ss : List Step) (k : ℕ) (s : Step) → slice_get ss k ≡ Some s
     → slice_get (marked_from fails j m ss) k
     ≡ Some (record { number = j + k; step = s; fails = fails && length (drop (suc k) ss) == 0; marks = marks_after m (take k ss) })
@@ -77,12 +77,12 @@ marked_at fails j m (x ∷ ss) zero s at =
     the_marked n y = record { number = n; step = y; fails = fails && length ss == 0; marks = m }
 marked_at fails j m (x ∷ ss) (suc k) s at =
     let number : (j + 1) + k ≡ j + suc k = omega arith in
-    marked_at fails (j + 1) (marked m x.instr) ss k s at ∙ ap (λ n. Some (the_marked n)) number
+    marked_at fails (j + 1) (marks_after_instr m x.instr) ss k s at ∙ ap (λ n. Some (the_marked n)) number
   where
     the_marked : ℕ → Marked
     the_marked n = record {
       number = n;
       step = s;
       fails = fails && length (drop (suc k) ss) == 0;
-      marks = marks_after (marked m x.instr) (take k ss);
+      marks = marks_after (marks_after_instr m x.instr) (take k ss);
     }

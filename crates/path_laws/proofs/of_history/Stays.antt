@@ -18,7 +18,7 @@ use Rattle.tc_base.specs.declared.request.Request.{Request}
 use Rattle.tc_base.specs.declared.request.Request.TheVariants.{Silent, Start, Fail}
 use Rattle.tc_base.proofs.Names.{same_refl}
 use Rattle.tc_code.specs.Code.{Code}
-use Rattle.tc_code.specs.Step.{request, instr_of, arguments_of, local_after, branched, is_nonzero, value_in}
+use Rattle.tc_code.specs.Step.{request, instr_of, arguments_of, local_after, step_by_branch, is_nonzero, value_in}
 use Rattle.tc_code.specs.declared.instr.Instr.{Instr}
 use Rattle.tc_code.specs.declared.instr.Instr.TheVariants.{Branch, Exit}
 use Rattle.run_laws.proofs.Names.{get_put_cases}
@@ -33,7 +33,7 @@ use Rattle.run_follows.proofs.Follows.{nothing_follows, follow_push}
 use Rattle.list_laws.proofs.Lists.{split_at, get_seam}
 use Rattle.path_walk.specs.Fits.{starts, started, ending_of, fails_in, child_function, function_of, Fits}
 use Rattle.path_walk.specs.Paths.{Walk}
-use Rattle.path_walk.specs.Steps.{Step, is_failing, ended, places_from, places_of, step_at, steps_at}
+use Rattle.path_walk.specs.Steps.{Step, is_failing, places_if_well_ended, places_from, places_of, step_at, steps_at}
 use Rattle.path_walk.specs.declared.ending.Ending.{Ending}
 use Rattle.path_walk.specs.declared.ending.Ending.TheVariants.{Fails, Rests, Open}
 use Rattle.path_walk.specs.declared.fault.Misfit.TheVariants as misfit
@@ -43,13 +43,12 @@ use Rattle.path_laws.specs.Prefixes.{fails_by, IsOnPath}
 use Rattle.path_laws.proofs.Does.{bytes_other}
 use Rattle.path_laws.proofs.States.{create_is}
 use Rattle.path_laws.proofs.Prefixes.{is_ok}
-use Rattle.path_laws.specs.history.Along.{AreOnPathsIn, IsAlongPaths, IsThread}
+use Rattle.path_laws.specs.history.Along.{AreOnPathsIn, IsAlongPaths, HistoryAlong, PathThread}
 use Rattle.path_laws.specs.history.Next.{fails_next, failing_next, IsNextOnPath, BranchesAlong}
-use Rattle.path_laws.proofs.of_history.Told.{RunOf, run_of}
 use Rattle.path_laws.proofs.of_history.Walks.{IsWalk, walk_is}
 use Rattle.path_laws.proofs.of_history.Next.{asks_told, steps_left, along_next}
 
--- What a deed makes of the failure.
+-- The failure after a deed.
 
 failed-push : (h : List Deed) (d : Deed) → failed_in h ≡ None → failed_in (h ++ d ∷ []) ≡ fails d
 failed-push h d none = last_of-push fails h d ∙ ap (option_or (fails d)) none ∙ or_nothing (fails d)
@@ -67,7 +66,7 @@ module _ (code : Code) (log : Log) (fits : Fits code log) where
   no_failing_start f Rests p ps told = refl
   no_failing_start f Fails p ps told = by (0 == p.steps) refl
     where
-      fails_nowhere : (os : List Bool) → ended code f Fails p (places_from code f 0 0 os) ≡ Ok ps → ⊥
+      fails_nowhere : (os : List Bool) → places_if_well_ended code f Fails p (places_from code f 0 0 os) ≡ Ok ps → ⊥
       fails_nowhere [] e = cc
       fails_nowhere (o ∷ os) e = cc
 
@@ -75,9 +74,9 @@ module _ (code : Code) (log : Log) (fits : Fits code log) where
       by false e = refl
       by true e =
           let none : p.steps ≡ 0 = sym (eqb-true 0 p.steps e) in
-          absurd (fails_nowhere p.outcomes (ap (λ n. ended code f Fails p (places_from code f n 0 p.outcomes)) (sym none) ∙ told))
+          absurd (fails_nowhere p.outcomes (ap (λ n. places_if_well_ended code f Fails p (places_from code f n 0 p.outcomes)) (sym none) ∙ told))
 
-  -- a thread that has a function is on its path at its beginning
+  -- a thread whose function is known is on its path at its beginning
   pub born_on : (n : Name) (f : ℕ) (vs : List ℤ) → function_of code log n ≡ Some f → IsOnPath log None n (born_local code f vs)
   born_on n f vs function =
       elim (option_is (path_under n log.threads)) [
@@ -95,7 +94,7 @@ module _ (code : Code) (log : Log) (fits : Fits code log) where
             }
       ]
 
-  -- at the start main alone is there
+  -- only main exists at the start
   pub start_on : AreOnPathsIn code log []
   start_on n t at =
       elim (get_put_cases fin.empty [] (born_local code (length code.functions - 1) []) n t at) [
@@ -107,17 +106,17 @@ module _ (code : Code) (log : Log) (fits : Fits code log) where
 
 -- A step.
 
-branch_adds : (t : Local) (b : Bool) (to : ℕ) → (branched t b to).outcomes ≡ t.outcomes ++ b ∷ []
+branch_adds : (t : Local) (b : Bool) (to : ℕ) → (step_by_branch t b to).outcomes ≡ t.outcomes ++ b ∷ []
 branch_adds t true to = refl
 branch_adds t false to = refl
 
--- what stands behind the first outcomes
+-- the outcome after the first ones begins the later ones
 head_of : (os later : List Bool) (b : Bool) → slice_get (os ++ later) (length os) ≡ Some b → (rest : List Bool) × (later ≡ b ∷ rest)
 head_of [] [] b at = absurd (none-some b at)
 head_of [] (o ∷ later) b at = (later, ap (λ x. x ∷ later) (same_Some o b at))
 head_of (o ∷ os) later b at = head_of os later b at
 
--- a branch goes by the next outcome, and no other instruction goes by any
+-- a branch uses the next outcome, and no other instruction uses one
 outcomes_moved : (w : Walk) (t : Local) (i : Instr) (v : ℤ) (later : List Bool) → w.outcomes ≡ t.outcomes ++ later → BranchesAlong w t i
     → (rest : List Bool) × (w.outcomes ≡ (local_after t i v).outcomes ++ rest)
 outcomes_moved w t (Branch e to) v later is branch =
@@ -133,7 +132,7 @@ outcomes_left : (w : Walk) (t : Local) (i : Instr) (r : Request) (v : ℤ) (late
 outcomes_left w t i Fail v later is branch = (later, is)
 outcomes_left w t i r v later is branch = outcomes_moved w t i v later is branch
 
--- the threads after a step of a thread
+-- the threads after a thread's step
 after_its_step : (code : Code) (ls : ByName Local) (n : Name) (t : Local) (i : Instr) (k : ℕ) (r : Request) (v : ℤ) (o : Option Name)
     → fin.get ls n ≡ Some t → instr_of code t ≡ Some i
     → after_deed code ls (Did n k r v o) ≡ with_child code n t i r (fin.insert ls n (after_step t i r v))
@@ -141,7 +140,7 @@ after_its_step code ls n t i k r v o here at =
     ap (λ x. option_map_or (λ (l : Local). option_map_or (λ a. with_child code n l a r (fin.insert ls n (after_step l a r v))) (instr_of code l) ls) x ls) here
     ∙ ap (λ x. option_map_or (λ a. with_child code n t a r (fin.insert ls n (after_step t a r v))) x ls) at
 
--- who is under a name then
+-- the thread under a name after the step
 data Which (code : Code) (ls : ByName Local) (n : Name) (t u : Local) (i : Instr) (r : Request) (q : Name) (l : Local) : Type 0 where
   Own : q ≡ n → l ≡ u → Which code ls n t u i r q l
   Born : (f : ℕ) → r ≡ Start f → q ≡ child n (t.children + 1) → l ≡ born_local code f (arguments_of t i) → Which code ls n t u i r q l
@@ -165,7 +164,7 @@ which code ls n t u i (Start f) q l at =
 which code ls n t u i Silent q l at = which_old code ls n t u i Silent q l at
 which code ls n t u i r q l at = which_old code ls n t u i r q l at
 
--- who fails, where one thread does or doesn't
+-- the named thread fails exactly if the flag is true
 fails_itself : (b : Bool) (n : Name) → fails_by (if b then Some n else None) n ≡ b
 fails_itself true n = same_refl n
 fails_itself false n = refl
@@ -177,11 +176,11 @@ no_other_fails false n q apart = refl
 module _ {B : Type 0} (machine : Machine B) (log : Log) where
   open machine use {ops, bound, code}
 
-  pub start_along : Fits code log → IsAlongPaths ops.buffered bound code log []
+  pub start_along : Fits code log → IsAlongPaths machine log []
   start_along fits = record { follow = nothing_follows ops.buffered bound code; on = start_on code log fits }
 
-  pub drain_stays : (h : List Deed) (n : Name) (k c : ℕ) (v : ℤ) → IsAlongPaths ops.buffered bound code log h → failed_in h ≡ None
-      → MayFollow ops.buffered bound code h (Drained n k c v) → IsAlongPaths ops.buffered bound code log (h ++ Drained n k c v ∷ [])
+  pub drain_stays : (h : List Deed) (n : Name) (k c : ℕ) (v : ℤ) → IsAlongPaths machine log h → failed_in h ≡ None
+      → MayFollow ops.buffered bound code h (Drained n k c v) → IsAlongPaths machine log (h ++ Drained n k c v ∷ [])
   drain_stays h n k c v along going may =
       let d = Drained n k c v in
       record {
@@ -191,21 +190,19 @@ module _ {B : Type 0} (machine : Machine B) (log : Log) where
             (along.on q l (ap (λ ls. fin.get ls q) (sym (fold-append (after_deed code) _ h (d ∷ []))) ∙ at));
       }
 
-module _ {B : Type 0} (setting : Setting B) (fits : Fits setting.code setting.log) (h : List Deed)
-    (along : IsAlongPaths setting.ops.buffered setting.bound setting.code setting.log h) (j : ℕ) (w : Walk) (there : IsThread setting.code setting.log j w)
-    (going : failed_in h ≡ None) (x : IsNextOnPath setting.code h w) where
+module _ {B : Type 0} (setting : Setting B) (history : HistoryAlong setting) (thread : PathThread setting.code setting.log)
+    (going : failed_in history.deeds ≡ None) (x : IsNextOnPath setting.code history.deeds thread.walk) where
   open setting use {machine, ops, bound, code, lawful, log, log_is as is}
-
-  abbrev run : RunOf machine log h
-  run = run_of machine log h along
+  open history use {deeds as h, fits, along}
+  open thread use {walk as w}
 
   abbrev t : Local
   t = x.local
 
   abbrev walk : IsWalk code log w
-  walk = walk_is code log is fits j w there
+  walk = walk_is code log is fits thread
 
-  -- the child that it creates is created on the path
+  -- the path creates the child that the step creates
   created_next : (f : ℕ) → request t x.instr ≡ Start f → function_of code log (child w.name (t.children + 1)) ≡ Some f
   created_next f asks =
       let g = w.function in
@@ -215,7 +212,7 @@ module _ {B : Type 0} (setting : Setting B) (fits : Fits setting.code setting.lo
       let place : slice_get w.places n ≡ Some t.instruction = ap (slice_get w.places) x.steps ∙ x.place in
       let count : length front ≡ t.children =
       ap (λ a. length (started (steps_at code a (take n w.places)))) (sym x.function)
-      ∙ (along_next setting fits h j w there going run x).children in
+      ∙ (along_next setting history thread going x).children in
       let starts_it : starts (step_at code g t.instruction).instr ≡ Some f =
       ap (λ o. starts (unwrap_or o Exit)) x.at ∙ create_is ops code lawful t x.instr f asks in
       let all : started (steps_at code g w.places) ≡ front ++ f ∷ started (steps_at code g rest) =
@@ -247,7 +244,7 @@ module _ {B : Type 0} (setting : Setting B) (fits : Fits setting.code setting.lo
 
     own_on : IsOnPath log (failing_next log h w) w.name u
     own_on =
-        let left = steps_left setting fits h j w there going run x in
+        let left = steps_left setting history thread going x in
         let one : u.steps ≡ t.steps + 1 = steps_by t x.instr r took in
         let goes = outcomes_left w t x.instr r took x.later x.outcomes branch in
         let next : steps_in h w.name + 1 ≡ u.steps = omega (arith, one, x.steps) in
@@ -263,7 +260,7 @@ module _ {B : Type 0} (setting : Setting B) (fits : Fits setting.code setting.lo
     starts_unfailed : (f : ℕ) → r ≡ Start f → failing_next log h w ≡ None
     starts_unfailed f is = sym fails_so ∙ ap (λ a. fails (Did w.name k a took other)) is
 
-    -- each thread is on its path then
+    -- each thread is on its path after the step
     on_by : (q : Name) (l : Local) → Which code (locals_in code h) w.name t u x.instr r q l → IsOnPath log (failing_next log h w) q l
     on_by q l (Own name same) = subst (λ m. IsOnPath log (failing_next log h w) m l) (sym name) (subst (IsOnPath log (failing_next log h w) w.name) (sym same) own_on)
     on_by q l (Born f is name same) =
@@ -282,7 +279,7 @@ module _ {B : Type 0} (setting : Setting B) (fits : Fits setting.code setting.lo
           fails = no_other_fails (fails_next log h w) w.name q apart ∙ sym (ap (λ o. fails_by o q) going) ∙ on.fails;
         }
 
-    pub step_stays : IsAlongPaths ops.buffered bound code log (h ++ d ∷ [])
+    pub step_stays : IsAlongPaths machine log (h ++ d ∷ [])
     step_stays = record {
       follow = follow_push ops.buffered bound code h d along.follow going may;
       on = λ q l at.

@@ -24,7 +24,8 @@ use Rattle.run_follows.proofs.Plays.{follows_is_run}
 use Rattle.path_laws.specs.Prefixes.{IsOnPath, AreOnPaths}
 use Rattle.path_laws.proofs.Prefixes.{on_before_moves, beginnings_on}
 use Rattle.run_follows.proofs.of_deeds.Follow.{first_follow}
-use Rattle.path_laws.specs.history.Along.{AreOnPathsIn, IsAlongPaths}
+use Rattle.path_laws.specs.history.Along.{AreOnPathsIn, IsAlongPaths, HistoryAlong}
+use Rattle.path_laws.specs.Setting.{Setting}
 
 module _ {B : Type 0} (machine : Machine B) (log : Log) where
   open machine use {ops, model, bound, laws, code}
@@ -32,7 +33,7 @@ module _ {B : Type 0} (machine : Machine B) (log : Log) where
   abbrev local_of : Option (Thread B) → Option Local
   local_of o = option_map (λ (t : Thread B). t.local) o
 
-  -- threads of a state are on their paths exactly where those of its history are
+  -- threads of a state are on their paths exactly if those of its history are
   module _ (s : State B) (h : List Deed) (a : Tells ops model bound laws code s h) where
     pub on_told : AreOnPaths log s → AreOnPathsIn code log h
     on_told on n l at = by (fin.get s.threads n) refl
@@ -47,7 +48,7 @@ module _ {B : Type 0} (machine : Machine B) (log : Log) where
     on_there on n t here = subst (λ o. IsOnPath log o n t.local) (sym a.failure) (on n t.local (a.locals n ∙ ap local_of here))
 
   pub run_is_along : (moves : List Move) (s : State B) → run ops code moves ≡ Some s → AreOnPaths log s
-      → IsAlongPaths ops.buffered bound code log (history ops code moves)
+      → IsAlongPaths machine log (history ops code moves)
   run_is_along moves s leads on =
       let a = all_told machine moves s leads in
       record { follow = a.follow; on = on_told s (history ops code moves) a.tells on }
@@ -61,13 +62,13 @@ module _ {B : Type 0} (machine : Machine B) (log : Log) where
     pub told : AllTold machine state h
     pub on : AreOnPaths log state
 
-  pub run_of : (h : List Deed) → IsAlongPaths ops.buffered bound code log h → RunOf h
+  pub run_of : (h : List Deed) → IsAlongPaths machine log h → RunOf h
   run_of h along =
       let p = follows_is_run machine h along.follow in
       let a = subst (AllTold machine p.0) p.2 (all_told machine (moves_for bound h) p.0 p.1) in
       record { moves = moves_for bound h; state = p.0; leads = p.1; is = p.2; told = a; on = on_there p.0 h a.tells along.on }
 
-  pub along_is_run : (h : List Deed) → IsAlongPaths ops.buffered bound code log h
+  pub along_is_run : (h : List Deed) → IsAlongPaths machine log h
       → (s : State B) × (run ops code (moves_for bound h) ≡ Some s) × (history ops code (moves_for bound h) ≡ h) × AreOnPaths log s
   along_is_run h along =
       let p = follows_is_run machine h along.follow in
@@ -78,7 +79,7 @@ module _ {B : Type 0} (machine : Machine B) (log : Log) where
     pub reached : IsReached ops code r.state
     reached = record { moves = r.moves; leads = r.leads }
 
-    -- a thread of the history is there, has its steps, and what it has to itself is told
+    -- each thread of the history is in the state
     pub thread_of : (n : Name) → is_thread_in h n ≡ true → (t : Thread B) × (fin.get r.state.threads n ≡ Some t)
     thread_of n there = some_value (fin.get r.state.threads n) (r.told.tells.deeds.buffers.threads.there n ∙ there)
 
@@ -89,7 +90,7 @@ module _ {B : Type 0} (machine : Machine B) (log : Log) where
     local_is n t here = r.told.tells.locals n ∙ ap local_of here
 
   -- the first deeds
-  pub first_along : (first later : List Deed) → IsAlongPaths ops.buffered bound code log (first ++ later) → IsAlongPaths ops.buffered bound code log first
+  pub first_along : (first later : List Deed) → IsAlongPaths machine log (first ++ later) → IsAlongPaths machine log first
   first_along first later along =
       let ms = moves_for bound first in
       let ks = moves_for bound later in
@@ -108,7 +109,7 @@ module _ {B : Type 0} (machine : Machine B) (log : Log) where
             (on_before_moves ops code log front.0 all.0 ks (record { moves = ms; leads = front.1 }) rest all.3);
       }
 
-  -- what reproduces a log
+  -- the run of moves that reproduce a log
   abbrev pub reproduced_run : (moves : List Move) → Reproduces ops code log moves → RunOf (history ops code moves)
   reproduced_run moves r = record {
     moves = moves;
@@ -119,5 +120,18 @@ module _ {B : Type 0} (machine : Machine B) (log : Log) where
     on = beginnings_on ops code log moves [] r.state (subst (Reproduces ops code log) (sym (append-nil moves)) r) r.leads;
   }
 
-  pub reproduced_along : (moves : List Move) → Reproduces ops code log moves → IsAlongPaths ops.buffered bound code log (history ops code moves)
+  pub reproduced_along : (moves : List Move) → Reproduces ops code log moves → IsAlongPaths machine log (history ops code moves)
   reproduced_along moves r = run_is_along moves r.state r.leads (reproduced_run moves r).on
+
+module _ {B : Type 0} (setting : Setting B) (history : HistoryAlong setting) where
+  open setting use {machine, log}
+  open history use {deeds as h, fits, along}
+
+  -- the run of a history along the paths
+  abbrev pub its_run : RunOf machine log h
+  its_run = run_of machine log h along
+
+  -- such a history, up to one of its deeds
+  abbrev pub up_to : (older newer : List Deed) → h ≡ older ++ newer → HistoryAlong setting
+  up_to older newer at =
+      record { deeds = older; fits = fits; along = first_along machine log older newer (subst (IsAlongPaths machine log) at along) }

@@ -13,13 +13,12 @@ use Rattle.tc_base.specs.Paths.{Path, ThreadPath, path_under}
 use Rattle.tc_base.specs.Names.{Name}
 use Rattle.tc_base.specs.States.{Thread}
 use Rattle.tc_code.specs.Code.{Code}
-use Rattle.run_history.specs.History.{Deed}
 use Rattle.run_history.specs.Told.{is_thread_in, steps_in}
 use Rattle.run_history.proofs.Threads.{none_done}
 use Rattle.run_log.specs.Logs.{is_log}
 use Rattle.path_walk.specs.Events.{events_of, regions_of, sleeps_of, is_impossible}
 use Rattle.path_walk.specs.Fits.{ending_of, fails_in, places_in, function_of, Fits}
-use Rattle.path_walk.specs.Marks.{unmarked, marks_after, marked_steps}
+use Rattle.path_walk.specs.Marks.{marks_at_start, marks_after, marked_steps}
 use Rattle.path_walk.specs.Paths.{Walk, blocked_after, is_dead, walk_of, paths_of}
 use Rattle.path_walk.specs.Steps.{places_from, places_of, steps_at, standing}
 use Rattle.path_walk.proofs.Faults.{walked_there, by_path, fitting}
@@ -27,8 +26,8 @@ use Rattle.path_walk.proofs.Places.{count, fits_from}
 use Rattle.path_laws.specs.Setting.{Setting}
 use Rattle.path_laws.proofs.Logs.{place_of}
 use Rattle.path_laws.proofs.Prefixes.{own_under, is_ok, IsSoFar, so_far}
-use Rattle.path_laws.specs.history.Along.{IsAlongPaths, IsThread, IsNameOfThread}
-use Rattle.path_laws.proofs.of_history.Told.{RunOf, run_of, reached, thread_of, steps_of}
+use Rattle.path_laws.specs.history.Along.{IsThread, IsNameOfThread, HistoryAlong, PathThread}
+use Rattle.path_laws.proofs.of_history.Told.{RunOf, reached, thread_of, steps_of, its_run}
 
 -- the walk of a thread of a log that fits
 pub record IsWalk (code : Code) (log : Log) (w : Walk) : Type 0 where
@@ -46,24 +45,24 @@ pub record IsWalk (code : Code) (log : Log) (w : Walk) : Type 0 where
   pub regions : w.regions ≡ regions_of w.events
   pub sleeps : w.sleeps ≡ sleeps_of w.events
   pub blocked : w.blocked
-      ≡ blocked_after (ending_of log w.name) (marks_after (unmarked code w.function) (steps_at code w.function w.places)) w.sleeps
+      ≡ blocked_after (ending_of log w.name) (marks_after (marks_at_start code w.function) (steps_at code w.function w.places)) w.sleeps
       (standing code w.function path)
-  -- where the paths aren't dead, none of its steps is one that no run does
+  -- if the paths aren't dead, no step of the thread is one that no run can do
   pub alive : (paths_of code log).dead ≡ false
       → list_any is_impossible (marked_steps code w.function (fails_in log w.name) (steps_at code w.function w.places)) ≡ false
 
--- of two tests, either of which fails, the first does
+-- if two tests both fail, the first does
 first_fails : (a b : Bool) → (a || b) ≡ false → a ≡ false
 first_fails true b e = e
 first_fails false b e = refl
 
--- what none of a list passes, no element does
+-- if no element of a list passes, the one at a place doesn't
 pub no_element : {X : Type 0} (p : X → Bool) (xs : List X) (k : ℕ) (x : X) → list_any p xs ≡ false → slice_get xs k ≡ Some x → p x ≡ false
 no_element p xs k x none at =
     false_from_ne_true (p x) (λ yes.
     true≢false (sym (list_any_at p xs k x (slice_get_within xs k x at) (ap p (get_or_from_slice_get xs k x x at) ∙ yes)) ∙ none))
 
--- a thread of the paths is that of a path of the log
+-- a thread of the paths has a path of the log
 pub thread_path_at : (code : Code) (log : Log) (j : ℕ) (w : Walk) → IsThread code log j w
     → (p : ThreadPath) × (slice_get log.threads j ≡ Some p) × (walk_of code log p ≡ w)
 thread_path_at code log j w there = by (slice_get log.threads j) refl
@@ -104,65 +103,66 @@ module _ (code : Code) (log : Log) (is : is_log log ≡ true) (fits : Fits code 
         alive = λ dead. no_element (is_dead code log) log.threads j p (first_fails (list_any (is_dead code log) log.threads) _ dead) at;
       }
 
-  pub walk_is : (j : ℕ) (w : Walk) → IsThread code log j w → IsWalk code log w
-  walk_is j w there = let p = thread_path_at code log j w there in subst (IsWalk code log) p.2 (walk_told j p.0 p.1)
+  pub walk_is : (t : PathThread code log) → IsWalk code log t.walk
+  walk_is t = let p = thread_path_at code log t.index t.walk t.there in subst (IsWalk code log) p.2 (walk_told t.index p.0 p.1)
 
-  -- a name that has a path is that of a thread
+  -- a name with a path is that of a thread
   pub named : (n : Name) (path : Path) → path_under n log.threads ≡ Some path → IsNameOfThread code log n
   named n path under =
       let p = place_of n path log.threads under in
       record {
-        place = p.place;
-        walk = walk_of code log p.thread;
-        there = slice_get-map (walk_of code log) log.threads p.place ∙ ap (option_map (walk_of code log)) p.there;
-        name = p.name;
+        thread = record {
+          index = p.place;
+          walk = walk_of code log p.thread;
+          there = slice_get-map (walk_of code log) log.threads p.place ∙ ap (option_map (walk_of code log)) p.there;
+        };
+        name_is = p.name;
       }
 
-module _ {B : Type 0} (setting : Setting B) (fits : Fits setting.code setting.log) where
-  open setting use {machine, ops, bound, code, lawful, log, log_is as is}
+module _ {B : Type 0} (setting : Setting B) (history : HistoryAlong setting) where
+  open setting use {machine, ops, code, lawful, log, log_is as is}
+  open history use {deeds as h, fits}
 
-  abbrev Run : List Deed → Type 0
-  Run h = RunOf machine log h
+  abbrev r : RunOf machine log h
+  r = its_run setting history
 
-  -- a thread of a run on the paths, and its walk
-  pub record IsWalking (w : Walk) (t : Thread B) (failed : Option Name) : Type 0 where
-    pub walk : IsWalk code log w
-    pub so : IsSoFar code log failed w.name t.local
-    pub function : t.local.function ≡ w.function
-    pub path : so.on.path ≡ walk.path
-    pub places : places_in code log w.name t.local.function ≡ w.places
-
-  pub walking : (h : List Deed) (r : Run h) (j : ℕ) (w : Walk) (t : Thread B) → IsThread code log j w → fin.get r.state.threads w.name ≡ Some t
-      → IsWalking w t r.state.failed
-  walking h r j w t there here =
-      let k = walk_is code log is fits j w there in
-      let so = so_far ops code lawful log fits r.state (reached machine log h r) r.on w.name t here in
-      let function = same_Some t.local.function w.function (sym so.function ∙ k.function) in
-      record {
-        walk = k;
-        so = so;
-        function = function;
-        path = same_Some so.on.path k.path (sym so.on.there ∙ k.under);
-        places = ap (places_in code log w.name) function ∙ k.told;
-      }
-
-  pub thread_named : (h : List Deed) (n : Name) → IsAlongPaths ops.buffered bound code log h → is_thread_in h n ≡ true → IsNameOfThread code log n
-  thread_named h n along there =
-      let r = run_of machine log h along in
+  pub thread_named : (n : Name) → is_thread_in h n ≡ true → IsNameOfThread code log n
+  thread_named n there =
       let t = thread_of machine log h r n there in
       let on = r.on n t.0 t.1 in
       named code log is fits n on.path on.there
 
-  -- it has done no more steps than its path has
-  pub few_steps : (h : List Deed) (j : ℕ) (w : Walk) → IsAlongPaths ops.buffered bound code log h → IsThread code log j w → steps_in h w.name ≤ length w.places
-  few_steps h j w along there = by (fin.get r.state.threads w.name) refl
-    where
-      r : Run h
-      r = run_of machine log h along
+  module _ (thread : PathThread code log) where
+    open thread use {walk as w}
 
-      by : (o : Option (Thread B)) → fin.get r.state.threads w.name ≡ o → steps_in h w.name ≤ length w.places
-      by None none = omega (arith, none_done ops code r.state h w.name r.told.tells.deeds.buffers.threads none)
-      by (Some t) here =
-          let k = walking h r j w t there here in
-          let done = steps_of machine log h r w.name t here in
-          omega (arith, done, k.walk.long, k.so.on.steps, ap (λ (p : Path). p.steps) k.path)
+    -- a thread of a run on the paths, and its walk
+    pub record IsWalking (t : Thread B) : Type 0 where
+      pub walk : IsWalk code log w
+      pub so : IsSoFar code log r.state.failed w.name t.local
+      pub function : t.local.function ≡ w.function
+      pub path : so.on.path ≡ walk.path
+      pub places : places_in code log w.name t.local.function ≡ w.places
+
+    pub walking : (t : Thread B) → fin.get r.state.threads w.name ≡ Some t → IsWalking t
+    walking t here =
+        let k = walk_is code log is fits thread in
+        let so = so_far ops code lawful log fits r.state (reached machine log h r) r.on w.name t here in
+        let function = same_Some t.local.function w.function (sym so.function ∙ k.function) in
+        record {
+          walk = k;
+          so = so;
+          function = function;
+          path = same_Some so.on.path k.path (sym so.on.there ∙ k.under);
+          places = ap (places_in code log w.name) function ∙ k.told;
+        }
+
+    -- it has done no more steps than its path has
+    pub few_steps : steps_in h w.name ≤ length w.places
+    few_steps = by (fin.get r.state.threads w.name) refl
+      where
+        by : (o : Option (Thread B)) → fin.get r.state.threads w.name ≡ o → steps_in h w.name ≤ length w.places
+        by None none = omega (arith, none_done ops code r.state h w.name r.told.tells.deeds.buffers.threads none)
+        by (Some t) here =
+            let k = walking t here in
+            let done = steps_of machine log h r w.name t here in
+            omega (arith, done, k.walk.long, k.so.on.steps, ap (λ (p : Path). p.steps) k.path)

@@ -1,13 +1,12 @@
 -- A path that is blocked at a wake ends with the sleep.
-use Rattle.std.proofs.Common.{◌≡◌, ◌∙◌, ◌⊎◌, inl, inr, ℕ, zero, suc, ◌+◌, ◌-◌, Bool, true, false, ◌==◌, List, [], ◌∷◌, ◌++◌, length}
-use Rattle.std.proofs.Common.{Option, Some, None, Ok, refl, sym, ap, ap₂, subst, arith, true≢false, length-append}
-use Rattle.std.specs.Prelude.{slice_get, unwrap_or, option_map, option_and_then}
-use Rattle.std.specs.List.{filter_map, cons_option}
+use Rattle.std.proofs.Common.{◌≡◌, ◌∙◌, ◌⊎◌, inl, inr, ℕ, zero, suc, ◌+◌, ◌-◌, Bool, true, false, List, [], ◌∷◌, ◌++◌, length}
+use Rattle.std.proofs.Common.{Option, Some, None, Ok, refl, sym, ap, ap₂, arith, true≢false, length-append}
+use Rattle.std.specs.Prelude.{slice_get, unwrap_or, option_map}
+use Rattle.std.specs.List.{cons_option}
 use Rattle.std.specs.Option.{option_map_or}
 use Rattle.std.proofs.lemmas.List.{length-map, map-append}
 use Rattle.std.proofs.lemmas.Option.{none-some, same_Some}
 use Rattle.run_log.specs.Logs.{Log}
-use Rattle.tc_base.specs.Paths.{Path}
 use Rattle.tc_code.specs.Code.{Code, instr_at, line_at}
 use Rattle.tc_code.specs.Lawful.{IsLawful, is_bound, target}
 use Rattle.tc_code.specs.declared.code.Func.{Func}
@@ -17,14 +16,13 @@ use Rattle.tc_code.proofs.Facts.{placed}
 use Rattle.run_history.proofs.Lists.{filter_map-push}
 use Rattle.list_laws.proofs.Lists.{get_seam}
 use Rattle.path_walk.specs.Events.{asks, event_of, events_of, sleep_by, sleeps_of, last_sleep, blocked_at}
-use Rattle.path_walk.specs.Fits.{ending_of, fails_in}
-use Rattle.path_walk.specs.Marks.{Marks, Marked, unmarked, marks_after, marked_from, marked_steps}
+use Rattle.path_walk.specs.Fits.{ending_of}
+use Rattle.path_walk.specs.Marks.{Marks, Marked, marks_at_start, marks_after, marked_from, marked_steps}
 use Rattle.path_walk.specs.Paths.{Walk, blocked_after}
-use Rattle.path_walk.specs.Steps.{Step, Onward, onward, places_from, end_from, standing, is_failing, step_at, steps_at}
+use Rattle.path_walk.specs.Steps.{Onward, onward, places_from, end_from, standing, is_failing, step_at, steps_at}
 use Rattle.path_walk.specs.Steps as path
 use Rattle.path_walk.specs.declared.ending.Ending.{Ending}
 use Rattle.path_walk.specs.declared.ending.Ending.TheVariants.{Fails, Rests, Open}
-use Rattle.path_walk.specs.declared.event.Blocked.{Blocked}
 use Rattle.path_walk.specs.declared.event.Blocked.TheVariants as blocked
 use Rattle.path_walk.specs.declared.event.Event.{Event}
 use Rattle.path_walk.specs.declared.event.EventKind.TheVariants as kind
@@ -104,7 +102,7 @@ leads_by k (Branch e to) os on is =
 leads_by k (Goto to) os on is = Jumps (ap (λ (o : Onward). Some o.place) (same_Some (record { place = to; outcomes = os }) on is))
 leads_by k i os on is = Next (sym (ap (λ (o : Onward). o.place) (same_Some (record { place = k + 1; outcomes = os }) on is)))
 
--- what leads to a wake is the sleep before it
+-- only the sleep before a wake leads to it
 sleep_before : (code : Code) (f k p c m : ℕ) (i : Instr) → IsLawful code → instr_at code f k ≡ Some i → instr_at code f p ≡ Some (Wake c m)
     → Leads k i p → i ≡ Sleep c m
 sleep_before code f k p c m i lawful at wake (Next is) =
@@ -123,7 +121,7 @@ sleep_before code f k p c m i lawful at wake (Jumps is) =
     let there : t.instr ≡ Wake c m = same_Some t.instr (Wake c m) (sym t.there ∙ ap (λ (x : Func). slice_get x.instrs p) (sym same) ∙ w.at) in
     absurd (true≢false (sym (ap is_bound there) ∙ t.unbound))
 
--- nothing begins at a wake
+-- no function begins with a wake
 none_at_start : (code : Code) (f c m : ℕ) → IsLawful code → instr_at code f 0 ≡ Some (Wake c m) → ⊥
 none_at_start code f c m lawful at = let g = placed code f 0 (Wake c m) lawful at in g.lawful.wake 0 c m g.at
 
@@ -147,7 +145,7 @@ last_of xs x =
     ap (slice_get (xs ++ x ∷ [])) last ∙ get_seam xs x []
 
 module _ (code : Code) (lawful : IsLawful code) (log : Log) (w : Walk) (k : IsWalk code log w) where
-  -- a path that is blocked at a wake rests there
+  -- a path that is blocked at a wake ends there
   record RestsAtWake (c m n : ℕ) : Type 0 where
     rests : is_failing (ending_of log w.name) ≡ false
     at : standing code w.function k.path ≡ Some (Wake c m)
@@ -162,11 +160,11 @@ module _ (code : Code) (lawful : IsLawful code) (log : Log) (w : Walk) (k : IsWa
   rests_at_wake c m n is = by (ending_of log w.name) refl (standing code w.function k.path) refl (sym k.blocked ∙ is)
     where
       by : (e : Ending) → ending_of log w.name ≡ e → (o : Option Instr) → standing code w.function k.path ≡ o
-          → blocked_after e (marks_after (unmarked code w.function) (steps_at code w.function w.places)) w.sleeps o ≡ Some (blocked.Wake c m n)
+          → blocked_after e (marks_after (marks_at_start code w.function) (steps_at code w.function w.places)) w.sleeps o ≡ Some (blocked.Wake c m n)
           → RestsAtWake c m n
       by Rests e None at b = absurd (none-some (blocked.Wake c m n) b)
       by Rests e (Some i) at b =
-          let is = blocked_wake (marks_after (unmarked code w.function) (steps_at code w.function w.places)) w.sleeps i c m n b in
+          let is = blocked_wake (marks_after (marks_at_start code w.function) (steps_at code w.function w.places)) w.sleeps i c m n b in
           record { rests = ap is_failing e; at = at ∙ ap (λ x. Some x) is.0; last = is.1 }
       by Fails e o at b = absurd (none-some (blocked.Wake c m n) b)
       by Open e o at b = absurd (none-some (blocked.Wake c m n) b)
@@ -187,7 +185,7 @@ module _ (code : Code) (lawful : IsLawful code) (log : Log) (w : Walk) (k : IsWa
           let sleep : l.instr ≡ Sleep c m = sleep_before code g l.place l.to.place c m l.instr lawful l.at wake (leads_by l.place l.instr l.more l.to l.leads) in
           let front = steps_at code g l.front in
           let s = step_at code g l.place in
-          let start = unmarked code g in
+          let start = marks_at_start code g in
           let own : Marked = record { number = 0 + length front; step = s; fails = false; marks = marks_after start front } in
           let ev : Event = record { step = 0 + length front; line = unwrap_or (line_at code g l.place) 0; kind = kind.Sleep c m; bars = (marks_after start front).bars } in
           let is_it : s.instr ≡ Sleep c m = ap (λ o. unwrap_or o Exit) l.at ∙ sleep in

@@ -1,4 +1,4 @@
--- What a thread asks that has done all steps of its path in the log of a deadlock.
+-- The next request of a thread that has done its whole path in the log of a deadlock.
 use Rattle.std.proofs.Common.{◌≡◌, ◌↔◌, ◌∙◌, inl, inr, ℕ, Bool, true, false, ◌==◌, ◌&&◌, cond, List}
 use Rattle.std.proofs.Common.{IsSome, Option, Some, None, Result, Ok, Err, refl, sym, ap, ap₂, subst, slice_index_or, true≢false}
 use Rattle.std.specs.Prelude.{slice_get, option_map, option_and_then, if◌then◌else◌}
@@ -20,15 +20,14 @@ use Rattle.tc_code.specs.declared.instr.Instr.TheVariants.{Lock, Wake, Join}
 use Rattle.tc_code.proofs.Facts.{at_its_place}
 use Rattle.run_laws.proofs.Basics.{unless, some_is, some_value}
 use Rattle.run_laws.proofs.Exits.{exited_past_exit, has_next}
-use Rattle.run_history.specs.History.{Deed}
 use Rattle.run_history.specs.Locals.{asks_next}
-use Rattle.run_history.specs.Told.{has_exited_in}
+use Rattle.run_history.specs.Told.{has_exited_in, is_thread_in}
 use Rattle.run_follows.specs.Logged.{path_by}
 use Rattle.path_walk.specs.Events.{blocked_at}
-use Rattle.path_walk.specs.Fits.{ending_by, ending_of, Fits}
-use Rattle.path_walk.specs.Marks.{Marks, unmarked, marks_after}
-use Rattle.path_walk.specs.Paths.{Walk, blocked_after}
-use Rattle.path_walk.specs.Steps.{is_failing, can_block, ended, standing, steps_at}
+use Rattle.path_walk.specs.Fits.{ending_by, ending_of}
+use Rattle.path_walk.specs.Marks.{Marks, marks_at_start, marks_after}
+use Rattle.path_walk.specs.Paths.{blocked_after}
+use Rattle.path_walk.specs.Steps.{is_failing, can_block, places_if_well_ended, standing, steps_at}
 use Rattle.path_walk.specs.declared.ending.Ending.TheVariants.{Rests}
 use Rattle.path_walk.specs.declared.event.Sleep.{Sleep as Wait}
 use Rattle.path_walk.specs.declared.fault.Misfit.{Misfit}
@@ -38,13 +37,13 @@ use Rattle.path_laws.specs.Along.{HasMarks, IsAlong}
 use Rattle.path_laws.specs.Prefixes.{fails_by}
 use Rattle.path_laws.proofs.Blocked.{none_behind_exit}
 use Rattle.path_laws.proofs.States.{Stands}
-use Rattle.path_laws.specs.history.Along.{IsThread, HasDoneAll}
-use Rattle.path_laws.proofs.of_history.Told.{RunOf, reached}
+use Rattle.path_laws.specs.history.Along.{HasDoneAll, HistoryAlong, PathThread}
+use Rattle.path_laws.proofs.of_history.Told.{RunOf, reached, its_run, thread_of}
 use Rattle.path_laws.proofs.of_history.Walks.{IsWalking, walking}
 use Rattle.path_laws.proofs.of_history.Whole.{stands_all, went_all}
 use Rattle.path_laws.specs.stuck.Blocked.{asked_at}
 
--- what a mapped option is comes from one
+-- a mapped option with a value comes from an option with one
 pub mapped_from : {X Y : Type 0} (f : X → Y) (o : Option X) (y : Y) → option_map f o ≡ Some y → (x : X) × (o ≡ Some x) × (f x ≡ y)
 mapped_from f None y e = absurd (none-some y e)
 mapped_from f (Some x) y e = (x, refl, same_Some (f x) y e)
@@ -52,11 +51,11 @@ mapped_from f (Some x) y e = (x, refl, same_Some (f x) y e)
 abbrev the_ok : List ℕ → Result (List ℕ) Misfit
 the_ok ps = Ok ps
 
--- in a deadlock all paths rest
+-- in the log of a deadlock all paths rest
 rests_in : (log : Log) (n : Name) → log.failing ≡ Deadlock → ending_of log n ≡ Rests
 rests_in log n dead = ap (λ f. ending_by (option_and_then (λ k. option_map (λ (t : ThreadPath). t.name) (slice_get log.threads k)) (place_in f)) n) dead
 
--- an instruction at which a thread can be blocked asks what that says
+-- an instruction that can block a thread has the request that blocks it
 asks_there : (t : Local) (m : Marks) (ss : List Wait) (i : Instr) → HasMarks t m → can_block i ≡ true
     → Some (request t i) ≡ option_map asked_at (blocked_at m ss i)
 asks_there t m ss (Lock l) marks can = refl
@@ -64,8 +63,8 @@ asks_there t m ss (Wake c l) marks can = refl
 asks_there t m ss (Join v) marks can = ap (λ hs. Some (Await (child_number (slice_index_or hs v Unset)))) (sym marks.handles)
 asks_there t m ss i marks can = absurd (true≢false (sym can))
 
--- a thread that rests can be blocked where it stands
-can_be_blocked : (code : Code) (f : ℕ) (p : Path) (ps : List ℕ) (i : Instr) → ended code f Rests p (Ok ps) ≡ Ok ps → standing code f p ≡ Some i
+-- a thread that rests is at an instruction that can block
+can_be_blocked : (code : Code) (f : ℕ) (p : Path) (ps : List ℕ) (i : Instr) → places_if_well_ended code f Rests p (Ok ps) ≡ Ok ps → standing code f p ≡ Some i
     → can_block i ≡ true
 can_be_blocked code f p ps i told at = by (can_block i) (ap (λ o. cond (option_map_or can_block o true) (the_ok ps) (Err NotBlocked)) (sym at) ∙ told)
   where
@@ -73,37 +72,47 @@ can_be_blocked code f p ps i told at = by (can_block i) (ap (λ o. cond (option_
     by true e = refl
     by false e = absurd cc
 
-module _ {B : Type 0} (setting : Setting B) (fits : Fits setting.code setting.log) (h : List Deed) (r : RunOf setting.machine setting.log h) (j : ℕ)
-    (w : Walk) (there : IsThread setting.code setting.log j w) (done : HasDoneAll h w) (dead : setting.log.failing ≡ Deadlock) (t : Thread B)
-    (here : fin.get r.state.threads w.name ≡ Some t) where
+module _ {B : Type 0} (setting : Setting B) (history : HistoryAlong setting) (thread : PathThread setting.code setting.log)
+    (there : is_thread_in history.deeds thread.name ≡ true) (done : HasDoneAll history.deeds thread.walk) (dead : setting.log.failing ≡ Deadlock) where
   open setting use {machine, ops, code, lawful, log}
+  open history use {deeds as h}
+  open thread use {walk as w}
 
-  abbrev k : IsWalking setting fits w t r.state.failed
-  k = walking setting fits h r j w t there here
+  abbrev r : RunOf machine log h
+  r = its_run setting history
+
+  abbrev t : Thread B
+  t = (thread_of machine log h r w.name there).0
+
+  here : fin.get r.state.threads w.name ≡ Some t
+  here = (thread_of machine log h r w.name there).1
+
+  abbrev k : IsWalking setting history thread t
+  k = walking setting history thread t here
 
   rests : ending_of log w.name ≡ Rests
   rests = rests_in log w.name dead
 
-  -- it hasn't failed
+  -- the thread hasn't failed
   stands : IsAlong code t.local w.places
   stands =
       let not_fails : fails_by r.state.failed w.name ≡ false =
       k.so.on.fails ∙ ap (λ e. is_failing e && t.local.steps == k.so.on.path.steps) rests in
-      subst (λ b. Stands code b t.local w.places) not_fails (stands_all setting fits h r j w there t here done)
+      subst (λ b. Stands code b t.local w.places) not_fails (stands_all setting history thread done t here)
 
   path : path_by t.local ≡ k.walk.path
-  path = went_all setting fits h r j w there t here done
+  path = went_all setting history thread done t here
 
-  -- and stands where the path says
+  -- the thread is at the instruction where its path ends
   standing_there : standing code w.function k.walk.path ≡ instr_at code t.local.function t.local.instruction
   standing_there =
       ap₂ (standing code) (sym k.function) (sym path) ∙ ap (instr_at code t.local.function) stands.end
 
   abbrev marks : Marks
-  marks = marks_after (unmarked code w.function) (steps_at code w.function w.places)
+  marks = marks_after (marks_at_start code w.function) (steps_at code w.function w.places)
 
   has_marks : HasMarks t.local marks
-  has_marks = subst (λ f. HasMarks t.local (marks_after (unmarked code f) (steps_at code f w.places))) k.function stands.marks
+  has_marks = subst (λ f. HasMarks t.local (marks_after (marks_at_start code f) (steps_at code f w.places))) k.function stands.marks
 
   blocked_is : w.blocked ≡ option_and_then (blocked_at marks w.sleeps) (instr_at code t.local.function t.local.instruction)
   blocked_is = k.walk.blocked ∙ ap₂ (λ e o. blocked_after e marks w.sleeps o) rests standing_there
@@ -125,16 +134,16 @@ module _ {B : Type 0} (setting : Setting B) (fits : Fits setting.code setting.lo
         | inr going ↦
             let i = has_next ops code r.state lawful (reached machine log h r) w.name t here going in
             let at = at_its_place code t.local i.0 i.1 in
-            let fit : ended code w.function Rests k.walk.path (Ok w.places) ≡ Ok w.places =
-            ap (λ e. ended code w.function e k.walk.path (Ok w.places)) (sym rests)
-            ∙ ap (ended code w.function (ending_of log w.name) k.walk.path) (sym k.walk.places)
+            let fit : places_if_well_ended code w.function Rests k.walk.path (Ok w.places) ≡ Ok w.places =
+            ap (λ e. places_if_well_ended code w.function e k.walk.path (Ok w.places)) (sym rests)
+            ∙ ap (places_if_well_ended code w.function (ending_of log w.name) k.walk.path) (sym k.walk.places)
             ∙ k.walk.fits in
             ap (option_map (request t.local)) i.1
             ∙ asks_there t.local marks w.sleeps i.0 has_marks (can_be_blocked code w.function k.walk.path w.places i.0 fit (standing_there ∙ at))
             ∙ sym (ap (option_map asked_at) (blocked_is ∙ ap (option_and_then (blocked_at marks w.sleeps)) at))
       ]
 
-  -- so it is left exactly where the path says that it is blocked
+  -- the thread hasn't exited exactly if its path is blocked
   pub left_blocked : (has_exited_in h w.name ≡ false) ↔ IsSome w.blocked
   left_blocked = (
     λ going.

@@ -1,9 +1,8 @@
 -- What blocks each thread where moves reproduce the log of a deadlock.
-use Rattle.std.proofs.Common.{◌≡◌, ◌∙◌, ℕ, List, Some, sym, ap, subst}
+use Rattle.std.proofs.Common.{◌≡◌, ◌∙◌, true, List, Some, sym, ap, subst}
 use Rattle.std.specs.Prelude.{option_map}
 use Rattle.std.specs.FinMap as fin
 use Rattle.std.proofs.lemmas.Option.{same_Some}
-use Rattle.tc_base.specs.States.{Thread}
 use Rattle.tc_base.specs.declared.failing.Failing.TheVariants.{Deadlock}
 use Rattle.tc_base.specs.declared.moves.Move.{Move}
 use Rattle.tc_code.specs.Run.{EndsAs, Reproduces}
@@ -13,44 +12,37 @@ use Rattle.run_history.specs.Locals.{asks_next}
 use Rattle.run_follows.specs.Follow.{IsLeftIn}
 use Rattle.run_follows.specs.blocked.Stuck.{IsBlockedIn, IsDeadlockIn}
 use Rattle.run_follows.proofs.of_blocked.Stuck.{deadlock_told}
-use Rattle.path_walk.specs.Fits.{Fits}
-use Rattle.path_walk.specs.Paths.{Walk}
 use Rattle.path_walk.specs.declared.event.Blocked.{Blocked}
 use Rattle.path_laws.specs.Setting.{Setting}
-use Rattle.path_laws.proofs.Logs.{reproduced_fits}
-use Rattle.path_laws.specs.history.Along.{IsThread, HasDoneAll}
-use Rattle.path_laws.proofs.of_history.Told.{RunOf, thread_of, reproduced_run}
-use Rattle.path_laws.proofs.of_history.Logged.{is_there, has_done}
+use Rattle.path_laws.specs.history.Along.{HasDoneAll, PathThread}
+use Rattle.path_laws.proofs.of_history.Logged.{is_there, has_done, history_again}
 use Rattle.path_laws.specs.stuck.Blocked.{asked_at, IsBlockedAt}
 use Rattle.path_laws.proofs.of_stuck.Rests.{mapped_from, asks_blocked, left_blocked}
+use Rattle.run_history.specs.Told.{is_thread_in}
 
 module _ {B : Type 0} (setting : Setting B) (dead : setting.log.failing ≡ Deadlock) (moves : List Move)
     (again : Reproduces setting.ops setting.code setting.log moves) where
-  open setting use {machine, ops, model, bound, laws, code, lawful, log}
+  open setting use {machine, ops, code, log}
 
   abbrev h : List Deed
   h = history ops code moves
-
-  abbrev r : RunOf machine log h
-  r = reproduced_run machine log moves again
-
-  abbrev fits : Fits code log
-  fits = reproduced_fits code ops model bound laws lawful log moves again
 
   deadlock : IsDeadlockIn ops.buffered code h
   deadlock =
       (deadlock_told machine moves again.state again.leads).0
       (subst (λ f. EndsAs ops code f log.threads again.state) dead again.ends)
 
-  module _ (j : ℕ) (w : Walk) (there : IsThread code log j w) where
-    done : HasDoneAll h w
-    done = has_done setting moves again j w there
+  module _ (thread : PathThread code log) where
+    open thread use {walk as w}
 
-    thread : (t : Thread B) × (fin.get r.state.threads w.name ≡ Some t)
-    thread = thread_of machine log h r w.name (is_there setting moves again j w there)
+    there : is_thread_in h w.name ≡ true
+    there = is_there setting moves again thread
+
+    done : HasDoneAll h w
+    done = has_done setting moves again thread
 
     asks : asks_next code h w.name ≡ option_map asked_at w.blocked
-    asks = asks_blocked setting fits h r j w there done dead thread.0 thread.1
+    asks = asks_blocked setting (history_again setting moves again) thread there done dead
 
     pub left_is_blocked : IsLeftIn h w.name → (b : Blocked) × IsBlockedAt code h w b
     left_is_blocked left =
@@ -62,8 +54,8 @@ module _ {B : Type 0} (setting : Setting B) (dead : setting.log.failing ≡ Dead
     blocked_is_left b blocked =
         let left : IsLeftIn h w.name =
         record {
-          there = is_there setting moves again j w there;
-          going = (left_blocked setting fits h r j w there done dead thread.0 thread.1).1 (some_is w.blocked b blocked);
+          there = there;
+          going = (left_blocked setting (history_again setting moves again) thread there done dead).1 (some_is w.blocked b blocked);
         } in
         let x = left_is_blocked left in
         (left, subst (IsBlockedAt code h w) (same_Some x.0 b (sym x.1.is ∙ blocked)) x.1)

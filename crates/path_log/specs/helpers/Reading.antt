@@ -21,7 +21,7 @@ abbrev pub Gives : {X Y : Type 0} → (X → Y) → Result X LogFault → Result
 Gives view (Ok x) read = read ≡ Ok (view x)
 Gives view (Err fault) read = Fails fault read
 
--- a value and the place of the cursor behind it
+-- a value and the place of the cursor after it
 abbrev pub seen : {X : Type 0} → X × Cursor → X × Place
 seen x = (x.0, place x.1)
 

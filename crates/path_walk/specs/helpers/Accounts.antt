@@ -7,7 +7,7 @@ use Rattle.path_walk.specs.Steps.{Onward, is_failing, steps_at}
 use Rattle.path_walk.specs.Fits.{started}
 use Rattle.path_walk.specs.Marks.{marked_steps}
 use Rattle.path_walk.specs.Events.{operators_of, is_impossible}
-use Rattle.path_walk.specs.Paths.{Walk, counted, walk_by}
+use Rattle.path_walk.specs.Paths.{Walk, saturated_count, walk_by}
 use Rattle.path_walk.specs.declared.ending.Ending.{Ending}
 use Rattle.path_walk.specs.declared.fault.Misfit.{Misfit}
 use Rattle.path_walk.specs.declared.follow.FollowFault.{FollowFault}
@@ -45,7 +45,7 @@ abbrev pub account_by : Code → Ending → ThreadPath → ℕ → List ℕ → 
 account_by code ending t f places = record {
   walk = walk_by code ending t f places;
   started = started (steps_at code f places);
-  operators = counted (sum (map (λ s. operators_of s.instr) (steps_at code f places)));
+  operators = saturated_count (sum (map (λ s. operators_of s.instr) (steps_at code f places)));
   dead = list_any is_impossible (marked_steps code f (is_failing ending) (steps_at code f places));
 }
 

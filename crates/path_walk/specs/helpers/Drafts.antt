@@ -10,7 +10,7 @@ use Rattle.tc_base.specs.declared.failing.Failing.{Failing}
 use Rattle.tc_code.specs.Code.{Code}
 use Rattle.run_log.specs.Logs.{rises_from}
 use Rattle.path_walk.specs.Fits.{started, function_of, misfit_of}
-use Rattle.path_walk.specs.Paths.{Walk, Paths, counted, have_exited, walk_of, steps_in, operators_in, is_dead}
+use Rattle.path_walk.specs.Paths.{Walk, Paths, saturated_count, have_exited, walk_of, steps_in, operators_in, is_dead}
 use Rattle.path_walk.specs.declared.fault.Misfit.{Misfit}
 use Rattle.path_walk.specs.declared.fault.Misfit.TheVariants.{Missing}
 use Rattle.path_walk.specs.declared.fault.WalkFault.{WalkFault}
@@ -40,7 +40,7 @@ added d c found = record {
   threads = d.threads ++ c.walk ∷ [];
   started = d.started ++ c.started ∷ [];
   events = d.events + length c.walk.events;
-  operators = counted (d.operators + c.operators);
+  operators = saturated_count (d.operators + c.operators);
   dead = d.dead || c.dead;
   missing = least d.missing found;
 }
@@ -92,7 +92,7 @@ pub record IsDraft (code : Code) (log : Log) (d : Draft) : Type 0 where
   pub started : d.started ≡ map (λ t. started (steps_in code log t)) (take (length d.threads) log.threads)
   pub events : d.events ≡ sum (map (λ t. length (walk_of code log t).events) (take (length d.threads) log.threads))
   pub few : d.events ≤ 65536 * length d.threads
-  pub operators : d.operators ≡ counted (sum (map (operators_in code log) (take (length d.threads) log.threads)))
+  pub operators : d.operators ≡ saturated_count (sum (map (operators_in code log) (take (length d.threads) log.threads)))
   pub dead : d.dead ≡ list_any (is_dead code log) (take (length d.threads) log.threads)
   pub fit : (n : Name) → IsSome (path_under n (take (length d.threads) log.threads)) → misfit_of code log n ≡ None
   pub missing : IfSome d.missing (IsMissing code log (take (length d.threads) log.threads))

@@ -1,4 +1,4 @@
--- The accesses of the stores and loads of a history that has gone up to a position of a lawful world.
+-- The accesses of a history's stores and loads, up to a position of a lawful world.
 use Rattle.std.proofs.Common.{◌≡◌, ◌∙◌, inl, ℕ, ◌<◌, ◌==◌, ◌&&◌, ℤ, true, not, List}
 use Rattle.std.proofs.Common.{Some, None, refl, ap, ap₂, sym, arith}
 use Rattle.std.specs.Prelude.{slice_get}
@@ -13,7 +13,7 @@ use Rattle.path_walk.specs.Paths.{Walk, paths_of}
 use Rattle.path_walk.specs.declared.event.Event.{Event}
 use Rattle.path_walk.specs.declared.event.EventKind.TheVariants as kind
 use Rattle.path_laws.specs.Setting.{Setting}
-use Rattle.path_laws.specs.history.Along.{IsAlongPaths, IsThread}
+use Rattle.path_laws.specs.history.Along.{IsThread, PathThread}
 use Rattle.path_laws.proofs.of_history.Walks.{thread_path_at}
 use Rattle.path_laws.proofs.of_events.Lists.{contains_in}
 use Rattle.path_laws.proofs.of_events.Steps.{step_is}
@@ -21,7 +21,7 @@ use Rattle.sym_terms.specs.declared.node.Node.{Node}
 use Rattle.sym_exec.specs.Alone.{Asked, asked_in, cell_by}
 use Rattle.sym_exec.specs.Executed.{Course}
 use Rattle.sym_exec.specs.declared.symbolic.Access.{Access}
-use Rattle.sym_laws.specs.Valued.{AgreesWith, found}
+use Rattle.sym_laws.specs.Valued.{found}
 use Rattle.sym_laws.proofs.Follows.{found_at_log}
 use Rattle.sym_events.proofs.Whole.{is_executed}
 use Rattle.sym_steps.specs.accesses.Asked.{IsAskedIn, IsReachedIn}
@@ -36,8 +36,9 @@ use Rattle.lawful_order.specs.Reads.{HasAccess}
 use Rattle.lawful_order.specs.Whole.{IsExecutedBy}
 use Rattle.world_plan.specs.Going.{IsLawfulWorld}
 use Rattle.plan_runs.proofs.of_memory.Empty.{own_rule}
+use Rattle.sym_steps.specs.Valued.{ValuedHistory}
 
--- what an issued store asks
+-- the request of an issued store
 abbrev pub written : (c : ℕ) (v : ℤ) → Asked
 written c v = record { cell = c; takes = None; writes = Some v }
 
@@ -55,13 +56,15 @@ module _ {B : Type 0} (setting : Setting B) (nodes : List Node) (w : World) (l :
   course_at t q there =
       let p = thread_path_at code log t q there in (_, (found_at_log code log nodes setting.lawful setting.log_is l.terms t p.0 p.1).course)
 
-  -- the cells of a thread's two steps are one
+  -- the cell at the step of an access is the cell of that access
   pub cell_at_step : (t k : ℕ) (a : Access) → HasAccess (found code log nodes).symbolic t a → a.step ≡ k
       → cell_of (found code log nodes).symbolic t k ≡ Some a.cell
   cell_at_step t k a has step =
       ap (cell_of (found code log nodes).symbolic t) (sym step) ∙ cell_found (paths_of code log) (found code log nodes).symbolic t a executed has
 
-  module _ (h : List Deed) (along : IsAlongPaths ops.buffered bound code log h) (agrees : AgreesWith (found code log nodes).symbolic w.loads h) where
+  module _ (valued : ValuedHistory setting nodes w.loads) where
+    open valued use {history, deeds as h}
+
     -- the access of a step
     pub record IsOfStep (t k : ℕ) (y : Asked) : Type 0 where
       pub access : Access
@@ -70,11 +73,11 @@ module _ {B : Type 0} (setting : Setting B) (nodes : List Node) (w : World) (l :
       pub asked : asked_in (found code log nodes).nodes w.loads access ≡ y
       pub reached : IsReachedIn code log nodes h t access
 
-    pub access_of : (t : ℕ) (q : Walk) → IsThread code log t q → (k : ℕ) (y : Asked) → IsAskedIn h q.name k y → IsOfStep t k y
-    access_of t q there k y d =
-        let c = course_at t q there in
-        let a = asked_access setting l.fits nodes w.loads l.terms h along agrees t q c.0 there c.1 k y d in
-        let s = step_is setting l.fits h along t q there d.older d.newer k d.request d.took d.other d.there in
+    pub access_of : (thread : PathThread code log) (k : ℕ) (y : Asked) → IsAskedIn h thread.name k y → IsOfStep thread.index k y
+    access_of thread k y d =
+        let c = course_at thread.index thread.walk thread.there in
+        let a = asked_access setting nodes w.loads valued (record { thread = thread; course = c.0; executed = c.1 }) k y d in
+        let s = step_is setting history thread d.older d.newer k d.request d.took d.other d.there in
         let among = contains_in a.0 c.0.accesses a.1 in
         record {
           access = a.0;
@@ -82,23 +85,23 @@ module _ {B : Type 0} (setting : Setting B) (nodes : List Node) (w : World) (l :
           step = a.2;
           asked = a.3;
           reached = record {
-            walk = q;
+            walk = thread.walk;
             course = c.0;
-            thread = there;
+            thread = thread.there;
             there = c.1;
             among = among;
             reached = inl (omega (arith, s.done, a.2));
           };
         }
 
-    -- accesses are to one cell where their cells have one number
+    -- accesses are to one cell if their cells have the same number
     pub one_cell : (t u : ℕ) (a b : Access) → IsReachedIn code log nodes h t a → IsReachedIn code log nodes h u b
         → is_same_cell (found code log nodes).nodes w a.cell b.cell
         ≡ (cell_by (found code log nodes).nodes w.loads a.cell == cell_by (found code log nodes).nodes w.loads b.cell)
     one_cell t u a b first second =
-        same_cells setting l.fits nodes w l.terms h along agrees t u a b first second
+        same_cells setting nodes w valued t u a b first second
 
-    -- two steps of a thread
+    -- the cells of two steps of a thread
     pub cells_of_steps : (t j k : ℕ) (y z : Asked) (a : IsOfStep t j y) (b : IsOfStep t k z) (x e : Event) → x.step ≡ j → e.step ≡ k
         → same_cell ops.buffered bound (paths_of code log) (found code log nodes).symbolic (found code log nodes).nodes w t x e ≡ (y.cell == z.cell)
     cells_of_steps t j k y z a b x e first second =
@@ -107,7 +110,7 @@ module _ {B : Type 0} (setting : Setting B) (nodes : List Node) (w : World) (l :
         ∙ one_cell t t a.access b.access a.reached b.reached
         ∙ ap₂ (λ (c d : Asked). c.cell == d.cell) a.asked b.asked
 
-  -- stores that the model binds are in order
+  -- stores that the model binds come in order
   pub bound_before : (t : ℕ) (q : Walk) (x y : Event) → IsThread code log t q → Contains q.events x → Contains q.events y → x.step < y.step
       → y.kind ≡ kind.Store
       → bound (same_cell ops.buffered bound (paths_of code log) (found code log nodes).symbolic (found code log nodes).nodes w t x y) (not (x.bars == y.bars))

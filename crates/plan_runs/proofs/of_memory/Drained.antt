@@ -1,4 +1,4 @@
--- The stores that have reached memory, one deed on.
+-- The stores that have reached memory, after one more deed.
 use Rattle.std.proofs.Common.{◌≡◌, ◌∙◌, ◌⊎◌, inl, inr, ℕ, suc, ◌<◌, ◌==◌, ◌&&◌, ◌||◌, ℤ, Bool, true, false, List, [], ◌∷◌, ◌++◌}
 use Rattle.std.proofs.Common.{Option, refl, ap, ap₂, sym, arith}
 use Rattle.std.specs.Prelude.{slice_get}
@@ -24,7 +24,7 @@ use Rattle.world_plan.specs.Going.{IsLawfulWorld, HasGone, HaveDrained, is_pendi
 use Rattle.world_plan.proofs.Places.{same_event}
 use Rattle.world_plan.proofs.Threads.{one_thread}
 
--- what has drained with a deed more
+-- the stores that have drained, after one more deed
 pub drained_more : (h : List Deed) (d : Deed) (n : Name) (k : ℕ) → has_drained (h ++ d ∷ []) n k ≡ has_drained h n k || drains n k d
 drained_more h d n k = list_any-append (drains n k) h (d ∷ []) ∙ ap (λ b. has_drained h n k || b) (or-false (drains n k d))
 

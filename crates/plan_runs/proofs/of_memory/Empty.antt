@@ -18,8 +18,9 @@ use Rattle.sym_laws.specs.Valued.{found}
 use Rattle.order_formula.specs.Worlds.{World}
 use Rattle.order_formula.specs.declared.group.Group.TheVariants.{Own}
 use Rattle.lawful_order.specs.Memory.{OwnRule, is_kept, is_store, may_overtake, same_cell}
-use Rattle.world_plan.specs.Going.{IsLawfulWorld, HasGone, IsAtEvent, place}
+use Rattle.world_plan.specs.Going.{IsLawfulWorld, HasGone, NextEvent, place}
 use Rattle.plan_runs.proofs.of_memory.Issued.{issuer_named, issue_event}
+use Rattle.plan_runs.proofs.Histories.{history_of}
 
 module _ {B : Type 0} (setting : Setting B) (nodes : List Node) (w : World) (l : IsLawfulWorld setting nodes w) where
   open setting use {ops, bound, code, log}
@@ -28,7 +29,7 @@ module _ {B : Type 0} (setting : Setting B) (nodes : List Node) (w : World) (l :
   pub own_rule : (t : ℕ) → OwnRule ops.buffered bound (paths_of code log) (found code log nodes).symbolic (found code log nodes).nodes w t
   own_rule t = l.lawful.meets (Own t)
 
-  -- what may not overtake stores comes after all of its thread that are before it
+  -- an event that may not overtake stores comes after all earlier ones of its thread
   kept_behind : (t : ℕ) (x y : Event) → may_overtake y.kind ≡ false
       → is_kept ops.buffered bound (paths_of code log) (found code log nodes).symbolic (found code log nodes).nodes w t x y ≡ true
   kept_behind t x y last = by (not (ops.buffered && is_store x.kind)) (may_overtake y.kind) last
@@ -47,21 +48,23 @@ module _ {B : Type 0} (setting : Setting B) (nodes : List Node) (w : World) (l :
   passed_has_drained p h g t q there has x i store before =
       (g.drained t q x there (contains_in x q.events i) (ap₂ (λ b k. b && is_store k) has store)).1 before
 
-  pub empty_there : (p : ℕ) (h : List Deed) (t : ℕ) (q : Walk) (x : Event) → IsAtEvent setting nodes w p h t q x
-      → may_overtake x.kind ≡ false → HasDrained ops.buffered h q.name
-  empty_there p h t q x at last = (stores_have_drained ops.buffered h q.name).1 (λ has k c v i.
-      let y = issue_event setting l.fits h at.gone.along t q at.thread k c v i in
+  pub empty_there : (e : NextEvent setting nodes w) → may_overtake e.event.kind ≡ false → HasDrained ops.buffered e.deeds e.thread.name
+  empty_there e last = (stores_have_drained ops.buffered e.deeds e.thread.name).1 (λ has k c v i.
+      let q = e.thread.walk in
+      let t = e.thread.index in
+      let own = e.thread.there in
+      let y = issue_event setting (history_of l e.gone) e.thread k c v i in
       let among = contains_in y.0 q.events y.1 in
-      let before = (own_rule t).own y.0 x (q, at.thread, among) (q, at.thread, at.event) (omega (arith, y.2, y.4, at.steps)) (kept_behind t y.0 x last) in
-      ap (has_drained h q.name) (sym y.2)
-      ∙ passed_has_drained p h at.gone t q at.thread has y.0 y.1 y.3 (omega (arith, before, at.at)))
+      let before = (own_rule t).own y.0 e.event (q, own, among) (q, own, e.among) (omega (arith, y.2, y.4, e.steps)) (kept_behind t y.0 e.event last) in
+      ap (has_drained e.deeds q.name) (sym y.2)
+      ∙ passed_has_drained e.position e.deeds e.gone t q own has y.0 y.1 y.3 (omega (arith, before, e.at)))
 
   pub all_there : (p : ℕ) (h : List Deed) → HasGone setting nodes w p h
       → ((t : ℕ) (q : Walk) (x : Event) → IsThread code log t q → Contains q.events x → place code log w t x < p) → AllDrained ops.buffered h
   all_there p h g all n = (stores_have_drained ops.buffered h n).1 (λ has k c v i.
-      let s = issuer_named setting l.fits h g.along n k c v i in
-      let mine = subst (λ m. IsIssuedIn h m k c v) (sym s.name) i in
-      let y = issue_event setting l.fits h g.along s.place s.walk s.there k c v mine in
-      let before = all s.place s.walk y.0 s.there (contains_in y.0 s.walk.events y.1) in
-      ap₂ (has_drained h) (sym s.name) (sym y.2)
-      ∙ passed_has_drained p h g s.place s.walk s.there has y.0 y.1 y.3 before)
+      let s = issuer_named setting (history_of l g) n k c v i in
+      let mine = subst (λ m. IsIssuedIn h m k c v) (sym s.name_is) i in
+      let y = issue_event setting (history_of l g) s.thread k c v mine in
+      let before = all s.index s.walk y.0 s.there (contains_in y.0 s.walk.events y.1) in
+      ap₂ (has_drained h) (sym s.name_is) (sym y.2)
+      ∙ passed_has_drained p h g s.index s.walk s.there has y.0 y.1 y.3 before)

@@ -13,20 +13,18 @@ use Rattle.run_history.specs.Told.{steps_in}
 use Rattle.run_history.specs.pending.Deeds.{IsIssuedIn}
 use Rattle.run_history.proofs.of_pending.Apart.{Named}
 use Rattle.run_history.proofs.of_pending.In.{In, in_at, in_split, any_in, in_any, one_of_name}
-use Rattle.path_walk.specs.Fits.{Fits}
-use Rattle.path_walk.specs.Paths.{Walk}
 use Rattle.path_walk.specs.declared.event.Event.{Event}
 use Rattle.path_walk.specs.declared.event.EventKind.TheVariants as kind
 use Rattle.path_laws.specs.Setting.{Setting}
 use Rattle.path_laws.specs.Deeds.{kind_of}
-use Rattle.path_laws.specs.history.Along.{IsAlongPaths, IsThread, IsNameOfThread}
-use Rattle.path_laws.proofs.of_history.Told.{RunOf, run_of, first_along}
+use Rattle.path_laws.specs.history.Along.{IsNameOfThread, HistoryAlong, PathThread}
+use Rattle.path_laws.proofs.of_history.Told.{RunOf, its_run, up_to}
 use Rattle.path_laws.proofs.of_history.Walks.{thread_named}
 use Rattle.path_laws.specs.events.Done.{IsDoneIn}
 use Rattle.path_laws.proofs.of_events.Events.{event_done, done_event}
 use Rattle.path_laws.proofs.of_events.Steps.{steps_both, steps_first}
 
--- a request that is a store asks a cell to take a value
+-- a request that is a store writes a value to a cell
 no_create : (o : Option ℕ) → option_map kind.Create o ≡ Some kind.Store → ⊥
 no_create None e = none-some _ e
 no_create (Some k) e = cc
@@ -54,7 +52,7 @@ done_issued h n k d =
       },
     )
 
--- what was issued in the first deeds was issued
+-- a store issued in the first deeds is issued in all
 issued_in_all : (older newer : List Deed) (n : Name) (k c : ℕ) (v : ℤ) → IsIssuedIn older n k c v → IsIssuedIn (older ++ newer) n k c v
 issued_in_all older newer n k c v i = record {
   before = i.before;
@@ -64,7 +62,7 @@ issued_in_all older newer n k c v i = record {
   issued = ap (λ g. g ++ newer) i.issued ∙ append_assoc i.before (Did n k (Write c v) i.took i.other ∷ i.after) newer;
 }
 
--- a deed that drains a thread's step
+-- a deed that drains a step of a thread
 record IsDrainOf (d : Deed) (n : Name) (k : ℕ) : Type 0 where
   cell : ℕ
   value : ℤ
@@ -82,12 +80,12 @@ pub record IsDrainedIn (h : List Deed) (n : Name) (k c : ℕ) (v : ℤ) : Type 0
   pub newer : List Deed
   pub there : h ≡ older ++ Drained n k c v ∷ newer
 
-module _ {B : Type 0} (setting : Setting B) (fits : Fits setting.code setting.log) (h : List Deed)
-    (along : IsAlongPaths setting.ops.buffered setting.bound setting.code setting.log h) where
-  open setting use {machine, ops, bound, code, log}
+module _ {B : Type 0} (setting : Setting B) (history : HistoryAlong setting) where
+  open setting use {machine, ops, code, log}
+  open history use {deeds as h, along}
 
   abbrev r : RunOf machine log h
-  r = run_of machine log h along
+  r = its_run setting history
 
   named : Named h
   named = r.told.tells.deeds.named
@@ -97,14 +95,12 @@ module _ {B : Type 0} (setting : Setting B) (fits : Fits setting.code setting.lo
       → IsNameOfThread code log n
   step_named older newer n k q took other at =
       let left = r.told.threads older newer n k q took other at in
-      let begins = first_along machine log older (Did n k q took other ∷ newer)
-      (subst (IsAlongPaths ops.buffered bound code log) at along) in
-      thread_named setting fits older n begins left.there
+      thread_named setting (up_to setting history older (Did n k q took other ∷ newer) at) n left.there
 
   pub issuer_named : (n : Name) (k c : ℕ) (v : ℤ) → IsIssuedIn h n k c v → IsNameOfThread code log n
   issuer_named n k c v i = step_named i.before i.after n k (Write c v) i.took i.other i.issued
 
-  -- of two steps of a thread the first has the lesser number
+  -- of two steps of a thread, the first has the lesser number
   pub steps_rise : (older between newer : List Deed) (n : Name) (j k : ℕ) (p q : Request) (a b : ℤ) (o u : Option Name)
       → h ≡ (older ++ Did n j p a o ∷ between) ++ Did n k q b u ∷ newer → j < k
   steps_rise older between newer n j k p q a b o u at =
@@ -128,7 +124,7 @@ module _ {B : Type 0} (setting : Setting B) (fits : Fits setting.code setting.lo
         in_any (drains n k) deed h (subst (In deed) (sym d.there) (in_at d.older deed d.newer)) (and_from (same n n) (k == k) (same_self n n refl) (eq-eqb k k refl)),
       )
 
-  -- and what has drained of an issued store is its cell's value
+  -- the drain of an issued store has its cell and its value
   pub issue_drained : (n : Name) (k c : ℕ) (v : ℤ) → IsIssuedIn h n k c v → has_drained h n k ≡ true → IsDrainedIn h n k c v
   issue_drained n k c v i has =
       let p = any_in (drains n k) h has in
@@ -145,15 +141,17 @@ module _ {B : Type 0} (setting : Setting B) (fits : Fits setting.code setting.lo
       let value : d.value ≡ v = cc in
       record { older = s.older; newer = s.newer; there = there ∙ ap₂ (λ x y. s.older ++ Drained n k x y ∷ s.newer) cell value }
 
-  module _ (t : ℕ) (q : Walk) (there : IsThread code log t q) where
+  module _ (thread : PathThread code log) where
+    open thread use {walk as q}
+
     -- an issued store is an event of its thread
     pub issue_event : (k c : ℕ) (v : ℤ) → IsIssuedIn h q.name k c v
         → (x : Event) × In x q.events × (x.step ≡ k) × (x.kind ≡ kind.Store) × (k < steps_in h q.name)
-    issue_event k c v i = done_event setting fits h along t q there k kind.Store (issued_done h q.name k c v i)
+    issue_event k c v i = done_event setting history thread k kind.Store (issued_done h q.name k c v i)
 
-    -- and a store that is done was issued
+    -- a store that is done was issued
     pub event_issued : (x : Event) → In x q.events → x.kind ≡ kind.Store → x.step < steps_in h q.name
         → (c : ℕ) × (v : ℤ) × IsIssuedIn h q.name x.step c v
     event_issued x i store before =
         done_issued h q.name x.step
-        (subst (IsDoneIn h q.name x.step) store (event_done setting fits h along t q there x i before))
+        (subst (IsDoneIn h q.name x.step) store (event_done setting history thread x i before))

@@ -1,4 +1,4 @@
--- The last deeds that give something.
+-- The last deed that gives something.
 use Rattle.std.proofs.Common.{◌≡◌, ◌∙◌, ◌⊎◌, inl, inr, List, [], ◌∷◌, ◌++◌, Option, Some, None, refl, ap, ap₂, sym, subst}
 use Rattle.std.specs.List.{filter_map, last_or}
 use Rattle.run_history.specs.History.{Deed}
@@ -22,7 +22,7 @@ module _ {X : Type 0} (f : Deed → Option X) where
   pub none_gives : (h : List Deed) (d : Deed) (x : X) → filter_map f h ≡ [] → In d h → f d ≡ Some x → ⊥
   none_gives h d x none i gives = subst (In x) none (in_mapped f d x h i gives)
 
-  -- what gives something is the last that does, or stands before it
+  -- an element that gives something is the last one that does, or comes before it
   pub at_or_before : (older : List Deed) (d : Deed) (newer first : List Deed) (e : Deed) (rest : List Deed) (x : X)
       → older ++ d ∷ newer ≡ first ++ e ∷ rest → filter_map f newer ≡ [] → f e ≡ Some x
       → (e ≡ d) ⊎ ((between : List Deed) × (older ≡ first ++ e ∷ between))

@@ -1,4 +1,5 @@
--- What a load sees when its event comes: the last store to its cell in its thread's buffer, or else the last in memory.
+-- What a load sees when its event comes: the last store to its cell in its thread's buffer, or else
+-- the last one in memory.
 use Rattle.std.proofs.Common.{◌≡◌, ◌∙◌, ◌⊎◌, inl, inr, ℕ, ◌<◌, ◌≤◌, ◌==◌, ℤ, not, List, [], ◌∷◌, ◌++◌}
 use Rattle.std.proofs.Common.{Option, Some, None, refl, ap, ap₂, sym, subst, arith}
 use Rattle.std.specs.Prelude.{is_some, unwrap_or, IsSome}
@@ -19,7 +20,7 @@ use Rattle.path_walk.specs.Paths.{Walk, paths_of}
 use Rattle.path_walk.specs.declared.event.Event.{Event}
 use Rattle.path_walk.specs.declared.event.EventKind.TheVariants as kind
 use Rattle.path_laws.specs.Setting.{Setting}
-use Rattle.path_laws.specs.history.Along.{IsThread}
+use Rattle.path_laws.specs.history.Along.{IsThread, path_thread}
 use Rattle.path_laws.proofs.of_events.Lists.{in_contains, contains_in}
 use Rattle.sym_terms.specs.declared.node.Node.{Node}
 use Rattle.sym_exec.specs.Alone.{Asked, asked_in}
@@ -32,7 +33,7 @@ use Rattle.order_formula.specs.Worlds.{World}
 use Rattle.lawful_order.specs.Cells.{value_at_start}
 use Rattle.lawful_order.specs.Events.{IsBefore, place_of}
 use Rattle.lawful_order.specs.Reads.{HasAccess, Sees, TakesFrom, TakesFirst}
-use Rattle.world_plan.specs.Going.{IsLawfulWorld, HasGone, IsAtEvent}
+use Rattle.world_plan.specs.Going.{IsLawfulWorld, NextEvent}
 use Rattle.world_plan.specs.Sights.{Sight, sight_of}
 use Rattle.world_plan.proofs.Threads.{one_thread}
 use Rattle.plan_runs.proofs.of_memory.Accesses.{written, issue_asks, executed, IsOfStep, access_of, one_cell, cells_of_steps, bound_before}
@@ -41,19 +42,19 @@ use Rattle.plan_runs.proofs.of_memory.Issued.{issue_event, steps_rise}
 use Rattle.plan_runs.proofs.of_memory.Lists.{last_or_none, none_gives, at_or_before}
 use Rattle.plan_runs.proofs.of_memory.Shown.{shown_before}
 use Rattle.plan_runs.proofs.of_memory.Writes.{IsInMemory, IsInBuffer, where_written, IsStoreOf, store_of, IsOwnStore, own_store, own_gives}
+use Rattle.plan_runs.proofs.Histories.{history_of, valued_of}
 
 -- something that an option has
 some_of : {X : Type 0} (o : Option X) → IsSome o → (x : X) × (o ≡ Some x)
 some_of None e = absurd (true≢false (sym e))
 some_of (Some x) e = (x, refl)
 
-module _ {B : Type 0} (setting : Setting B) (nodes : List Node) (w : World) (l : IsLawfulWorld setting nodes w) (p : ℕ) (h : List Deed) (t : ℕ) (q : Walk)
-    (x : Event) (e : IsAtEvent setting nodes w p h t q x) (a : Access) (has : HasAccess (found setting.code setting.log nodes).symbolic t a)
-    (step : a.step ≡ x.step) (reached : IsReachedIn setting.code setting.log nodes h t a) where
+module _ {B : Type 0} (setting : Setting B) (nodes : List Node) (w : World) (l : IsLawfulWorld setting nodes w) (e : NextEvent setting nodes w)
+    (a : Access) (has : HasAccess (found setting.code setting.log nodes).symbolic e.thread.index a) (step : a.step ≡ e.event.step)
+    (reached : IsReachedIn setting.code setting.log nodes e.deeds e.thread.index a) where
   open setting use {ops, bound, code, log}
-
-  abbrev g : HasGone setting nodes w p h
-  g = e.gone
+  open e use {position as p, deeds as h, gone as g, thread, event as x, among}
+  open thread use {index as t, walk as q, there as t_there}
 
   abbrev At : (u k : ℕ) → ℕ
   At u k = place_of (paths_of code log) w u k
@@ -68,49 +69,49 @@ module _ {B : Type 0} (setting : Setting B) (nodes : List Node) (w : World) (l :
   SeesOf u b = Sees code (paths_of code log) (found code log nodes).symbolic (found code log nodes).nodes w t a u b
 
   abbrev OfStep : (u k : ℕ) → Asked → Type 0
-  OfStep u k y = IsOfStep setting nodes w l h g.along g.agrees u k y
+  OfStep u k y = IsOfStep setting nodes w l (valued_of l g) u k y
 
   abbrev InMemory : (u k c : ℕ) → ℤ → Type 0
-  InMemory u k c v = IsInMemory setting l.fits h g.along u k c v
+  InMemory u k c v = IsInMemory setting (history_of l g) u k c v
 
   abbrev InBuffer : Name → (k c : ℕ) → ℤ → Type 0
-  InBuffer n k c v = IsInBuffer setting l.fits h g.along n k c v
+  InBuffer n k c v = IsInBuffer setting (history_of l g) n k c v
 
   at_place : At t a.step ≡ p
   at_place = ap (At t) step ∙ e.at
 
   step_of : (u : ℕ) (v : Walk) → IsThread code log u v → (k : ℕ) (y : Asked) → IsAskedIn h v.name k y → OfStep u k y
-  step_of u v there k y d = access_of setting nodes w l h g.along g.agrees u v there k y d
+  step_of u v there k y d = access_of setting nodes w l (valued_of l g) (path_thread u v there) k y d
 
-  -- a store of the thread that waits has no place before
+  -- a store of the thread that waits has no earlier place
   waits_late : (k c : ℕ) (v : ℤ) → InBuffer q.name k c v → p ≤ At t k
   waits_late k c v b =
-      let y = issue_event setting l.fits h g.along t q e.thread k c v b.issued in
+      let y = issue_event setting (history_of l g) thread k c v b.issued in
       elim (cases_lt (At t k) p) [
         | inl before ↦
-            let drained = passed_has_drained setting nodes w l p h g t q e.thread b.buffered y.0 y.1 y.3
+            let drained = passed_has_drained setting nodes w l p h g t q t_there b.buffered y.0 y.1 y.3
             (subst (λ j. At t j < p) (sym y.2) before) in
             absurd (true≢false (sym drained ∙ ap (has_drained h q.name) y.2 ∙ b.waits))
         | inr late ↦ late
       ]
 
-  -- A store that the load sees is done: it is in memory, or is the thread's own and waits.
+  -- A store that the load sees is done: it is in memory, or waits in the thread's own buffer.
   record IsSeenAt (u k : ℕ) (v : ℤ) : Type 0 where
     at : InMemory u k cell v ⊎ ((t ≡ u) × InBuffer q.name k cell v)
 
-  -- a store of a thread, done
+  -- a store of a thread that is done is in memory or in the thread's buffer
   where_done : (u : ℕ) (b : Access) (z : Walk) → IsThread code log u z → SeesOf u b → b.step < steps_in h z.name
       → (v : ℤ) × ((asks b).writes ≡ Some v) × (InMemory u b.step cell v ⊎ InBuffer z.name b.step cell v)
   where_done u b z there sees done =
       let c = sees.there in
       let v = some_of (asks b).writes sees.writes in
-      let asked = access_asked setting l.fits nodes w.loads l.terms h g.along g.agrees u z c.0 there c.1 b
+      let asked = access_asked setting nodes w.loads (valued_of l g) (record { thread = path_thread u z there; course = c.0; executed = c.1 }) b
       (in_contains b c.0.accesses c.2) done in
       let mine : IsReachedIn code log nodes h u b =
       record { walk = z; course = c.0; thread = there; there = c.1; among = c.2; reached = inl done } in
-      let one = one_cell setting nodes w l h g.along g.agrees u t b a mine reached in
+      let one = one_cell setting nodes w l (valued_of l g) u t b a mine reached in
       let same : (asks b).cell ≡ cell = eqb-true (asks b).cell cell (sym one ∙ sees.cell) in
-      let at = where_written setting l.fits h g.along u z there b.step (asks b) v.0 asked v.1 in
+      let at = where_written setting (history_of l g) u z there b.step (asks b) v.0 asked v.1 in
       (v.0, v.1, subst (λ k. InMemory u b.step k v.0 ⊎ InBuffer z.name b.step k v.0) same at)
 
   seen_at : (u : ℕ) (b : Access) → SeesOf u b → (v : ℤ) × ((asks b).writes ≡ Some v) × IsSeenAt u b.step v
@@ -118,7 +119,7 @@ module _ {B : Type 0} (setting : Setting B) (nodes : List Node) (w : World) (l :
     where
       own : (u : ℕ) → t ≡ u → SeesOf u b → b.step < a.step → (v : ℤ) × ((asks b).writes ≡ Some v) × IsSeenAt u b.step v
       own u same sees less =
-          let there : IsThread code log u q = subst (λ i. IsThread code log i q) same e.thread in
+          let there : IsThread code log u q = subst (λ i. IsThread code log i q) same t_there in
           let d = where_done u b q there sees (omega (arith, less, step, e.steps)) in (
             d.0,
             d.1,
@@ -152,22 +153,22 @@ module _ {B : Type 0} (setting : Setting B) (nodes : List Node) (w : World) (l :
           waiting : (z : Walk) → IsThread code log u z → (y : Event) → Contains z.events y → y.step ≡ b.step → At u b.step < p
               → {v : ℤ} → InBuffer z.name b.step cell v → ⊥
           waiting z there y i number lt {v} o =
-              let s = issue_event setting l.fits h g.along u z there b.step cell v o.issued in
+              let s = issue_event setting (history_of l g) (path_thread u z there) b.step cell v o.issued in
               let drained = passed_has_drained setting nodes w l p h g u z there o.buffered s.0 s.1 s.3
               (subst (λ j. At u j < p) (sym s.2) lt) in
               true≢false (sym drained ∙ ap (has_drained h z.name) s.2 ∙ o.waits)
 
-  -- what is in memory has come
+  -- a store in memory has come before
   memory_before : (u k : ℕ) (v : ℤ) → InMemory u k cell v → At u k < p
   memory_before u k v m = shown_before setting nodes w l p h g m.older m.newer m.deed u k m.there m.shows
 
-  -- a store that is to the load's cell, and whose place or step is before the load's, is seen
+  -- the load sees each store to its cell whose place or step is before its own
   sees_it : (u k : ℕ) (y : Asked) (v : ℤ) (b : OfStep u k y) → y.cell ≡ cell → y.writes ≡ Some v → (At u k < p) ⊎ ((u ≡ t) × (k < a.step)) → SeesOf u b.access
   sees_it u k y v b to writes before = record {
     there = b.has;
     writes = ap (λ (z : Asked). is_some z.writes) b.asked ∙ ap is_some writes;
     cell =
-        one_cell setting nodes w l h g.along g.agrees u t b.access a b.reached reached
+        one_cell setting nodes w l (valued_of l g) u t b.access a b.reached reached
         ∙ eq-eqb (asks b.access).cell cell (ap (λ (z : Asked). z.cell) b.asked ∙ to);
     before = elim before [
       | inl lt ↦ inl (let place = ap (At u) b.step in omega (arith, lt, place, at_place))
@@ -179,7 +180,7 @@ module _ {B : Type 0} (setting : Setting B) (nodes : List Node) (w : World) (l :
   module _ (v : ℤ) (takes : (asks a).takes ≡ Some v)
       (rule : ((u : ℕ) × (b : Access) × TakesFrom code (paths_of code log) (found code log nodes).symbolic (found code log nodes).nodes w t a u b)
       ⊎ TakesFirst code (paths_of code log) (found code log nodes).symbolic (found code log nodes).nodes w t a) where
-    -- it is that of a store which it sees, and which no store that it sees comes after
+    -- the value is that of a store that the load sees and that no other store it sees comes after
     value_is : (u k : ℕ) (y : Asked) (b : OfStep u k y) (z : ℤ) → y.writes ≡ Some z → SeesOf u b.access
         → ((s : ℕ) (d : Access) → SeesOf s d → At u k < At s d.step → ⊥) → z ≡ v
     value_is u k y b z writes sees latest = by rule
@@ -195,7 +196,7 @@ module _ {B : Type 0} (setting : Setting B) (nodes : List Node) (w : World) (l :
               | inr before ↦ let place = ap (At u) b.step in absurd (latest o.0 o.1 o.2.sees (omega (arith, before, place)))
             ]
 
-    -- or that of the start, where it sees none
+    -- the value is the initial one if the load sees no store
     value_first : ((s : ℕ) (d : Access) → SeesOf s d → ⊥) → value_at_start code a.cell ≡ v
     value_first none = by rule
       where
@@ -210,7 +211,7 @@ module _ {B : Type 0} (setting : Setting B) (nodes : List Node) (w : World) (l :
     abbrev reaches_it : Deed → Option ℤ
     reaches_it = brings ops.buffered cell
 
-    -- a store of the thread that waits is among its own
+    -- a waiting store of the thread to the cell is among its own
     own_there : (k : ℕ) (z : ℤ) (b : InBuffer q.name k cell z) → own (Did q.name k (Write cell z) b.issued.took b.issued.other) ≡ Some z
     own_there k z b = own_gives ops.buffered h q.name k cell z b.issued.took b.issued.other b.buffered b.waits
 
@@ -232,25 +233,25 @@ module _ {B : Type 0} (setting : Setting B) (nodes : List Node) (w : World) (l :
       late = waits_late k cell z (record { buffered = s.buffered; issued = issue; waits = s.waits })
 
       abbrev y : (y : Event) × In y q.events × (y.step ≡ k) × (y.kind ≡ kind.Store) × (k < steps_in h q.name)
-      y = issue_event setting l.fits h g.along t q e.thread k cell z issue
+      y = issue_event setting (history_of l g) thread k cell z issue
 
       mine : OfStep t k (written cell z)
-      mine = step_of t q e.thread k (written cell z) (issue_asks h q.name k cell z issue)
+      mine = step_of t q t_there k (written cell z) (issue_asks h q.name k cell z issue)
 
-      -- an older one has an earlier place
+      -- an older store of the thread has an earlier place
       older_before : (j : ℕ) (c : ℤ) → IsIssuedIn h q.name j cell c → j < k → At t j < At t k
       older_before j c i less =
-          let f = issue_event setting l.fits h g.along t q e.thread j cell c i in
-          let its = step_of t q e.thread j (written cell c) (issue_asks h q.name j cell c i) in
-          let cells = cells_of_steps setting nodes w l h g.along g.agrees t j k (written cell c) (written cell z) its mine f.0 y.0 f.2 y.2 in
+          let f = issue_event setting (history_of l g) thread j cell c i in
+          let its = step_of t q t_there j (written cell c) (issue_asks h q.name j cell c i) in
+          let cells = cells_of_steps setting nodes w l (valued_of l g) t j k (written cell c) (written cell z) its mine f.0 y.0 f.2 y.2 in
           let lt : f.0.step < y.0.step = omega (arith, f.2, y.2, less) in
-          let before = bound_before setting nodes w l t q f.0 y.0 e.thread (contains_in f.0 q.events f.1) (contains_in y.0 q.events y.1) lt y.3
+          let before = bound_before setting nodes w l t q f.0 y.0 t_there (contains_in f.0 q.events f.1) (contains_in y.0 q.events y.1) lt y.3
           (ap (λ b. bound b (not (f.0.bars == y.0.bars))) (cells ∙ eq-eqb cell cell refl) ∙ setting.laws.same_cell (not (f.0.bars == y.0.bars))) in
           let first = ap (At t) f.2 in
           let second = ap (At t) y.2 in
           omega (arith, before, first, second)
 
-      -- so none that waits comes after it
+      -- no waiting store comes after the newest one
       none_waits_after : (j : ℕ) (c : ℤ) → InBuffer q.name j cell c → At t k < At t j → ⊥
       none_waits_after j c b after =
           let its = Did q.name j (Write cell c) b.issued.took b.issued.other in
@@ -258,7 +259,7 @@ module _ {B : Type 0} (setting : Setting B) (nodes : List Node) (w : World) (l :
           (own_there j c b)) [
             | inl one ↦ let same = ap (At t) (ap (λ (d : Deed). (name_of d).number) (one ∙ s.is)) in omega (arith, after, same)
             | inr r ↦
-                let less = steps_rise setting l.fits h g.along b.issued.before r.0 last.newer q.name j k
+                let less = steps_rise setting (history_of l g) b.issued.before r.0 last.newer q.name j k
                 (Write cell c) (Write cell z) b.issued.took s.took b.issued.other s.other
                 (own_at ∙ ap (λ f. f ++ Did q.name k (Write cell z) s.took s.other ∷ last.newer) r.1) in
                 let before = older_before j c b.issued less in
@@ -278,17 +279,17 @@ module _ {B : Type 0} (setting : Setting B) (nodes : List Node) (w : World) (l :
           value_is t k (written cell z) mine z refl
           (sees_it t k (written cell z) z mine refl refl (inr (refl, omega (arith, y.4, step, e.steps)))) none_after
 
-    -- Where the thread has none.
+    -- The thread has no store to the cell.
     module _ (none : filter_map own h ≡ []) where
       not_own : (k : ℕ) (c : ℤ) → InBuffer q.name k cell c → ⊥
       not_own k c b =
           let deed = Did q.name k (Write cell c) b.issued.took b.issued.other in
           none_gives own h deed c none (subst (In deed) (sym b.issued.issued) (in_at b.issued.before deed b.issued.after)) (own_there k c b)
 
-      -- the last that reached memory
+      -- the last store that reached the cell in memory
       module _ (z : ℤ) (last : IsLast reaches_it h z) where
-        abbrev d : IsStoreOf setting l.fits h g.along cell z last.deed
-        d = store_of setting l.fits h g.along last.older last.newer last.deed cell z last.there last.gives
+        abbrev d : IsStoreOf setting (history_of l g) cell z last.deed
+        d = store_of setting (history_of l g) last.older last.newer last.deed cell z last.there last.gives
 
         its_step : OfStep d.place d.number d.asked
         its_step = step_of d.place d.walk d.thread d.number d.asked d.done
@@ -320,7 +321,7 @@ module _ {B : Type 0} (setting : Setting B) (nodes : List Node) (w : World) (l :
             (inl (shown_before setting nodes w l p h g last.older last.newer last.deed d.place d.number last.there d.shows)))
             none_later
 
-      -- and where none did
+      -- no store reached the cell in memory
       from_start : filter_map reaches_it h ≡ [] → value_at_start code a.cell ≡ v
       from_start empty = value_first (λ u b sees.
           let o = seen_at u b sees in
@@ -334,7 +335,7 @@ module _ {B : Type 0} (setting : Setting B) (nodes : List Node) (w : World) (l :
         | inl o ↦ cells_have_last ops.buffered code h cell o.0 o.1 ∙ from_memory o.0 o.1
         | inr empty ↦
             cells_begin ops.buffered code h cell empty
-            ∙ sym (cell_begins setting l.fits nodes w.loads l.terms h g.along g.agrees t a reached)
+            ∙ sym (cell_begins setting nodes w.loads (valued_of l g) t a reached)
             ∙ from_start empty
       ]
 

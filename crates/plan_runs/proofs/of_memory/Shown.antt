@@ -1,4 +1,4 @@
--- What has taken place lies before the position up to which a history has gone.
+-- What has taken place lies before the position that the history has reached.
 use Rattle.std.proofs.Common.{◌≡◌, ◌∙◌, inl, inr, ℕ, ◌<◌, ◌≤◌, ◌&&◌, ℤ, Bool, true, false, cond, List, [], ◌∷◌, ◌++◌}
 use Rattle.std.proofs.Common.{Option, Some, None, refl, ap, ap₂, sym, subst, arith}
 use Rattle.std.specs.Prelude.{option_and_then}
@@ -12,7 +12,7 @@ use Rattle.path_walk.specs.Paths.{Walk, paths_of}
 use Rattle.path_walk.specs.declared.event.EventKind.{EventKind}
 use Rattle.path_laws.specs.Setting.{Setting}
 use Rattle.path_laws.specs.Deeds.{kind_of}
-use Rattle.path_laws.specs.history.Along.{IsThread}
+use Rattle.path_laws.specs.history.Along.{IsThread, path_thread}
 use Rattle.path_laws.specs.events.Done.{IsDoneIn}
 use Rattle.path_laws.proofs.of_events.Events.{done_event}
 use Rattle.path_laws.proofs.of_events.Lists.{contains_in}
@@ -24,11 +24,12 @@ use Rattle.world_plan.specs.Going.{IsLawfulWorld, HasGone}
 use Rattle.world_plan.specs.Sights.{Sight, sight_of, Shows, AreInOrder}
 use Rattle.world_plan.proofs.Threads.{one_thread}
 use Rattle.plan_runs.proofs.of_memory.Issued.{IsDrainedIn, drain_issued, issue_event}
+use Rattle.plan_runs.proofs.Histories.{history_of}
 
 abbrev pub the_sight : Sight → Sight
 the_sight s = s
 
--- what a step shows is an event that is no store of a buffer
+-- a step that is seen is an event, and not a store that goes into a buffer
 pub record IsStepSeen (buffered : Bool) (n : Name) (j : ℕ) (r : Request) (other : Option Name) (s : Sight) : Type 0 where
   pub kind : EventKind
   pub asks : kind_of r other ≡ Some kind
@@ -57,21 +58,21 @@ module _ {B : Type 0} (setting : Setting B) (nodes : List Node) (w : World) (l :
   abbrev At : (t k : ℕ) → ℕ
   At t k = place_of (paths_of code log) w t k
 
-  -- a step that has taken place
+  -- a step that has taken place lies before the position
   step_before : (u : ℕ) (q : Walk) → IsThread code log u q → (k : ℕ) (kind : EventKind) → IsDoneIn h q.name k kind → (ops.buffered && is_store kind) ≡ false
       → At u k < p
   step_before u q there k kind d unbuffered =
-      let y = done_event setting l.fits h g.along u q there k kind d in
+      let y = done_event setting (history_of l g) (path_thread u q there) k kind d in
       elim (g.only u q y.0 there (contains_in y.0 q.events y.1) (omega (arith, y.2, y.4))) [
         | inl before ↦ subst (λ j. At u j < p) y.2 before
         | inr pending ↦ absurd (true≢false (sym pending ∙ ap (λ k. ops.buffered && is_store k) y.3 ∙ unbuffered))
       ]
 
-  -- a store that has reached memory
+  -- a store that has reached memory lies before the position
   drain_before : (u : ℕ) (q : Walk) → IsThread code log u q → (k c : ℕ) (v : ℤ) → IsDrainedIn h q.name k c v → At u k < p
   drain_before u q there k c v d =
-      let i = drain_issued setting l.fits h g.along q.name k c v d in
-      let y = issue_event setting l.fits h g.along u q there k c v i.0 in
+      let i = drain_issued setting (history_of l g) q.name k c v d in
+      let y = issue_event setting (history_of l g) (path_thread u q there) k c v i.0 in
       let before = (g.drained u q y.0 there (contains_in y.0 q.events y.1) (ap₂ (λ b a. b && is_store a) i.1 y.3)).0 (ap (has_drained h q.name) y.2 ∙ i.2) in
       subst (λ j. At u j < p) y.2 before
 
@@ -98,7 +99,7 @@ module _ {B : Type 0} (setting : Setting B) (nodes : List Node) (w : World) (l :
       drain_before u s.walk s.there k c v
       (record { older = older; newer = newer; there = at ∙ ap₂ (λ m i. older ++ Drained m i c v ∷ newer) name number })
 
-  -- what comes next is in order where it takes place at no earlier position
+  -- the order goes on with a deed that takes place at no earlier position
   pub order_goes_on : (d : Deed) → ((u k : ℕ) → Shows ops.buffered (paths_of code log) d u k → p ≤ At u k)
       → AreInOrder ops.buffered (paths_of code log) w (h ++ d ∷ [])
   order_goes_on d later older between newer a b t k u j is first second =
@@ -110,7 +111,7 @@ module _ {B : Type 0} (setting : Setting B) (nodes : List Node) (w : World) (l :
         | inr both ↦ g.order older between both.rest a b t k u j both.there first second
       ]
 
-  -- a deed that is seen only as a thread's event
+  -- a deed is seen only as its thread's event
   at_its_place : (d : Deed) (t k : ℕ) (q : Walk) → IsThread code log t q → At t k ≡ p
       → ((s : Sight) → sight_of ops.buffered d ≡ Some s → the_sight (record { thread = q.name; step = k }) ≡ s)
       → (u j : ℕ) → Shows ops.buffered (paths_of code log) d u j → p ≤ At u j

@@ -1,4 +1,4 @@
--- The turn of a store whose position has come.
+-- The next drain, of a store whose position has come.
 use Rattle.std.proofs.Common.{◌≡◌, ◌∙◌, inl, inr, ℕ, ◌<◌, ◌≤◌, ◌==◌, ℤ, true, false, cond, List, [], ◌∷◌}
 use Rattle.std.proofs.Common.{Some, refl, ap, ap₂, sym, subst, arith}
 use Rattle.std.specs.List.{Contains, find}
@@ -17,8 +17,7 @@ use Rattle.path_walk.specs.declared.event.Event.{Event}
 use Rattle.path_walk.specs.declared.event.EventKind.{EventKind}
 use Rattle.path_walk.specs.declared.event.EventKind.TheVariants as kind
 use Rattle.path_laws.specs.Setting.{Setting}
-use Rattle.path_laws.specs.history.Along.{IsThread}
-use Rattle.path_laws.proofs.of_history.Told.{run_of}
+use Rattle.path_laws.specs.history.Along.{IsThread, path_thread}
 use Rattle.path_laws.proofs.of_events.Bars.{told}
 use Rattle.path_laws.proofs.of_events.Lists.{in_contains, contains_in}
 use Rattle.sym_terms.specs.declared.node.Node.{Node}
@@ -29,8 +28,10 @@ use Rattle.world_plan.specs.Plan.{drain_of, drains_next}
 use Rattle.plan_runs.proofs.of_memory.Accesses.{written, issue_asks, access_of, cells_of_steps, bound_before}
 use Rattle.plan_runs.proofs.of_memory.Empty.{passed_has_drained}
 use Rattle.plan_runs.proofs.of_memory.Issued.{issue_event, event_issued}
+use Rattle.path_laws.proofs.of_history.Told.{its_run}
+use Rattle.plan_runs.proofs.Histories.{history_of, valued_of}
 
--- where numbers rise, each is found
+-- with rising numbers, each issue is found by its number
 found_by_number : (is : List Issue) (i : Issue) → Rises is → In i is → find (λ (y : Issue). y.number == i.number) is ≡ Some i
 found_by_number [] i rises a = absurd a
 found_by_number (x ∷ is) i rises (inl e) =
@@ -49,7 +50,7 @@ is_kind_store k e = absurd (true≢false (sym e))
 
 module _ {B : Type 0} (setting : Setting B) (nodes : List Node) (w : World) (l : IsLawfulWorld setting nodes w) (p : ℕ) (h : List Deed)
     (g : HasGone setting nodes w p h) (t : ℕ) (q : Walk) (there : IsThread setting.code setting.log t q) where
-  open setting use {machine, ops, bound, code, log}
+  open setting use {ops, bound, code, log}
 
   -- whether an issued store is still in its buffer, by its position
   pub is_waiting : (x : Event) → Contains q.events x → is_pending ops.buffered x ≡ true → p ≤ place code log w t x → has_drained h q.name x.step ≡ false
@@ -66,22 +67,22 @@ module _ {B : Type 0} (setting : Setting B) (nodes : List Node) (w : World) (l :
 
     issued : (c : ℕ) × (v : ℤ) × IsIssuedIn h q.name x.step c v
     issued =
-        event_issued setting l.fits h g.along t q there x (in_contains x q.events among) store done
+        event_issued setting (history_of l g) (path_thread t q there) x (in_contains x q.events among) store done
 
     waits : has_drained h q.name x.step ≡ false
     waits = is_waiting x among pending (omega (arith, at))
 
-    -- what is bound before it has drained
+    -- the stores bound before this one have drained
     free : (c : ℕ) (v : ℤ) → IsIssuedIn h q.name x.step c v → (j d : ℕ) (u : ℤ) → IsIssuedIn h q.name j d u → has_drained h q.name j ≡ false → j < x.step
         → bound (d == c) (has_bar_between h q.name j x.step) ≡ true → ⊥
     free c v mine j d u its none less binds =
-        let y = issue_event setting l.fits h g.along t q there j d u its in
+        let y = issue_event setting (history_of l g) (path_thread t q there) j d u its in
         let i = contains_in y.0 q.events y.1 in
-        let a = access_of setting nodes w l h g.along g.agrees t q there j (written d u) (issue_asks h q.name j d u its) in
-        let b = access_of setting nodes w l h g.along g.agrees t q there x.step (written c v) (issue_asks h q.name x.step c v mine) in
-        let cells = cells_of_steps setting nodes w l h g.along g.agrees t j x.step (written d u) (written c v) a b y.0 x y.2 refl in
+        let a = access_of setting nodes w l (valued_of l g) (path_thread t q there) j (written d u) (issue_asks h q.name j d u its) in
+        let b = access_of setting nodes w l (valued_of l g) (path_thread t q there) x.step (written c v) (issue_asks h q.name x.step c v mine) in
+        let cells = cells_of_steps setting nodes w l (valued_of l g) t j x.step (written d u) (written c v) a b y.0 x y.2 refl in
         let lt : y.0.step < x.step = omega (arith, y.2, less) in
-        let bars = told setting l.fits h g.along t q there y.0 x y.1 (in_contains x q.events among) lt
+        let bars = told setting (history_of l g) (path_thread t q there) y.0 x y.1 (in_contains x q.events among) lt
         (omega (arith, done)) in
         let before = bound_before setting nodes w l t q y.0 x there i among lt store
         (ap₂ bound cells (sym bars ∙ ap (λ m. has_bar_between h q.name m x.step) y.2) ∙ binds) in
@@ -93,7 +94,7 @@ module _ {B : Type 0} (setting : Setting B) (nodes : List Node) (w : World) (l :
     has_turn =
         let i = issued in
         let one = a_store x.step (record { cell = i.0; value = i.1 }) in
-        let run = run_of machine log h g.along in
+        let run = its_run setting (history_of l g) in
         let waiting = subst (λ b. In one (pending_issues b h q.name)) (sym both.0) (store_pending h q.name x.step i.0 i.1 i.2 waits) in (
           i.0,
           i.1,

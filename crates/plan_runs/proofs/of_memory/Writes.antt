@@ -1,4 +1,4 @@
--- Where the stores of a history are: in memory, or in a buffer.
+-- Where the stores of a history are: in memory or in a buffer.
 use Rattle.std.proofs.Common.{◌≡◌, ◌∙◌, ◌⊎◌, inl, inr, ℕ, ◌==◌, ◌&&◌, ℤ, Bool, true, false, not, cond, List, [], ◌∷◌, ◌++◌}
 use Rattle.std.proofs.Common.{Option, Some, None, refl, ap, ap₂, sym, subst}
 use Rattle.std.specs.Prelude.{option_and_then}
@@ -14,10 +14,9 @@ use Rattle.run_history.specs.History.{Deed, Did, Drained, has_drained, same}
 use Rattle.run_history.specs.Last.{brings}
 use Rattle.run_history.specs.Told.{reaches}
 use Rattle.run_history.specs.pending.Deeds.{IsIssuedIn, own_value}
-use Rattle.path_walk.specs.Fits.{Fits}
 use Rattle.path_walk.specs.Paths.{Walk, paths_of}
 use Rattle.path_laws.specs.Setting.{Setting}
-use Rattle.path_laws.specs.history.Along.{IsAlongPaths, IsThread, IsNameOfThread}
+use Rattle.path_laws.specs.history.Along.{IsThread, IsNameOfThread, HistoryAlong}
 use Rattle.sym_exec.specs.Alone.{Asked, asked_by}
 use Rattle.sym_steps.specs.accesses.Asked.{IsAskedIn}
 use Rattle.world_plan.specs.Sights.{Sight, sight_of, Shows}
@@ -31,12 +30,12 @@ the_asked y = y
 abbrev an_entry : Entry → Entry
 an_entry e = e
 
--- what isn't a store is seen at once
+-- an event other than a store is seen at once
 at_once : (b : Bool) (s : Sight) → cond (b && false) None (Some s) ≡ Some s
 at_once true s = refl
 at_once false s = refl
 
--- a store goes into the thread's buffer, or reaches memory at once, and is seen
+-- a store goes into its thread's buffer, or reaches memory at once and is seen
 abbrev GoesTo : Bool → Name → ℕ → Request → ℤ → Option Name → Asked → ℤ → Type 0
 GoesTo b n k r took other y v =
     ((b ≡ true) × (r ≡ Write y.cell v))
@@ -65,7 +64,7 @@ goes_to b n k (Read c) took other y v asks writes =
 goes_to b n k Silent took other y v asks writes = absurd cc
 goes_to b n k r took other y v asks writes = absurd cc
 
--- what reaches a cell of memory brings a value to it
+-- a store that reaches a cell in memory brings its value there
 brings_it : (b : Bool) (c : ℕ) (d : Deed) (v : ℤ) → reaches b d ≡ Some (an_entry (record { cell = c; value = v })) → brings b c d ≡ Some v
 brings_it b c d v is = by (reaches b d) is
   where
@@ -74,7 +73,7 @@ brings_it b c d v is = by (reaches b d) is
     by o is =
         ap (option_and_then (λ (e : Entry). cond (e.cell == c) (Some e.value) None)) is ∙ ap (λ t. cond t (Some v) None) (eq-eqb c c refl)
 
--- a step that brings a value to a cell asks that, and is seen
+-- a step that brings a value to a cell has a request for that, and is seen
 record IsStepOf (b : Bool) (c : ℕ) (v : ℤ) (d : Deed) : Type 0 where
   name : Name
   number : ℕ
@@ -107,7 +106,7 @@ step_brings b n k r took other x c u v y asks cell writes sight gives =
       sight = sight;
     }
 
--- and a drain does so with its own
+-- a drain that brings a value to a cell
 record IsDrainTo (c : ℕ) (v : ℤ) (d : Deed) : Type 0 where
   name : Name
   number : ℕ
@@ -126,7 +125,7 @@ who_brings b c (Did n k (CompareExchange x e u) took other) v gives =
 who_brings b c (Did n k Silent took other) v gives = absurd (none-some v gives)
 who_brings b c (Did n k r took other) v gives = absurd (none-some v gives)
 
--- an own store that hasn't drained
+-- a store of the thread itself that hasn't drained
 pub record IsOwnStore (b : Bool) (h : List Deed) (n : Name) (c : ℕ) (v : ℤ) (d : Deed) : Type 0 where
   pub number : ℕ
   pub took : ℤ
@@ -164,11 +163,11 @@ own_gives b h n k c v took other has waits =
     (and_from (b && same n n) ((c == c) && not (has_drained h n k)) (and_from b (same n n) has (same_self n n refl))
     (and_from (c == c) (not (has_drained h n k)) (eq-eqb c c refl) (not_from_false (has_drained h n k) waits)))
 
-module _ {B : Type 0} (setting : Setting B) (fits : Fits setting.code setting.log) (h : List Deed)
-    (along : IsAlongPaths setting.ops.buffered setting.bound setting.code setting.log h) where
+module _ {B : Type 0} (setting : Setting B) (history : HistoryAlong setting) where
   open setting use {ops, code, log}
+  open history use {deeds as h, along}
 
-  -- a store that a thread's step asks is in memory, or in the thread's buffer
+  -- the store of a thread's step is in memory or in the thread's buffer
   pub record IsInMemory (u k c : ℕ) (v : ℤ) : Type 0 where
     pub older : List Deed
     pub deed : Deed
@@ -207,7 +206,7 @@ module _ {B : Type 0} (setting : Setting B) (fits : Fits setting.code setting.lo
       of_issue has i =
           elim (cases_Bool (has_drained h q.name k)) [
             | inl done ↦
-                let z = issue_drained setting fits h along q.name k y.cell v i done in
+                let z = issue_drained setting history q.name k y.cell v i done in
                 inl (record {
                   older = z.older;
                   deed = Drained q.name k y.cell v;
@@ -219,7 +218,7 @@ module _ {B : Type 0} (setting : Setting B) (fits : Fits setting.code setting.lo
             | inr waits ↦ inr (record { buffered = has; issued = i; waits = waits })
           ]
 
-  -- and what brings a value to memory is a store that a thread's step asks
+  -- a deed that brings a value to memory has the store of a thread's step
   pub record IsStoreOf (c : ℕ) (v : ℤ) (d : Deed) : Type 0 where
     pub place : ℕ
     pub walk : Walk
@@ -234,11 +233,11 @@ module _ {B : Type 0} (setting : Setting B) (fits : Fits setting.code setting.lo
   pub store_of : (older newer : List Deed) (d : Deed) (c : ℕ) (v : ℤ) → h ≡ older ++ d ∷ newer → brings ops.buffered c d ≡ Some v → IsStoreOf c v d
   store_of older newer d c v there gives =
       elim (who_brings ops.buffered c d v gives) [
-        | inl s ↦ of_step s (step_named setting fits h along older newer s.name s.number s.request s.took s.other (at_step s))
+        | inl s ↦ of_step s (step_named setting history older newer s.name s.number s.request s.took s.other (at_step s))
         | inr s ↦
             let z : IsDrainedIn h s.name s.number c v = record { older = older; newer = newer; there = there ∙ ap (λ x. older ++ x ∷ newer) s.is } in
-            let i = (drain_issued setting fits h along s.name s.number c v z).0 in
-            of_drain s i (issuer_named setting fits h along s.name s.number c v i)
+            let i = (drain_issued setting history s.name s.number c v z).0 in
+            of_drain s i (issuer_named setting history s.name s.number c v i)
       ]
     where
       at_step : (s : IsStepOf ops.buffered c v d) → h ≡ older ++ Did s.name s.number s.request s.took s.other ∷ newer
@@ -246,7 +245,7 @@ module _ {B : Type 0} (setting : Setting B) (fits : Fits setting.code setting.lo
 
       of_step : (s : IsStepOf ops.buffered c v d) → IsNameOfThread code log s.name → IsStoreOf c v d
       of_step s t = record {
-        place = t.place;
+        place = t.index;
         walk = t.walk;
         thread = t.there;
         number = s.number;
@@ -257,27 +256,27 @@ module _ {B : Type 0} (setting : Setting B) (fits : Fits setting.code setting.lo
           request = s.request;
           took = s.took;
           other = s.other;
-          there = at_step s ∙ ap (λ m. older ++ Did m s.number s.request s.took s.other ∷ newer) (sym t.name);
+          there = at_step s ∙ ap (λ m. older ++ Did m s.number s.request s.took s.other ∷ newer) (sym t.name_is);
           asks = s.asks;
         };
         cell = s.cell;
         writes = s.writes;
-        shows = record { walk = t.walk; there = t.there; sight = s.sight ∙ ap (λ m. Some (the_sight (record { thread = m; step = s.number }))) (sym t.name) };
+        shows = record { walk = t.walk; there = t.there; sight = s.sight ∙ ap (λ m. Some (the_sight (record { thread = m; step = s.number }))) (sym t.name_is) };
       }
 
       of_drain : (s : IsDrainTo c v d) → IsIssuedIn h s.name s.number c v → IsNameOfThread code log s.name → IsStoreOf c v d
       of_drain s i t = record {
-        place = t.place;
+        place = t.index;
         walk = t.walk;
         thread = t.there;
         number = s.number;
         asked = written c v;
-        done = issue_asks h t.walk.name s.number c v (subst (λ m. IsIssuedIn h m s.number c v) (sym t.name) i);
+        done = issue_asks h t.walk.name s.number c v (subst (λ m. IsIssuedIn h m s.number c v) (sym t.name_is) i);
         cell = refl;
         writes = refl;
         shows = record {
           walk = t.walk;
           there = t.there;
-          sight = ap (sight_of ops.buffered) s.is ∙ ap (λ m. Some (the_sight (record { thread = m; step = s.number }))) (sym t.name);
+          sight = ap (sight_of ops.buffered) s.is ∙ ap (λ m. Some (the_sight (record { thread = m; step = s.number }))) (sym t.name_is);
         };
       }

@@ -1,4 +1,4 @@
--- Sleeps go on lasting until what ends them has come.
+-- A sleep lasts until its ender has come.
 use Rattle.std.proofs.Common.{◌≡◌, ◌↔◌, ◌⊎◌, ◌∙◌, inl, inr, ℕ, ◌+◌, ◌<◌, ◌≤◌, ◌==◌, ◌&&◌, ℤ, Bool, true, false, cond, List, [], ◌∷◌, ◌++◌}
 use Rattle.std.proofs.Common.{Option, Some, None, refl, sym, ap, ap₂, subst, arith, append_assoc}
 use Rattle.std.specs.Prelude.{slice_get, option_map, option_and_then}
@@ -24,7 +24,7 @@ use Rattle.path_walk.specs.declared.event.EventKind.TheVariants as kind
 use Rattle.path_walk.specs.declared.event.Sleep.{Sleep}
 use Rattle.path_laws.specs.Setting.{Setting}
 use Rattle.path_laws.specs.Deeds.{kind_of}
-use Rattle.path_laws.specs.history.Along.{IsAlongPaths, IsThread}
+use Rattle.path_laws.specs.history.Along.{IsAlongPaths, IsThread, path_thread}
 use Rattle.path_laws.specs.events.Done.{IsDoneIn, IsAsleepIn}
 use Rattle.path_laws.proofs.of_events.Events.{event_done, done_event}
 use Rattle.path_laws.proofs.of_events.Lists.{in_contains, contains_in}
@@ -34,7 +34,7 @@ use Rattle.order_formula.specs.declared.group.Group.TheVariants.{Condition}
 use Rattle.lawful_order.specs.Events.{Of, all_events, all_sleeps, number_of, place_of, ender_of}
 use Rattle.lawful_order.specs.Conditions.{is_signal, is_broadcast}
 use Rattle.lawful_order.specs.Memory.{is_store}
-use Rattle.world_plan.specs.Going.{IsLawfulWorld, HasGone, IsAtEvent, SleepUntilEnded, is_pending, place}
+use Rattle.world_plan.specs.Going.{IsLawfulWorld, HasGone, NextEvent, SleepUntilEnded, is_pending, place}
 use Rattle.world_plan.specs.Plan.{woken_by, other_of}
 use Rattle.world_plan.proofs.Numbers.{event_numbered, number_is}
 use Rattle.world_plan.proofs.Places.{same_event}
@@ -43,8 +43,9 @@ use Rattle.plan_runs.proofs.of_waits.Begun.{SleepEvent}
 use Rattle.plan_runs.proofs.of_waits.Sleepers.{owner, to_wake, wakes_none, is_signal_at, is_broadcast_at, begins_with, begun_before, before_begun, one_sleep}
 use Rattle.plan_runs.proofs.of_waits.Waking.{still, waits, waits_no_more, lasts}
 use Rattle.plan_runs.proofs.of_waits.Worlds.{are_whole}
+use Rattle.plan_runs.proofs.Histories.{history_of}
 
--- One deed more, and a sleep.
+-- A sleep, and one more deed.
 
 -- a deed begins a sleep of a thread
 record BeginsSleep (d : Deed) (n : Name) (s : Sleep) : Type 0 where
@@ -56,7 +57,7 @@ begins_last : (h : List Deed) (d : Deed) (n : Name) (s : Sleep) → BeginsSleep 
 begins_last h d n s b =
     record { older = h; newer = []; took = b.took; other = b.other; there = ap (λ e. h ++ e ∷ []) b.is; lasts = refl }
 
--- a sleep goes on where the deed isn't about it
+-- a sleep lasts through a deed that doesn't concern it
 sleeps_on : (h : List Deed) (d : Deed) (n : Name) (s : Sleep) → waits_by s.condition n d ≡ None → IsAsleepIn h n s → IsAsleepIn (h ++ d ∷ []) n s
 sleeps_on h d n s none a = record {
   older = a.older;
@@ -72,7 +73,7 @@ nil_parts [] None e = (refl, refl)
 nil_parts [] (Some x) e = absurd cc
 nil_parts (x ∷ xs) o e = absurd cc
 
--- and has lasted, or begins now
+-- a sleep after a deed lasted before it, or begins with it
 lasted : (h : List Deed) (d : Deed) (n : Name) (s : Sleep) → IsAsleepIn (h ++ d ∷ []) n s
     → BeginsSleep d n s ⊎ (IsAsleepIn h n s × (waits_by s.condition n d ≡ None))
 lasted h d n s a =
@@ -85,7 +86,7 @@ lasted h d n s a =
           inr (record { older = a.older; newer = b.rest; took = a.took; other = a.other; there = b.there; lasts = parts.0 }, parts.1)
     ]
 
--- Requests by the events that they are.
+-- Requests, by the events that they are.
 
 begin_is : (r : Request) (other : Option Name) (c m : ℕ) → kind_of r other ≡ Some (kind.Sleep c m) → r ≡ BeginWait c m
 begin_is (BeginWait d l) other c m e = let same : kind.Sleep d l ≡ kind.Sleep c m = same_Some _ _ e in let is : BeginWait d l ≡ BeginWait c m = cc in is
@@ -122,13 +123,13 @@ broadcasts : (c : ℕ) (k : EventKind) → is_broadcast c k ≡ true → k ≡ k
 broadcasts c (kind.Broadcast d) e = ap (λ i. kind.Broadcast i) (eqb-true d c e)
 broadcasts c k e = absurd (false≢true e)
 
--- What a step does to a wait.
+-- The effect of a step on a wait.
 
 is_some_when : (b x v : Bool) → cond b (Some x) None ≡ Some v → b ≡ true
 is_some_when true x v e = refl
 is_some_when false x v e = absurd (none-some v e)
 
--- a step that is about a wait of a thread begins one of its own, or ends it
+-- a step that concerns a thread's wait begins a wait of its own thread, or ends that wait
 data AboutWait (c : ℕ) (n q : Name) (r : Request) (other : Option Name) : Type 0 where
   Begins : (m : ℕ) → q ≡ n → r ≡ BeginWait c m → AboutWait c n q r other
   Wakes_it : r ≡ WakeOne c → other ≡ Some n → AboutWait c n q r other
@@ -147,26 +148,26 @@ about c n q k (WakeAll d) took other v e = Wakes_all (ap (λ i. WakeAll i) (eqb-
 about c n q k Silent took other v e = absurd (none-some v e)
 about c n q k r took other v e = absurd (none-some v e)
 
--- it is an event, and no store
+-- a step that concerns a wait is an event other than a store
 no_store : (c : ℕ) (n q : Name) (r : Request) (other : Option Name) → AboutWait c n q r other
     → (a : EventKind) × (kind_of r other ≡ Some a) × (is_store a ≡ false)
 no_store c n q r other (Begins m own is) = (kind.Sleep c m, ap (λ x. kind_of x other) is, refl)
 no_store c n q r other (Wakes_it is to) = (kind.Signal c, ap (λ x. kind_of x other) is, refl)
 no_store c n q r other (Wakes_all is) = (kind.Broadcast c, ap (λ x. kind_of x other) is, refl)
 
--- what a deed asks as an event
+-- the event of a deed
 abbrev pub kind_done : Deed → Option EventKind
 kind_done (Did n k r took other) = kind_of r other
 kind_done (Drained n k c v) = None
 
 module _ {B : Type 0} (setting : Setting B) (nodes : List Node) (w : World) (lawful : IsLawfulWorld setting nodes w) (p : ℕ) (h : List Deed)
     (gone : HasGone setting nodes w p h) where
-  open setting use {ops, bound, code, log}
+  open setting use {machine, ops, bound, code, log}
 
   abbrev paths : Paths
   paths = paths_of code log
 
-  -- what ends a sleep comes at a position or later
+  -- the ender of a sleep has this position or a later one
   abbrev Until : ℕ → ℕ → Type 0
   Until j s = (g : ℕ) → ender_of w s ≡ Some g → j ≤ position w g
 
@@ -181,7 +182,7 @@ module _ {B : Type 0} (setting : Setting B) (nodes : List Node) (w : World) (law
     λ all g ends. omega (arith, all g ends),
   )
 
-  -- what ends one at the position of an event is that event
+  -- an ender with the position of an event is that event
   module _ (t : ℕ) (q : Walk) (x : Event) (there : IsThread code log t q) (i : Contains q.events x) (at : place code log w t x ≡ p) where
     is_it : (g : ℕ) (e : Of Event) → slice_get (all_events paths) g ≡ Some e → position w g ≡ p → (number_of paths t x.step ≡ g) × (x ≡ e.it)
     is_it g e is here =
@@ -205,7 +206,7 @@ module _ {B : Type 0} (setting : Setting B) (nodes : List Node) (w : World) (law
               (same.0, inr (broadcasts c x.kind (ap (λ (y : Event). is_broadcast c y.kind) same.1 ∙ broadcast.broadcasts)))
         ]
 
-  module _ (d : Deed) (along : IsAlongPaths ops.buffered bound code log (h ++ d ∷ [])) where
+  module _ (d : Deed) (along : IsAlongPaths machine log (h ++ d ∷ [])) where
     abbrev after : List Deed
     after = h ++ d ∷ []
 
@@ -213,7 +214,7 @@ module _ {B : Type 0} (setting : Setting B) (nodes : List Node) (w : World) (law
     next_number : (n : Name) (k : ℕ) (r : Request) (took : ℤ) (other : Option Name) → d ≡ Did n k r took other → k ≡ steps_in h n
     next_number n k r took other is = (subst (MayFollow ops.buffered bound code h) is (along.follow h [] d refl).1).number
 
-    -- an event is done by the deed
+    -- the deed does this event
     record IsNow (n : Name) (e : Event) : Type 0 where
       request : Request
       took : ℤ
@@ -221,17 +222,17 @@ module _ {B : Type 0} (setting : Setting B) (nodes : List Node) (w : World) (law
       is : d ≡ Did n e.step request took other
       asks : kind_of request other ≡ Some e.kind
 
-    -- or before
+    -- an event that is done is done by the deed or before it
     done_now : (u : ℕ) (v : Walk) (e : Event) → IsThread code log u v → In e v.events → e.step < steps_in after v.name
         → (e.step < steps_in h v.name) ⊎ IsNow v.name e
     done_now u v e there i done =
-        let o = event_done setting lawful.fits after along u v there e i done in
+        let o = event_done setting (record { deeds = after; fits = lawful.fits; along = along }) (path_thread u v there) e i done in
         elim (last_or_before h d o.older (Did v.name e.step o.request o.took o.other) o.newer o.there) [
           | inl last ↦ inr (record { request = o.request; took = o.took; other = o.other; is = last.1; asks = o.asks })
           | inr b ↦
               let before : IsDoneIn h v.name e.step e.kind =
               record { older = o.older; newer = b.rest; request = o.request; took = o.took; other = o.other; there = b.there; asks = o.asks } in
-              inl (done_event setting lawful.fits h gone.along u v there e.step e.kind before).4
+              inl (done_event setting (history_of lawful gone) (path_thread u v there) e.step e.kind before).4
         ]
 
     kind_now : (n : Name) (e : Event) → IsNow n e → kind_done d ≡ Some e.kind
@@ -247,7 +248,7 @@ module _ {B : Type 0} (setting : Setting B) (nodes : List Node) (w : World) (law
       first : SleepEvent v.events z.it
       first = begins_with setting nodes w lawful z.thread v z.it there among
 
-      -- a sleep has begun before, or begins now
+      -- a sleep has begun before the deed or begins with it
       begun_when : z.it.step < steps_in after v.name → (z.it.step < steps_in h v.name) ⊎ IsNow v.name first.event
       begun_when done =
           elim (done_now z.thread v first.event there first.there (subst (λ k. k < steps_in after v.name) (sym first.step) done)) [
@@ -255,7 +256,7 @@ module _ {B : Type 0} (setting : Setting B) (nodes : List Node) (w : World) (law
             | inr now ↦ inr now
           ]
 
-      -- where it begins now it lasts
+      -- a sleep that begins with the deed lasts
       begins_now : IsNow v.name first.event → IsAsleepIn after v.name z.it
       begins_now now =
           let request = begin_is now.request now.other c z.it.mutex (now.asks ∙ ap (λ a. Some a) first.sleeps) in
@@ -266,7 +267,7 @@ module _ {B : Type 0} (setting : Setting B) (nodes : List Node) (w : World) (law
             is = now.is ∙ ap₂ (λ k r. Did v.name k r now.took now.other) first.step request;
           })
 
-      -- and what ends it comes later
+      -- the ender of a sleep that begins with the deed comes later
       ends_after : IsNow v.name first.event → Until (p + 1) s
       ends_after now g ends =
           let order = (lawful.lawful.meets (Condition c)).ends s g z (record { is = is; condition = refl }) ends in
@@ -279,7 +280,7 @@ module _ {B : Type 0} (setting : Setting B) (nodes : List Node) (w : World) (law
           ]
 
       module _ (begun : z.it.step < steps_in h v.name) where
-        -- one that has begun doesn't begin now
+        -- a sleep that has begun doesn't begin with the deed
         begins_no_more : BeginsSleep d v.name z.it → ⊥
         begins_no_more b = omega (arith, next_number v.name z.it.step (BeginWait c z.it.mutex) b.took b.other b.is, begun)
 
@@ -312,7 +313,7 @@ module _ {B : Type 0} (setting : Setting B) (nodes : List Node) (w : World) (law
             let later = one_later s not_here in
             (λ a. later.0 (on.0 a), λ all. on.1 (later.1 all))
 
-    -- A drain, or a step that is no event but a store that waits in a buffer.
+    -- The deed is a drain, a step that isn't an event, or a store that waits in a buffer.
 
     module _ (quiet : (e : EventKind) → kind_done d ≡ Some e → is_store e ≡ true) (silent : (c : ℕ) (n : Name) → waits_by c n d ≡ None) where
       quiet_begun : (s : ℕ) (z : Of Sleep) (v : Walk) → slice_get (all_sleeps paths) s ≡ Some z → IsThread code log z.thread v
@@ -341,13 +342,20 @@ module _ {B : Type 0} (setting : Setting B) (nodes : List Node) (w : World) (law
 
     -- The event at the position.
 
-    module _ (t : ℕ) (q : Walk) (x : Event) (at : IsAtEvent setting nodes w p h t q x) (k : ℕ) (r : Request) (took : ℤ)
+    module _ (t : ℕ) (q : Walk) (x : Event) (own_there : IsThread code log t q) (x_among : Contains q.events x) (x_at : place code log w t x ≡ p)
+        (x_steps : steps_in h q.name ≡ x.step) (k : ℕ) (r : Request) (took : ℤ)
         (other : Option Name) (does : d ≡ Did q.name k r took other) (other_is : other ≡ other_of paths w h t q.name r) where
+      abbrev now : NextEvent setting nodes w
+      now = record {
+        here = record { position = p; deeds = h; gone = gone; thread = path_thread t q own_there; event = x; among = x_among; at = x_at };
+        steps = x_steps;
+      }
+
       abbrev g : ℕ
       g = number_of paths t x.step
 
       here : position w g ≡ p
-      here = at.at
+      here = x_at
 
       one_more : steps_in after q.name ≡ steps_in h q.name + 1
       one_more =
@@ -355,17 +363,17 @@ module _ {B : Type 0} (setting : Setting B) (nodes : List Node) (w : World) (law
           ∙ ap (λ e. steps_in h q.name + cond (is_step_of q.name e) 1 0) does
           ∙ ap (λ b. steps_in h q.name + cond b 1 0) (same_self q.name q.name refl)
 
-      -- the deed does it
+      -- the deed does the event
       asks : kind_of r other ≡ Some x.kind
       asks =
-          elim (done_now t q x at.thread (in_contains x q.events at.event) (omega (arith, one_more, at.steps))) [
-            | inl before ↦ absurd (omega (arith, before, at.steps))
+          elim (done_now t q x own_there (in_contains x q.events x_among) (omega (arith, one_more, x_steps))) [
+            | inl before ↦ absurd (omega (arith, before, x_steps))
             | inr now ↦ sym (ap kind_done does) ∙ kind_now q.name x now
           ]
 
       woken : (c : ℕ) → r ≡ WakeOne c → other ≡ woken_by paths w g
       woken c is =
-          other_is ∙ ap (λ a. other_of paths w h t q.name a) is ∙ ap (λ i. woken_by paths w (number_of paths t i)) at.steps
+          other_is ∙ ap (λ a. other_of paths w h t q.name a) is ∙ ap (λ i. woken_by paths w (number_of paths t i)) x_steps
 
       signals_now : (c : ℕ) → r ≡ WakeOne c → x.kind ≡ kind.Signal c
       signals_now c is = same_Some x.kind (kind.Signal c) (sym asks ∙ ap (λ a. kind_of a other) is)
@@ -374,7 +382,7 @@ module _ {B : Type 0} (setting : Setting B) (nodes : List Node) (w : World) (law
       broadcasts_now c is = same_Some x.kind (kind.Broadcast c) (sym asks ∙ ap (λ a. kind_of a other) is)
 
       module _ (s : ℕ) (z : Of Sleep) (v : Walk) (is : slice_get (all_sleeps paths) s ≡ Some z) (there : IsThread code log z.thread v) where
-        -- a signal that ends a sleep wakes its thread
+        -- a signal that ends a sleep wakes the sleep's thread
         wakes_it : (j : ℕ) → x.kind ≡ kind.Signal z.it.condition → g ≡ j → ender_of w s ≡ Some j → other ≡ Some v.name
         wakes_it j signal same ends = by (woken_by paths w g) refl
           where
@@ -389,18 +397,18 @@ module _ {B : Type 0} (setting : Setting B) (nodes : List Node) (w : World) (law
             by (Some n) wakes =
                 let o = to_wake paths w g n wakes in
                 let one = (lawful.lawful.meets (Condition z.it.condition)).one s o.number g
-                (is_signal_at paths w (are_whole setting nodes w lawful) t q x z.it.condition at.thread at.event signal) ends_g o.ends in
+                (is_signal_at paths w (are_whole setting nodes w lawful) t q x z.it.condition own_there x_among signal) ends_g o.ends in
                 let sleep = same_Some z o.sleep (sym is ∙ ap (slice_get (all_sleeps paths)) one ∙ o.is) in
                 let walk = same_Some v o.walk (sym there ∙ ap (λ (y : Of Sleep). slice_get paths.threads y.thread) sleep ∙ o.there) in
                 woken z.it.condition (signal_is r other z.it.condition (asks ∙ ap (λ a. Some a) signal))
                 ∙ wakes
                 ∙ ap (λ i. Some i) (sym o.name ∙ sym (ap (λ (y : Walk). y.name) walk))
 
-        -- so what doesn't touch the wait ends no sleep
+        -- a deed that doesn't concern the wait doesn't end the sleep
         not_here : waits_by z.it.condition v.name d ≡ None → (j : ℕ) → ender_of w s ≡ Some j → position w j ≡ p → ⊥
         not_here none j ends at_j =
             let c = z.it.condition in
-            let e = ends_here t q x at.thread at.event at.at s j z is ends at_j in
+            let e = ends_here t q x own_there x_among x_at s j z is ends at_j in
             elim e.1 [
               | inl signal ↦
                   none-some false
@@ -420,17 +428,17 @@ module _ {B : Type 0} (setting : Setting B) (nodes : List Node) (w : World) (law
           asleep : IsAsleepIn h v.name z.it
           asleep = (until s z v is there begun).1 (λ j ends. omega (arith, later j ends))
 
-          -- and what touches it ends it
+          -- a deed that concerns the wait ends the sleep
           not_later : AboutWait z.it.condition v.name q.name r other → ⊥
           not_later (Begins m own begins) =
               let waiting = (waits setting nodes w lawful p h gone z.thread v z.it.condition there).1
               (z.it, among s z v is there, refl, asleep) in
               true≢false (sym waiting ∙ ap (set.contains (waiting_in h z.it.condition)) (sym own)
-              ∙ waits_no_more setting nodes w lawful p h t q x at z.it.condition)
+              ∙ waits_no_more setting nodes w lawful now z.it.condition)
           not_later (Wakes_it signal to) =
               let c = z.it.condition in
               let o = to_wake paths w g v.name (sym (woken c signal) ∙ to) in
-              let other_asleep = lasts setting nodes w lawful p h t q x at c (signals_now c signal) v.name o in
+              let other_asleep = lasts setting nodes w lawful now c (signals_now c signal) v.name o in
               let mine = still setting nodes w lawful p h gone v.name z.it asleep in
               let its = still setting nodes w lawful p h gone o.walk.name o.sleep.it other_asleep in
               let thread = one_thread code log setting.log_is z.thread o.sleep.thread v o.walk there o.there (sym o.name) in
@@ -442,7 +450,7 @@ module _ {B : Type 0} (setting : Setting B) (nodes : List Node) (w : World) (law
               let c = z.it.condition in
               let before = begun_before setting nodes w lawful z.thread v z.it there (among s z v is there) p h gone begun in
               let ends = (lawful.lawful.meets (Condition c)).each s g z
-              (is_broadcast_at paths w (are_whole setting nodes w lawful) t q x c at.thread at.event (broadcasts_now c broadcast))
+              (is_broadcast_at paths w (are_whole setting nodes w lawful) t q x c own_there x_among (broadcasts_now c broadcast))
               (record { is = is; condition = refl })
               (record { begun = omega (arith, before, here); lasts = λ j ends less. omega (arith, later j ends, less, here) }) in
               omega (arith, later g ends, here)
@@ -464,14 +472,14 @@ module _ {B : Type 0} (setting : Setting B) (nodes : List Node) (w : World) (law
                 (about z.it.condition v.name q.name k r took other b (ap (waits_by z.it.condition v.name) (sym does) ∙ touched))),
           )
 
--- A drain is neither, and a step of a thread is an event of its path, if it is one.
+-- A deed is a drain, a step that isn't an event, or an event of its thread's path.
 module _ {B : Type 0} (setting : Setting B) (nodes : List Node) (w : World) (lawful : IsLawfulWorld setting nodes w) (p : ℕ) (h : List Deed)
     (gone : HasGone setting nodes w p h) where
-  open setting use {ops, bound, code, log}
+  open setting use {machine, ops, bound, code, log}
 
   pub step_until : (t : ℕ) (q : Walk) (k : ℕ) (r : Request) (took : ℤ) (other : Option Name) → IsThread code log t q
       → ((x : Event) → Contains q.events x → x.step ≡ steps_in h q.name → is_pending ops.buffered x ≡ true)
-      → IsAlongPaths ops.buffered bound code log (h ++ Did q.name k r took other ∷ [])
+      → IsAlongPaths machine log (h ++ Did q.name k r took other ∷ [])
       → SleepUntilEnded code log w p (h ++ Did q.name k r took other ∷ [])
   step_until t q k r took other there waiting along =
       quiet_until setting nodes w lawful p h gone d along quiet (λ c n. by c n (waits_by c n d) refl)
@@ -483,8 +491,7 @@ module _ {B : Type 0} (setting : Setting B) (nodes : List Node) (w : World) (law
       quiet e asks =
           let done : IsDoneIn (h ++ Did q.name k r took other ∷ []) q.name k e =
           record { older = h; newer = []; request = r; took = took; other = other; there = refl; asks = asks } in
-          let o = done_event setting lawful.fits (h ++ Did q.name k r took other ∷ []) along t q
-          there k e done in
+          let o = done_event setting (record { deeds = h ++ d ∷ []; fits = lawful.fits; along = along }) (path_thread t q there) k e done in
           let next = (along.follow h [] (Did q.name k r took other) refl).1.number in
           let pending = waiting o.0 (contains_in o.0 q.events o.1) (o.2 ∙ next) in
           ap is_store (sym o.3) ∙ (and_parts ops.buffered (is_store o.0.kind) pending).1
@@ -495,13 +502,13 @@ module _ {B : Type 0} (setting : Setting B) (nodes : List Node) (w : World) (law
           let a = no_store c n q.name r other (about c n q.name k r took other b touched) in
           absurd (false≢true (sym a.2 ∙ quiet a.0 a.1))
 
-  pub drain_until : (n : Name) (k c : ℕ) (v : ℤ) → IsAlongPaths ops.buffered bound code log (h ++ Drained n k c v ∷ [])
+  pub drain_until : (n : Name) (k c : ℕ) (v : ℤ) → IsAlongPaths machine log (h ++ Drained n k c v ∷ [])
       → SleepUntilEnded code log w p (h ++ Drained n k c v ∷ [])
   drain_until n k c v along =
       quiet_until setting nodes w lawful p h gone (Drained n k c v) along (λ e asks. absurd (none-some e asks)) (λ i m. refl)
 
   pub drained_until : (t : ℕ) (q : Walk) (x : Event) (n : Name) (k c : ℕ) (v : ℤ) → IsThread code log t q → Contains q.events x
-      → is_pending ops.buffered x ≡ true → place code log w t x ≡ p → IsAlongPaths ops.buffered bound code log (h ++ Drained n k c v ∷ [])
+      → is_pending ops.buffered x ≡ true → place code log w t x ≡ p → IsAlongPaths machine log (h ++ Drained n k c v ∷ [])
       → SleepUntilEnded code log w (p + 1) (h ++ Drained n k c v ∷ [])
   drained_until t q x n k c v there i pending at along =
       store_until setting nodes w lawful p h gone (Drained n k c v) along (λ e asks. absurd (none-some e asks)) (λ j m. refl) t q x there i

@@ -6,7 +6,7 @@ use Rattle.std.specs.List.{AllByRecursion as Each, cons_option}
 use Rattle.std.specs.Option.{option_map_or}
 use Rattle.std.proofs.lemmas.Option.{none-some, same_Some}
 use Rattle.run_history.proofs.of_pending.In.{In, in_mapped}
-use Rattle.path_walk.specs.Events.{takes, leaves, left_at, regions_of, sleep_by, sleeps_of, create_by, creates_of, join_by, joins_of}
+use Rattle.path_walk.specs.Events.{acquired_mutex, released_mutex, release_step, regions_of, sleep_by, sleeps_of, create_by, creates_of, join_by, joins_of}
 use Rattle.path_walk.specs.declared.event.Event.{Event}
 use Rattle.path_walk.specs.declared.event.EventKind.{EventKind}
 use Rattle.path_walk.specs.declared.event.EventKind.TheVariants as kind
@@ -21,20 +21,20 @@ behind (Some y) x xs i = inr i
 
 -- Regions.
 
--- the region of an event that takes a mutex
+-- the region of an event that acquires a mutex
 abbrev region_at : Event → List Event → ℕ → Region
-region_at x later m = record { mutex = m; «from» = x.step; to = left_at m later }
+region_at x later m = record { mutex = m; «from» = x.step; to = release_step m later }
 
--- the first step that leaves a mutex is one of the events'
-left_after : (m : ℕ) (es : List Event) (j k : ℕ) → left_at m es ≡ Some k → Each (λ y. j < y.step) es → j < k
+-- the first step that releases a mutex is that of an event
+left_after : (m : ℕ) (es : List Event) (j k : ℕ) → release_step m es ≡ Some k → Each (λ y. j < y.step) es → j < k
 left_after m [] j k left each = absurd (none-some k left)
-left_after m (e ∷ es) j k left each = by (option_map_or (λ l. l == m) (leaves e.kind) false) left (λ l. left_after m es j k l each.1)
+left_after m (e ∷ es) j k left each = by (option_map_or (λ l. l == m) (released_mutex e.kind) false) left (λ l. left_after m es j k l each.1)
   where
-    by : (b : Bool) → cond b (Some e.step) (left_at m es) ≡ Some k → (left_at m es ≡ Some k → j < k) → j < k
+    by : (b : Bool) → cond b (Some e.step) (release_step m es) ≡ Some k → (release_step m es ≡ Some k → j < k) → j < k
     by true left rest = subst (λ i. j < i) (same_Some e.step k left) each.0
     by false left rest = rest left
 
--- a region of a mutex that begins with an event, and ends later
+-- a region of a mutex that begins with an event and ends later
 pub record BeginsRegion (es : List Event) (x : Event) (m : ℕ) : Type 0 where
   pub region : Region
   pub there : In region (regions_of es)
@@ -45,16 +45,16 @@ pub record BeginsRegion (es : List Event) (x : Event) (m : ℕ) : Type 0 where
 further_region : (e : Event) (es : List Event) (x : Event) (m : ℕ) → BeginsRegion es x m → BeginsRegion (e ∷ es) x m
 further_region e es x m b = record {
   region = b.region;
-  there = behind (option_map (region_at e es) (takes e.kind)) b.region (regions_of es) b.there;
+  there = behind (option_map (region_at e es) (acquired_mutex e.kind)) b.region (regions_of es) b.there;
   mutex = b.mutex;
   begins = b.begins;
   ends = b.ends;
 }
 
-pub taken_region : (es : List Event) (x : Event) (m : ℕ) → Rising es → In x es → takes x.kind ≡ Some m → BeginsRegion es x m
+pub taken_region : (es : List Event) (x : Event) (m : ℕ) → Rising es → In x es → acquired_mutex x.kind ≡ Some m → BeginsRegion es x m
 taken_region [] x m rise i takes_it = absurd i
 taken_region (e ∷ es) x m rise (inl same) takes_it =
-    let is : takes e.kind ≡ Some m = ap (λ (y : Event). takes y.kind) same ∙ takes_it in
+    let is : acquired_mutex e.kind ≡ Some m = ap (λ (y : Event). acquired_mutex y.kind) same ∙ takes_it in
     let step : e.step ≡ x.step = ap (λ (y : Event). y.step) same in
     record {
       region = region_at e es m;
@@ -70,16 +70,16 @@ pub record RegionEvent (es : List Event) (r : Region) : Type 0 where
   pub event : Event
   pub there : In event es
   pub step : event.step ≡ r.«from»
-  pub takes_it : takes event.kind ≡ Some r.mutex
+  pub takes_it : acquired_mutex event.kind ≡ Some r.mutex
 
 pub region_event : (es : List Event) (r : Region) → In r (regions_of es) → RegionEvent es r
 region_event [] r i = absurd i
-region_event (e ∷ es) r i = by (takes e.kind) refl i (λ j. later (region_event es r j))
+region_event (e ∷ es) r i = by (acquired_mutex e.kind) refl i (λ j. later (region_event es r j))
   where
     later : RegionEvent es r → RegionEvent (e ∷ es) r
     later o = record { event = o.event; there = inr o.there; step = o.step; takes_it = o.takes_it }
 
-    by : (o : Option ℕ) → takes e.kind ≡ o → In r (cons_option (option_map (region_at e es) o) (regions_of es))
+    by : (o : Option ℕ) → acquired_mutex e.kind ≡ o → In r (cons_option (option_map (region_at e es) o) (regions_of es))
         → (In r (regions_of es) → RegionEvent (e ∷ es) r) → RegionEvent (e ∷ es) r
     by None is i rest = rest i
     by (Some m) is (inl same) rest =

@@ -17,8 +17,8 @@ use Rattle.path_walk.specs.Paths.{Walk, Paths, paths_of}
 use Rattle.path_walk.specs.declared.event.Blocked.{Blocked}
 use Rattle.path_walk.specs.declared.event.Blocked.TheVariants as blocked
 use Rattle.path_laws.specs.Setting.{Setting}
-use Rattle.path_laws.specs.history.Along.{IsThread, AllHaveDone}
-use Rattle.path_laws.proofs.of_history.Told.{RunOf, run_of, thread_of}
+use Rattle.path_laws.specs.history.Along.{IsThread, AllHaveDone, PathThread, path_thread}
+use Rattle.path_laws.proofs.of_history.Told.{RunOf, its_run}
 use Rattle.path_laws.proofs.of_history.Walks.{thread_named}
 use Rattle.path_laws.proofs.of_events.Events.{event_within}
 use Rattle.path_laws.proofs.of_events.Lists.{in_contains}
@@ -37,6 +37,7 @@ use Rattle.plan_runs.proofs.of_waits.Begun.{region_event}
 use Rattle.plan_runs.proofs.of_waits.Sleepers.{sleep_number}
 use Rattle.plan_runs.proofs.of_waits.Waking.{waits}
 use Rattle.plan_runs.proofs.of_waits.Worlds.{walk}
+use Rattle.plan_runs.proofs.Histories.{history_of}
 
 module _ {B : Type 0} (setting : Setting B) (nodes : List Node) (w : World) (lawful : IsLawfulWorld setting nodes w) (p : ℕ) (h : List Deed)
     (gone : HasGone setting nodes w p h) (deadlock : setting.log.failing ≡ Deadlock) (done : AllHaveDone setting.code setting.log h) where
@@ -46,23 +47,23 @@ module _ {B : Type 0} (setting : Setting B) (nodes : List Node) (w : World) (law
   paths = paths_of code log
 
   abbrev r : RunOf machine log h
-  r = run_of machine log h gone.along
+  r = its_run setting (history_of lawful gone)
 
-  -- a mutex that is held at the end is owned
+  -- a mutex that is held at the end has an owner
   held_is_owned : (m : ℕ) → IsHeld paths w m → (n : Name) × (owner_in h m ≡ Some n)
   held_is_owned m held =
       let v = held.there.0 in
-      let there = held.there.1 in
-      let k = walk setting nodes w lawful held.thread v there in
+      let thread : PathThread code log = path_thread held.thread v held.there.1 in
+      let k = walk setting nodes w lawful held.thread v thread.there in
       let e = region_event v.events held.region (subst (In held.region) k.regions (in_contains held.region v.regions held.there.2)) in
       let within = event_within code log v k e.event e.there in (
         v.name,
-        (region_owned setting lawful.fits h gone.along held.thread v there m).1 (
+        (region_owned setting (history_of lawful gone) thread m).1 (
           held.region,
           held.there.2,
           held.of,
           record {
-            begun = omega (arith, within, e.step, done held.thread v there);
+            begun = omega (arith, within, e.step, done thread);
             lasts = λ j left. absurd (none-some j (sym held.lasts ∙ left));
           },
         ),
@@ -87,33 +88,27 @@ module _ {B : Type 0} (setting : Setting B) (nodes : List Node) (w : World) (law
             let among : Contains q.sleeps l.sleep = at_in q.sleeps _ l.sleep l.last in
             let n = sleep_number paths t q l.sleep there among in
             let none = sleeps_on n.0 (record { thread = t; it = l.sleep }) n.1 refl l.step in
-            let begun : l.sleep.step < steps_in h q.name = omega (arith, l.step, l.ends, done t q there) in
+            let begun : l.sleep.step < steps_in h q.name = omega (arith, l.step, l.ends, done (path_thread t q there)) in
             let asleep = (gone.sleeps n.0 (record { thread = t; it = l.sleep }) q n.1 there begun).1 (λ g ends. absurd (none-some g (sym none ∙ ends))) in
             inl ((waits setting nodes w lawful p h gone t q c there).1 (l.sleep, among, l.condition, asleep))
       ]
   blocked_at t q there (blocked.Join k) is =
       false_from_ne_true (has_exited_in h (child q.name k)) (λ gone_from.
-      let n = thread_named setting lawful.fits h (child q.name k) gone.along
-      (exited_there (child q.name k) gone_from) in
-      let e = (exits_told setting lawful.fits h gone.along n.place n.walk n.there).0
-      (ap (has_exited_in h) n.name ∙ gone_from) in
-      (lawful.lawful.meets (Stuck t)).stuck q (blocked.Join k) there is n.place e.0 (q, n.walk, there, n.there, n.name) (n.walk, n.there, e.1) e.2)
+      let n = thread_named setting (history_of lawful gone) (child q.name k) (exited_there (child q.name k) gone_from) in
+      let e = (exits_told setting (history_of lawful gone) n.thread).0 (ap (has_exited_in h) n.name_is ∙ gone_from) in
+      (lawful.lawful.meets (Stuck t)).stuck q (blocked.Join k) there is n.index e.0 (q, n.walk, there, n.there, n.name_is) (n.walk, n.there, e.1) e.2)
 
   pub all_blocked : AllAreBlocked code h
   all_blocked n left =
-      let o = thread_named setting lawful.fits h n gone.along left.there in
-      let q = o.walk in
-      let is_there : is_thread_in h q.name ≡ true = ap (is_thread_in h) o.name ∙ left.there in
-      let t = thread_of machine log h r q.name is_there in
-      let last = done o.place q o.there in
-      let some = (left_blocked setting lawful.fits h r o.place q o.there last deadlock t.0 t.1).0
-      (ap (has_exited_in h) o.name ∙ left.going) in
-      let b = some_value q.blocked some in
-      subst (IsBlockedNext code h) o.name
+      let o = thread_named setting (history_of lawful gone) n left.there in
+      let is_there : is_thread_in h o.walk.name ≡ true = ap (is_thread_in h) o.name_is ∙ left.there in
+      let some = (left_blocked setting (history_of lawful gone) o.thread is_there (done o.thread) deadlock).0 (ap (has_exited_in h) o.name_is ∙ left.going) in
+      let b = some_value o.walk.blocked some in
+      subst (IsBlockedNext code h) o.name_is
       (record {
         request = asked_at b.0;
         asks =
-            asks_blocked setting lawful.fits h r o.place q o.there last deadlock t.0 t.1
+            asks_blocked setting (history_of lawful gone) o.thread is_there (done o.thread) deadlock
             ∙ ap (λ x. option_map asked_at x) b.1;
-        blocked = blocked_at o.place q o.there b.0 b.1;
+        blocked = blocked_at o.index o.walk o.there b.0 b.1;
       })

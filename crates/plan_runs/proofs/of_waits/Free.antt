@@ -1,15 +1,13 @@
--- A mutex that is about to be taken is free.
+-- A mutex is free when it is about to be acquired.
 use Rattle.std.proofs.Common.{◌≡◌, ◌≢◌, ◌⊎◌, ◌∙◌, inl, inr, ℕ, ◌<◌, ◌==◌, Bool, true, false, List, Option, Some, None, refl, sym, ap, subst, arith}
 use Rattle.std.specs.List.{Contains}
 use Rattle.std.proofs.lemmas.Bool.{true≢false, eqb-true, eq-eqb}
 use Rattle.std.proofs.lemmas.Option.{none-some, same_Some}
 use Rattle.tc_base.specs.Names.{Name}
-use Rattle.run_history.specs.History.{Deed}
 use Rattle.run_history.specs.Told.{owner_in, steps_in}
 use Rattle.run_history.proofs.of_pending.In.{In}
-use Rattle.path_walk.specs.Events.{takes}
+use Rattle.path_walk.specs.Events.{acquired_mutex}
 use Rattle.path_walk.specs.Paths.{Walk, paths_of}
-use Rattle.path_walk.specs.declared.event.Event.{Event}
 use Rattle.path_walk.specs.declared.event.EventKind.{EventKind}
 use Rattle.path_walk.specs.declared.event.EventKind.TheVariants as kind
 use Rattle.path_walk.specs.declared.event.Region.{Region}
@@ -24,52 +22,55 @@ use Rattle.order_formula.specs.declared.group.Group.TheVariants.{Mutex}
 use Rattle.lawful_order.specs.Events.{HasRegion, place_of}
 use Rattle.lawful_order.specs.Memory.{is_store}
 use Rattle.lawful_order.specs.Mutexes.{IsLeftBefore}
-use Rattle.world_plan.specs.Going.{IsLawfulWorld, IsAtEvent, place}
+use Rattle.world_plan.specs.Going.{IsLawfulWorld, NextEvent, place}
 use Rattle.plan_runs.proofs.of_waits.Begun.{BeginsRegion, taken_region, region_event}
 use Rattle.plan_runs.proofs.of_waits.Worlds.{are_whole, walk, rising, in_turn, went_before}
+use Rattle.plan_runs.proofs.Histories.{history_of}
 
--- a store takes no mutex
-no_store : (k : EventKind) (m : ℕ) → takes k ≡ Some m → is_store k ≡ false
+-- a store acquires no mutex
+no_store : (k : EventKind) (m : ℕ) → acquired_mutex k ≡ Some m → is_store k ≡ false
 no_store kind.Store m takes_it = absurd (none-some m takes_it)
 no_store k m takes_it = refl
 
-module _ {B : Type 0} (setting : Setting B) (nodes : List Node) (w : World) (lawful : IsLawfulWorld setting nodes w) (p : ℕ) (h : List Deed) (t : ℕ)
-    (q : Walk) (x : Event) (at : IsAtEvent setting nodes w p h t q x) (m : ℕ) (takes_it : takes x.kind ≡ Some m) where
+module _ {B : Type 0} (setting : Setting B) (nodes : List Node) (w : World) (lawful : IsLawfulWorld setting nodes w) (at : NextEvent setting nodes w) (m : ℕ)
+    (takes_it : acquired_mutex at.event.kind ≡ Some m) where
   open setting use {code, log}
+  open at use {position as p, deeds as h, thread, event as x, among}
+  open thread use {index as t, walk as q, there as own_there}
 
   -- the region that begins now
   mine : BeginsRegion q.events x m
   mine =
-      taken_region q.events x m (rising setting nodes w lawful t q at.thread) (in_contains x q.events at.event) takes_it
+      taken_region q.events x m (rising setting nodes w lawful t q own_there) (in_contains x q.events among) takes_it
 
   has_mine : HasRegion (paths_of code log) t mine.region
   has_mine = (
     q,
-    at.thread,
-    contains_in mine.region q.regions (subst (In mine.region) (sym (walk setting nodes w lawful t q at.thread).regions) mine.there),
+    own_there,
+    contains_in mine.region q.regions (subst (In mine.region) (sym (walk setting nodes w lawful t q own_there).regions) mine.there),
   )
 
   module _ (u : ℕ) (v : Walk) (s : Region) (there : IsThread code log u v) (i : Contains v.regions s) (mutex : s.mutex ≡ m)
       (lasts : IsOpenAfter (steps_in h v.name) s) where
-    -- another that has begun is another
+    -- an open region of the mutex is a different one
     differ : (t ≢ u) ⊎ (mine.region.«from» ≢ s.«from»)
     differ = by (t == u) refl
       where
         by : (b : Bool) → (t == u) ≡ b → (t ≢ u) ⊎ (mine.region.«from» ≢ s.«from»)
         by false apart = inl (λ same. true≢false (sym (eq-eqb t u same) ∙ apart))
         by true same =
-            let one : v ≡ q = same_Some v q (sym (subst (λ j. IsThread code log j v) (sym (eqb-true t u same)) there) ∙ at.thread) in
+            let one : v ≡ q = same_Some v q (sym (subst (λ j. IsThread code log j v) (sym (eqb-true t u same)) there) ∙ own_there) in
             let begun : s.«from» < steps_in h q.name = subst (λ (y : Walk). s.«from» < steps_in h y.name) one lasts.begun in
             inr (λ e. omega (arith, begun, at.steps, mine.begins, e))
 
-    -- it isn't left later, for it has begun
+    -- the new region isn't released before the other begins, since the other has begun
     not_after : IsLeftBefore (paths_of code log) w t mine.region u s → ⊥
     not_after left =
         let y = (are_whole setting nodes w lawful).left t left.0 mine.region has_mine left.1 in
         let later = mine.ends left.0 left.1 in
-        let own = same_Some y.1.0 q (sym y.1.1 ∙ at.thread) in
+        let own = same_Some y.1.0 q (sym y.1.1 ∙ own_there) in
         let mine_first : place code log w t x < place code log w t y.0 =
-        in_turn setting nodes w lawful t q x y.0 at.thread at.event (subst (λ (z : Walk). Contains z.events y.0) own y.1.2)
+        in_turn setting nodes w lawful t q x y.0 own_there among (subst (λ (z : Walk). Contains z.events y.0) own y.1.2)
         (no_store x.kind m takes_it) (omega (arith, later, y.2)) in
         let e = region_event v.events s
         (subst (In s) (walk setting nodes w lawful u v there).regions (in_contains s v.regions i)) in
@@ -81,7 +82,7 @@ module _ {B : Type 0} (setting : Setting B) (nodes : List Node) (w : World) (law
         (subst (λ k. place_of (paths_of code log) w t left.0 < place_of (paths_of code log) w u k) (sym e.step) left.2) in
         omega (arith, mine_first, began, first, at.at)
 
-    -- nor before, for it is open
+    -- the other region isn't released before, since it is open
     not_before : IsLeftBefore (paths_of code log) w u s t mine.region → ⊥
     not_before left =
         let y = (are_whole setting nodes w lawful).left u left.0 s (v, there, i) left.1 in
@@ -106,7 +107,6 @@ module _ {B : Type 0} (setting : Setting B) (nodes : List Node) (w : World) (law
       by : (o : Option Name) → owner_in h m ≡ o → owner_in h m ≡ None
       by None free = free
       by (Some n) owns =
-          let n_is = (took_it setting lawful.fits h at.gone.along m n owns).thread in
-          let o = (region_owned setting lawful.fits h at.gone.along n_is.place n_is.walk
-          n_is.there m).0 (owns ∙ ap (λ k. Some k) (sym n_is.name)) in
-          absurd (none_open n_is.place n_is.walk o.0 n_is.there o.1 o.2 o.3)
+          let n_is = (took_it setting (history_of lawful at.gone) m n owns).thread in
+          let o = (region_owned setting (history_of lawful at.gone) n_is.thread m).0 (owns ∙ ap (λ k. Some k) (sym n_is.name_is)) in
+          absurd (none_open n_is.index n_is.walk o.0 n_is.there o.1 o.2 o.3)

@@ -1,4 +1,4 @@
--- A thread of paths but main is created by an event of another.
+-- Each thread of the paths except main is created by an event of another thread.
 use Rattle.std.proofs.Common.{◌≡◌, ◌⊎◌, ◌∙◌, inl, inr, ℕ, zero, suc, ◌+◌, ◌<◌, ◌==◌, ◌&&◌, Bool, true, false, List, [], ◌∷◌, length, take, drop}
 use Rattle.std.proofs.Common.{Option, Some, None, refl, sym, ap, subst, arith}
 use Rattle.std.specs.Prelude.{slice_get, unwrap_or}
@@ -17,20 +17,20 @@ use Rattle.run_history.proofs.of_pending.In.{In}
 use Rattle.run_log.specs.Logs.{is_log}
 use Rattle.path_walk.specs.Events.{asks, kind_with}
 use Rattle.path_walk.specs.Fits.{starts, started, fails_in, places_in, child_function, function_of, Fits}
-use Rattle.path_walk.specs.Marks.{Marks, unmarked, marked, marks_after}
+use Rattle.path_walk.specs.Marks.{Marks, marks_at_start, marks_after_instr, marks_after}
 use Rattle.path_walk.specs.Paths.{Walk}
 use Rattle.path_walk.specs.Steps.{Step, is_site, step_at, steps_at}
 use Rattle.path_walk.specs.declared.event.Event.{Event}
 use Rattle.path_walk.specs.declared.event.EventKind.TheVariants as kind
 use Rattle.path_walk.proofs.Faults.{option_is, function_of_child, no_child}
-use Rattle.path_laws.specs.history.Along.{IsThread, IsNameOfThread}
+use Rattle.path_laws.specs.history.Along.{IsThread, IsNameOfThread, path_thread}
 use Rattle.path_laws.proofs.of_history.Next.{last_step}
 use Rattle.path_laws.proofs.of_history.Walks.{IsWalk, walk_is, named}
 use Rattle.path_laws.proofs.of_events.Marked.{event_at, event_there}
 use Rattle.path_laws.proofs.of_events.Sites.{last_is_site}
 use Rattle.path_laws.proofs.of_stuck.Rests.{mapped_from}
 
--- a create is no site, and asks for the next child
+-- a create isn't a site, and its request is for the next child
 no_site : (i : Instr) (f : ℕ) → starts i ≡ Some f → is_site i ≡ true → ⊥
 no_site (Create h g es) f e site = false≢true site
 no_site i f e site = none-some f e
@@ -53,19 +53,19 @@ record StartedAt (m : Marks) (ss : List Step) (j f : ℕ) : Type 0 where
 
 started_at : (m : Marks) (ss : List Step) (j f : ℕ) → slice_get (started ss) j ≡ Some f → StartedAt m ss j f
 started_at m [] j f at = absurd (none-some f at)
-started_at m (s ∷ ss) j f at = by s.instr refl j at (λ k e. started_at (marked m s.instr) ss k f e)
+started_at m (s ∷ ss) j f at = by s.instr refl j at (λ k e. started_at (marks_after_instr m s.instr) ss k f e)
   where
-    further : (a : Instr) (i n : ℕ) → s.instr ≡ a → (marked m a).children + i ≡ m.children + n → StartedAt (marked m a) ss i f → StartedAt m (s ∷ ss) n f
+    further : (a : Instr) (i n : ℕ) → s.instr ≡ a → (marks_after_instr m a).children + i ≡ m.children + n → StartedAt (marks_after_instr m a) ss i f → StartedAt m (s ∷ ss) n f
     further a i n is sum o = record {
       place = suc o.place;
       step = o.step;
       there = o.there;
       creates = o.creates;
-      children = ap (λ b. (marks_after (marked m b) (take o.place ss)).children) is ∙ o.children ∙ sum;
+      children = ap (λ b. (marks_after (marks_after_instr m b) (take o.place ss)).children) is ∙ o.children ∙ sum;
     }
 
     by : (a : Instr) → s.instr ≡ a → (i : ℕ) → slice_get (cons_option (starts a) (started ss)) i ≡ Some f
-        → ((k : ℕ) → slice_get (started ss) k ≡ Some f → StartedAt (marked m a) ss k f) → StartedAt m (s ∷ ss) i f
+        → ((k : ℕ) → slice_get (started ss) k ≡ Some f → StartedAt (marks_after_instr m a) ss k f) → StartedAt m (s ∷ ss) i f
     by (Create h g es) is zero e rest =
         let none : m.children ≡ m.children + 0 = omega arith in
         record { place = 0; step = s; there = refl; creates = ap starts is ∙ e; children = none }
@@ -79,11 +79,11 @@ module _ (code : Code) (log : Log) where
     abbrev steps : List Step
     steps = steps_at code v.function v.places
 
-    abbrev s : StartedAt (unmarked code v.function) steps j f
-    s = started_at (unmarked code v.function) steps j f at
+    abbrev s : StartedAt (marks_at_start code v.function) steps j f
+    s = started_at (marks_at_start code v.function) steps j f at
 
     abbrev marks : Marks
-    marks = marks_after (unmarked code v.function) (take s.place steps)
+    marks = marks_after (marks_at_start code v.function) (take s.place steps)
 
     abbrev fails : Bool
     fails = fails_in log v.name && length (drop (suc s.place) steps) == 0
@@ -112,11 +112,11 @@ module _ (code : Code) (log : Log) where
     create_event = (
       event_at code v.function (fails_in log v.name) (0 + s.place) s.step marks (kind.Create (suc j)),
       subst (In (event_at code v.function (fails_in log v.name) (0 + s.place) s.step marks (kind.Create (suc j)))) (sym k.events)
-          (event_there code v.function (fails_in log v.name) 0 (unmarked code v.function) steps s.place s.step (kind.Create (suc j)) s.there asks_it),
+          (event_there code v.function (fails_in log v.name) 0 (marks_at_start code v.function) steps s.place s.step (kind.Create (suc j)) s.there asks_it),
       refl,
     )
 
-  -- the event of a thread that creates one of a name
+  -- an event of a thread that creates the thread with this name
   pub record IsCreatedBy (n : Name) : Type 0 where
     pub place : ℕ
     pub walk : Walk
@@ -132,19 +132,19 @@ module _ (code : Code) (log : Log) where
     by_number n zero f o creates = absurd (none-some f creates)
     by_number n (suc j) f o creates =
         let v = o.walk in
-        let k = walk_is code log is fits o.place v o.there in
+        let k = walk_is code log is fits o.thread in
         let at : slice_get (started (steps_at code v.function v.places)) j ≡ Some f =
-        ap (λ ps. slice_get (started (steps_at code v.function ps)) j) (sym k.told ∙ ap (λ m. places_in code log m v.function) o.name) ∙ creates in
+        ap (λ ps. slice_get (started (steps_at code v.function ps)) j) (sym k.told ∙ ap (λ m. places_in code log m v.function) o.name_is) ∙ creates in
         let e = create_event v k j f at in
         record {
-          place = o.place;
+          place = o.index;
           walk = v;
           there = o.there;
           event = e.0;
           among = e.1;
           number = suc j;
           creates = e.2;
-          name = ap (λ m. child m (suc j)) (sym o.name);
+          name = ap (λ m. child m (suc j)) (sym o.name_is);
         }
 
     by_parent : (n : Name) (k f : ℕ) → function_of code log (child n k) ≡ Some f → IsCreatedBy (child n k)
@@ -155,8 +155,8 @@ module _ (code : Code) (log : Log) where
               let o = named code log is fits n has.0 has.1 in
               option_and_then_some (λ g. child_function code log n g k) (function_of code log n) f (sym (function_of_child code log n k) ∙ function)
               (λ g of creates.
-              let known = (walk_is code log is fits o.place o.walk o.there).function in
-              let same : g ≡ o.walk.function = same_Some g o.walk.function (sym of ∙ ap (function_of code log) (sym o.name) ∙ known) in
+              let known = (walk_is code log is fits o.thread).function in
+              let same : g ≡ o.walk.function = same_Some g o.walk.function (sym of ∙ ap (function_of code log) (sym o.name_is) ∙ known) in
               by_number n k f o (ap (λ a. child_function code log n a k) (sym same) ∙ creates))
         ]
 
@@ -166,5 +166,5 @@ module _ (code : Code) (log : Log) where
           | inl first ↦ inl first
           | inr h ↦
               inr (subst IsCreatedBy (sym h.name)
-              (by_parent h.parent h.number q.function (ap (function_of code log) (sym h.name) ∙ (walk_is code log is fits c q there).function)))
+              (by_parent h.parent h.number q.function (ap (function_of code log) (sym h.name) ∙ (walk_is code log is fits (path_thread c q there)).function)))
         ]

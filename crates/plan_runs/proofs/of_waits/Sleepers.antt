@@ -32,14 +32,14 @@ use Rattle.plan_runs.proofs.of_waits.Begun.{SleepEvent, sleep_event, SleepsRise,
 use Rattle.plan_runs.proofs.of_waits.Worlds.{walk, rising, went_before}
 
 module _ (paths : Paths) where
-  -- a thread's sleep has a number
+  -- each sleep of a thread has a number
   pub sleep_number : (t : ℕ) (q : Walk) (s : Sleep) → slice_get paths.threads t ≡ Some q → Contains q.sleeps s
       → (k : ℕ) × (slice_get (all_sleeps paths) k ≡ Some (record { thread = t; it = s }))
   sleep_number t q s there i =
       in_at (all_sleeps paths) (record { thread = t; it = s })
       (in_all_from (λ (v : Walk). v.sleeps) 0 t t paths.threads q s there i (omega arith))
 
-  -- what has one is a thread's
+  -- a sleep with a number belongs to a thread
   pub record OwnerOf (z : Of Sleep) : Type 0 where
     pub walk : Walk
     pub there : slice_get paths.threads z.thread ≡ Some walk
@@ -51,7 +51,7 @@ module _ (paths : Paths) where
       let same : o.place ≡ z.thread = omega (arith, o.thread) in
       record { walk = o.owner; there = ap (slice_get paths.threads) (sym same) ∙ o.at; among = o.among }
 
-  -- a thread's event has its number
+  -- each event of a thread has its number
   pub numbered : (whole : AreWhole paths) (t : ℕ) (q : Walk) (x : Event) → slice_get paths.threads t ≡ Some q → Contains q.events x
       → slice_get (all_events paths) (number_of paths t x.step) ≡ Some (record { thread = t; it = x })
   numbered whole t q x there i =
@@ -60,7 +60,7 @@ module _ (paths : Paths) where
       ap (slice_get (all_events paths)) (number_is paths whole at.0 e at.1) ∙ at.1
 
   module _ (w : World) where
-    -- the sleep that an event ends is that of the thread that it wakes
+    -- an event ends a sleep of the thread that it wakes
     pub record Wakes (g : ℕ) (n : Name) : Type 0 where
       pub number : ℕ
       pub sleep : Of Sleep
@@ -98,7 +98,7 @@ module _ (paths : Paths) where
         by None none is = absurd (none-some n is)
         by (Some e) found is = by_thread e found (slice_get paths.threads e.1.thread) refl is
 
-    -- where it wakes none it ends no sleep
+    -- an event that wakes no thread ends no sleep
     pub wakes_none : (g s : ℕ) (z : Of Sleep) → woken_by paths w g ≡ None → slice_get (all_sleeps paths) s ≡ Some z → ender_of w s ≡ Some g → ⊥
     wakes_none g s z none is ends =
         let f = in_find (λ (e : ℕ × Of Sleep). is_ended w e.0 g) (enumerate_from 0 (all_sleeps paths)) (s, z) (in_enumerated s z (all_sleeps paths) is)
@@ -107,7 +107,7 @@ module _ (paths : Paths) where
         let o = owner f.0.0 f.0.1 (of_enumerated f.0 (all_sleeps paths) i.0) in
         none-some o.walk.name (sym none ∙ ap owner_name f.1 ∙ ap (option_map (λ (q : Walk). q.name)) o.there)
 
-    -- an event is a signal or a broadcast by its kind
+    -- an event is a signal or a broadcast if its kind is
     pub is_signal_at : (whole : AreWhole paths) (t : ℕ) (q : Walk) (x : Event) (c : ℕ) → slice_get paths.threads t ≡ Some q → Contains q.events x
         → x.kind ≡ kind.Signal c → IsSignal paths w (number_of paths t x.step) c
     is_signal_at whole t q x c there i is = record {
@@ -127,7 +127,7 @@ module _ (paths : Paths) where
 module _ {B : Type 0} (setting : Setting B) (nodes : List Node) (w : World) (lawful : IsLawfulWorld setting nodes w) where
   open setting use {code, log}
 
-  -- a thread's sleep of a step has one number
+  -- a thread's sleep with a step has only one number
   pub one_sleep : (i j : ℕ) (a b : Of Sleep) → slice_get (all_sleeps (paths_of code log)) i ≡ Some a
       → slice_get (all_sleeps (paths_of code log)) j ≡ Some b → a.thread ≡ b.thread → a.it.step ≡ b.it.step → i ≡ j
   one_sleep i j a b ia jb thread same =
@@ -162,7 +162,7 @@ module _ {B : Type 0} (setting : Setting B) (nodes : List Node) (w : World) (law
   no_store = ap is_store begins_with.sleeps
 
   module _ (p : ℕ) (h : List Deed) (gone : HasGone setting nodes w p h) where
-    -- a sleep has begun exactly where that comes before the position
+    -- a sleep has begun exactly if its first event comes before the position
     pub begun_before : s.step < steps_in h q.name → place_of (paths_of code log) w t s.step < p
     begun_before done =
         let e = begins_with in

@@ -1,4 +1,4 @@
--- Threads are there when their events come, and joins find exits.
+-- Threads exist when their events come, and joins find exits.
 use Rattle.std.proofs.Common.{◌≡◌, ◌∙◌, inl, inr, ℕ, ◌+◌, ◌<◌, Bool, true, false, ◌&&◌, ◌||◌, List, ◌∷◌, ◌++◌, take}
 use Rattle.std.proofs.Common.{Option, Some, None, IsTrue, refl, sym, ap, subst, arith, slice_index_or}
 use Rattle.std.specs.Prelude.{slice_get, option_map, option_and_then}
@@ -25,7 +25,7 @@ use Rattle.run_history.specs.Told.{creates, is_thread_in, steps_in, children_in,
 use Rattle.run_history.proofs.Lists.{last_or-push}
 use Rattle.run_history.proofs.of_pending.In.{In, in_at, in_mapped, in_any}
 use Rattle.path_walk.specs.Events.{kind_with}
-use Rattle.path_walk.specs.Marks.{Marks, unmarked, marks_after, handle_in}
+use Rattle.path_walk.specs.Marks.{Marks, marks_at_start, marks_after, handle_in}
 use Rattle.path_walk.specs.Paths.{Walk, Paths, paths_of}
 use Rattle.path_walk.specs.Steps.{Step, steps_at}
 use Rattle.path_walk.specs.Events as events
@@ -34,10 +34,10 @@ use Rattle.path_walk.specs.declared.event.EventKind.TheVariants as kind
 use Rattle.path_walk.specs.declared.event.Link.{Link}
 use Rattle.path_laws.specs.Setting.{Setting}
 use Rattle.path_laws.specs.Deeds.{kind_of}
-use Rattle.path_laws.specs.history.Along.{IsThread, AllAreThere}
+use Rattle.path_laws.specs.history.Along.{IsThread, AllAreThere, HistoryAlong, path_thread}
 use Rattle.path_laws.specs.history.Next.{IsNextOnPath}
 use Rattle.path_laws.proofs.of_history.Next.{path_step, next_on_path, thread_next}
-use Rattle.path_laws.proofs.of_history.Told.{RunOf, run_of, reached, steps_of}
+use Rattle.path_laws.proofs.of_history.Told.{RunOf, reached, steps_of, its_run}
 use Rattle.path_laws.proofs.of_history.Walks.{walking, thread_path_at, thread_named}
 use Rattle.path_laws.proofs.of_events.Events.{at_step, event_within, event_done}
 use Rattle.path_laws.proofs.of_events.Held.{thread_marks}
@@ -48,11 +48,12 @@ use Rattle.order_formula.specs.Worlds.{World}
 use Rattle.order_formula.specs.declared.group.Group.TheVariants as group
 use Rattle.lawful_order.specs.Events.{Creates, Joins}
 use Rattle.lawful_order.specs.Memory.{is_store}
-use Rattle.world_plan.specs.Going.{IsLawfulWorld, HasGone, IsAtEvent, is_pending, place}
+use Rattle.world_plan.specs.Going.{IsLawfulWorld, HasGone, NextEvent, is_pending, place}
 use Rattle.world_plan.specs.Plan.{is_failure}
 use Rattle.plan_runs.proofs.of_waits.Begun.{created_link, joined_link}
 use Rattle.plan_runs.proofs.of_waits.Parents.{IsCreatedBy, created_by}
 use Rattle.plan_runs.proofs.of_waits.Worlds.{walk}
+use Rattle.plan_runs.proofs.Histories.{history_of}
 
 -- a request that is a create
 create_is : (r : Request) (other : Option Name) (k : ℕ) → kind_of r other ≡ Some (kind.Create k)
@@ -77,7 +78,7 @@ joined_child t (Child j) k can is number = subst (IsChildOf t) number is
 joined_child t Unset k can is number = absurd (false≢true can)
 joined_child t (Joined j) k can is number = absurd (false≢true can)
 
--- main is always there
+-- main always exists
 main_there : (h : List Deed) (n : Name) → n ≡ main → is_thread_in h n ≡ true
 main_there h n is = ap (λ b. b || list_any (same n) (filter_map creates h)) (same_self n main is)
 
@@ -88,12 +89,12 @@ module _ {B : Type 0} (setting : Setting B) (nodes : List Node) (w : World) (law
   abbrev paths : Paths
   paths = paths_of code log
 
-  -- a child is there whose create is done
+  -- a child exists once its create is done
   child_there : (u : ℕ) (v : Walk) (y : Event) (k : ℕ) → IsThread code log u v → In y v.events → y.kind ≡ kind.Create k → y.step < steps_in h v.name
       → is_thread_in h (child v.name k) ≡ true
   child_there u v y k there i is done =
       let n = child v.name k in
-      let d = event_done setting lawful.fits h gone.along u v there y i done in
+      let d = event_done setting (history_of lawful gone) (path_thread u v there) y i done in
       let c = create_is d.request d.other k (d.asks ∙ ap (λ a. Some a) is) in
       let deed = Did v.name y.step (Start c.0) d.took d.other in
       let at : h ≡ d.older ++ deed ∷ d.newer = d.there ∙ ap (λ r. d.older ++ Did v.name y.step r d.took d.other ∷ d.newer) c.1 in
@@ -107,7 +108,7 @@ module _ {B : Type 0} (setting : Setting B) (nodes : List Node) (w : World) (law
       let made = in_mapped creates deed n h (subst (In deed) (sym at) (in_at d.older deed d.newer)) created in
       ap (λ b. same n main || b) (in_any (same n) n (filter_map creates h) made (same_self n n refl)) ∙ or-true (same n main)
 
-  -- so a thread is there whose create has come
+  -- a thread exists once its create has come
   thread_there : (c : ℕ) (q : Walk) → IsThread code log c q
       → ((o : IsCreatedBy code log q.name) → place code log w o.place o.event < p) → is_thread_in h q.name ≡ true
   thread_there c q there before =
@@ -136,35 +137,40 @@ module _ {B : Type 0} (setting : Setting B) (nodes : List Node) (w : World) (law
 
   pub all_there : ((t : ℕ) (q : Walk) (x : Event) → IsThread code log t q → Contains q.events x → is_failure x.kind ≡ false
       → is_pending ops.buffered x ≡ false → place code log w t x < p) → AllAreThere code log h
-  all_there all c q there =
-      thread_there c q there (λ o.
+  all_there all t =
+      thread_there t.index t.walk t.there (λ o.
       all o.place o.walk o.event o.there (contains_in o.event o.walk.events o.among) (ap is_failure o.creates)
       (ap (λ a. ops.buffered && is_store a) o.creates ∙ and-false ops.buffered))
 
-module _ {B : Type 0} (setting : Setting B) (nodes : List Node) (w : World) (lawful : IsLawfulWorld setting nodes w) (p : ℕ) (h : List Deed) (t : ℕ)
-    (q : Walk) (x : Event) (at : IsAtEvent setting nodes w p h t q x) (k : ℕ) (joins : x.kind ≡ kind.Join k) where
+module _ {B : Type 0} (setting : Setting B) (nodes : List Node) (w : World) (lawful : IsLawfulWorld setting nodes w) (at : NextEvent setting nodes w) (k : ℕ)
+    (joins : at.event.kind ≡ kind.Join k) where
   open setting use {machine, ops, code, log}
+  open at use {position as p, deeds as h, thread, event as x, among as x_among}
+  open thread use {index as t, walk as q, there as own_there}
+
+  abbrev history : HistoryAlong setting
+  history = history_of lawful at.gone
 
   abbrev r : RunOf machine log h
-  r = run_of machine log h at.gone.along
+  r = its_run setting history
 
   abbrev steps : List Step
   steps = steps_at code q.function q.places
 
-  -- the thread is about to do the join
+  -- the next step of the thread is the join
   next : IsNextOnPath code h q
   next =
-      let within = event_within code log q (walk setting nodes w lawful t q at.thread) x (in_contains x q.events at.event) in
-      next_on_path setting lawful.fits h t q at.thread at.gone.going r
-      (there_at setting nodes w lawful p h at.gone t q x at.thread at.event at.at) (omega (arith, within, at.steps))
+      let within = event_within code log q (walk setting nodes w lawful t q own_there) x (in_contains x q.events x_among) in
+      next_on_path setting history thread at.gone.going
+      (there_at setting nodes w lawful p h at.gone t q x own_there x_among at.at) (omega (arith, within, at.steps))
 
-  -- the child's thread is there
+  -- the thread of the child exists
   child_is : is_thread_in h (child q.name k) ≡ true
   child_is =
-      let a = thread_next setting lawful.fits h t q at.thread at.gone.going r next in
-      let i = walking setting lawful.fits h r t q a.0 at.thread a.1 in
-      let e = at_step code log q i.walk x (in_contains x q.events at.event) in
-      let j = join_is (marks_after (unmarked code q.function) (take e.place steps)) e.step.instr _ k (e.asks ∙ ap (λ b. Some b) joins) in
+      let a = thread_next setting history thread at.gone.going next in
+      let i = walking setting history thread a.0 a.1 in
+      let e = at_step code log q i.walk x (in_contains x q.events x_among) in
+      let j = join_is (marks_after (marks_at_start code q.function) (take e.place steps)) e.step.instr _ k (e.asks ∙ ap (λ b. Some b) joins) in
       let place_is : e.place ≡ steps_in h q.name = omega (arith, e.number, at.steps) in
       let step = path_step code q (steps_in h q.name) next.local.instruction next.instr next.place next.at in
       let same = same_Some e.step (record { place = next.local.instruction; instr = next.instr }) (sym e.there ∙ ap (slice_get steps) place_is ∙ step) in
@@ -172,9 +178,9 @@ module _ {B : Type 0} (setting : Setting B) (nodes : List Node) (w : World) (law
       let now : instr_of code a.0.local ≡ Some (Join j.0) = ap (instr_of code) a.2 ∙ next.next ∙ ap (λ b. Some b) instr in
       let done = steps_of machine log h r q.name a.0 a.1 in
       let at_place : a.0.local.steps ≡ e.place = done ∙ sym place_is in
-      let marks = (thread_marks setting lawful.fits q a.0 r.state.failed i).handles in
-      let handle : handle_in (marks_after (unmarked code q.function) (take e.place steps)) j.0 ≡ handle_of a.0.local j.0 =
-      ap (λ n. handle_in (marks_after (unmarked code q.function) (take n steps)) j.0) (sym at_place) ∙ ap (λ hs. slice_index_or hs j.0 Unset) marks in
+      let marks = (thread_marks setting history thread a.0 i).handles in
+      let handle : handle_in (marks_after (marks_at_start code q.function) (take e.place steps)) j.0 ≡ handle_of a.0.local j.0 =
+      ap (λ n. handle_in (marks_after (marks_at_start code q.function) (take n steps)) j.0) (sym at_place) ∙ ap (λ hs. slice_index_or hs j.0 Unset) marks in
       let is_reached = reached machine log h r in
       let can = (reached_has_tested ops code r.state setting.lawful is_reached q.name a.0 a.1).join j.0 now in
       let held = handles_are_children ops code r.state is_reached q.name a.0 a.1 j.0 in
@@ -185,16 +191,16 @@ module _ {B : Type 0} (setting : Setting B) (nodes : List Node) (w : World) (law
 
   pub has_exited : has_exited_in h (child q.name k) ≡ true
   has_exited =
-      let n = thread_named setting lawful.fits h (child q.name k) at.gone.along child_is in
-      let from = thread_path_at code log t q at.thread in
+      let n = thread_named setting history (child q.name k) child_is in
+      let from = thread_path_at code log t q own_there in
       let all : q.joins ≡ events.joins_of q.events = subst (λ (z : Walk). z.joins ≡ events.joins_of z.events) from.2 refl in
       let link : Link = record { step = x.step; child = k } in
       let has : Joins (paths_of code log) t link =
-      (q, at.thread, contains_in link q.joins (subst (In link) (sym all) (joined_link q.events x k (in_contains x q.events at.event) joins))) in
-      let e = (lawful.lawful.meets (group.Child n.place)).joined t link has (q, n.walk, at.thread, n.there, n.name) in
+      (q, own_there, contains_in link q.joins (subst (In link) (sym all) (joined_link q.events x k (in_contains x q.events x_among) joins))) in
+      let e = (lawful.lawful.meets (group.Child n.index)).joined t link has (q, n.walk, own_there, n.there, n.name_is) in
       let own = same_Some e.there.0 n.walk (sym e.there.1 ∙ n.there) in
       let among = subst (λ (v : Walk). Contains v.events e.exit) own e.there.2 in
-      let done = at.gone.did n.place n.walk e.exit n.there among (omega (arith, e.before, at.at)) in
-      ap (has_exited_in h) (sym n.name)
-      ∙ (exits_told setting lawful.fits h at.gone.along n.place n.walk n.there).1
+      let done = at.gone.did n.index n.walk e.exit n.there among (omega (arith, e.before, at.at)) in
+      ap (has_exited_in h) (sym n.name_is)
+      ∙ (exits_told setting history n.thread).1
       (e.exit, among, e.exits, done)

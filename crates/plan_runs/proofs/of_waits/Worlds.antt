@@ -1,4 +1,4 @@
--- What a lawful world and the paths that it is of have.
+-- Facts on a lawful world and its paths.
 use Rattle.std.proofs.Common.{◌≡◌, ◌∙◌, inl, inr, ℕ, ◌<◌, Bool, true, false, not, ◌&&◌, ◌||◌, List, refl, sym, ap, subst}
 use Rattle.std.specs.List.{Contains}
 use Rattle.std.proofs.Math.Bool.{and-false}
@@ -6,12 +6,12 @@ use Rattle.std.proofs.lemmas.Bool.{false≢true}
 use Rattle.run_history.specs.History.{Deed}
 use Rattle.run_history.specs.Told.{steps_in}
 use Rattle.path_walk.specs.Fits.{fails_in}
-use Rattle.path_walk.specs.Marks.{unmarked}
+use Rattle.path_walk.specs.Marks.{marks_at_start}
 use Rattle.path_walk.specs.Paths.{Walk, paths_of}
 use Rattle.path_walk.specs.Steps.{steps_at}
 use Rattle.path_walk.specs.declared.event.Event.{Event}
 use Rattle.path_laws.specs.Setting.{Setting}
-use Rattle.path_laws.specs.history.Along.{IsThread}
+use Rattle.path_laws.specs.history.Along.{IsThread, path_thread}
 use Rattle.path_laws.proofs.of_history.Walks.{IsWalk, walk_is}
 use Rattle.path_laws.proofs.of_events.Marked.{Rising, events_rise}
 use Rattle.sym_terms.specs.declared.node.Node.{Node}
@@ -32,20 +32,20 @@ module _ {B : Type 0} (setting : Setting B) (nodes : List Node) (w : World) (law
   are_whole = whole code (paths_of code log) (record { log = log; fits = lawful.fits; are = refl })
 
   pub walk : (t : ℕ) (q : Walk) → IsThread code log t q → IsWalk code log q
-  walk t q there = walk_is code log setting.log_is lawful.fits t q there
+  walk t q there = walk_is code log setting.log_is lawful.fits (path_thread t q there)
 
   pub rising : (t : ℕ) (q : Walk) → IsThread code log t q → Rising q.events
   rising t q there =
       subst Rising (sym (walk t q there).events)
-      (events_rise code q.function (fails_in log q.name) 0 (unmarked code q.function) (steps_at code q.function q.places))
+      (events_rise code q.function (fails_in log q.name) 0 (marks_at_start code q.function) (steps_at code q.function q.places))
 
-  -- an event that is no store comes before the later ones of its thread
+  -- an event other than a store comes before the later ones of its thread
   pub in_turn : (t : ℕ) (q : Walk) (x y : Event) → IsThread code log t q → Contains q.events x → Contains q.events y → is_store x.kind ≡ false
       → x.step < y.step → place code log w t x < place code log w t y
   in_turn t q x y there i j none less =
       (lawful.lawful.meets (Own t)).own x y (q, there, i) (q, there, j) less (kept_by ops.buffered (is_store x.kind) _ none)
 
-  -- such an event comes before a position exactly where it is done
+  -- such an event comes before a position exactly if it is done
   pub went_before : (p : ℕ) (h : List Deed) (t : ℕ) (q : Walk) (x : Event) → HasGone setting nodes w p h → IsThread code log t q
       → Contains q.events x → is_store x.kind ≡ false → x.step < steps_in h q.name → place code log w t x < p
   went_before p h t q x gone there i none done =

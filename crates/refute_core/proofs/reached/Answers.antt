@@ -10,7 +10,7 @@ use Rattle.refute_core.proofs.Backwards.{AreSwept, hints_at, swept_begin, swept_
 use Rattle.refute_core.proofs.Passes.{hints_within, some_hints}
 use Rattle.refute_core.proofs.reached.Goals as goal
 
--- there are as many as the derivation uses
+-- the number of hints is that of the added clauses used
 many : (hints : List (Bor (List ℕ))) (lines own : List Line) → map (λ h. h.now) hints ≡ hints_used lines → lines ≡ own
     → length hints ≡ length (hints_used own)
 many hints lines own e is = sym (length-map hints (λ h. h.now)) ∙ ap length e ∙ ap (λ ls. length (hints_used ls)) is

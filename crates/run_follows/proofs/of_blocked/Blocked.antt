@@ -1,4 +1,4 @@
--- What blocks a thread that can't do what it asks next.
+-- What blocks a thread that can't do its next request.
 use Rattle.std.proofs.Common.{◌≡◌, ◌↔◌, ◌∙◌, inl, inr, ℕ, ◌+◌, ◌==◌, Bool, true, not, ◌&&◌, ◌||◌, IsSome, List, Option, Some, None}
 use Rattle.std.proofs.Common.{refl, sym, ap, ap₂, subst}
 use Rattle.std.specs.Prelude.{is_none}
@@ -50,14 +50,14 @@ module _ (buffered : Bool) (bound : Binding) (code : Code) (h : List Deed) (n : 
         → MayFollow buffered bound code h (Did n (steps_in h n) r (taken_in buffered code h n r) other)
     follows r other asks may is = record { asks = asks; number = refl; may = may; takes = refl; other_is = is }
 
-    -- what the others let be met may be done
+    -- a request that the other threads allow may be done
     let_follows : (r : Request) → asks_next code h n ≡ Some r → NoStepFollows buffered bound code h n → is_let_in h n r ≡ true → ⊥
     let_follows r asks none may =
         let allowed : is_allowed_in buffered h n r ≡ true =
         ap₂ (λ e l. (not (drains_first r) || e) && l) drained may ∙ ap (λ b. b && true) (or-true (not (drains_first r))) in
         none (steps_in h n) r (taken_in buffered code h n r) (other_of r) (follows r (other_of r) asks (may_do_is r ∙ allowed) (other_is r))
 
-    -- a signal may wake who waits, or nobody where nobody does
+    -- a signal may wake a waiter, or no thread if none waits
     signal_follows : (c : ℕ) → asks_next code h n ≡ Some (WakeOne c) → NoStepFollows buffered bound code h n → ⊥
     signal_follows c asks none =
         elim (cases_Bool (set.len (waiting_in h c) == 0)) [
@@ -81,7 +81,7 @@ module _ (buffered : Bool) (bound : Binding) (code : Code) (h : List Deed) (n : 
     blocked_by Silent asks none = absurd (let_follows Silent asks none refl)
     blocked_by r asks none = absurd (let_follows r asks none refl)
 
-  -- what is blocked can't be done
+  -- a blocked request can't be done
   not_let : (r : Request) → IsBlockedIn h n r → is_let_in h n r ≡ true → ⊥
   not_let (Acquire m) owned free = not_free (owner_in h m) owned free
   not_let (EndWait c m) (inl asleep) may =

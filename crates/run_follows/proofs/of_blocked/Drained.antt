@@ -1,4 +1,4 @@
--- Where nothing may come after a history, no store is pending.
+-- If no deed may follow a history, no store is pending.
 use Rattle.std.proofs.Common.{◌≡◌, ◌∙◌, inl, inr, Bool, true, false, List, ◌∷◌, ◌++◌, Some, refl, ap}
 use Rattle.std.proofs.lemmas.Bool.{false≢true}
 use Rattle.tc_base.specs.Names.{Name}
@@ -21,7 +21,7 @@ use Rattle.run_follows.specs.Follow.{NothingFollows}
 use Rattle.run_follows.specs.blocked.Stuck.{HasDrained, AllDrained}
 
 module _ (bound : Binding) (code : Code) (h : List Deed) (named : Named h) (n : Name) where
-  -- with buffers the oldest store may drain, without them none is issued
+  -- with buffers the oldest store may drain, and without them none is issued
   drained_by : (buffered : Bool) → Rises (pending_issues buffered h n) → NothingFollows buffered bound code h → HasDrained buffered h n
   drained_by false rises none = (stores_have_drained false h n).1 (λ has. absurd (false≢true has))
   drained_by true rises none =

@@ -1,4 +1,4 @@
--- Nothing may come after a history exactly where each thread that hasn't exited is blocked.
+-- No deed may follow a history exactly if each thread that hasn't exited is blocked.
 use Rattle.std.proofs.Common.{◌≡◌, ◌↔◌, ◌∙◌, List, Some, sym, ap}
 use Rattle.std.specs.Prelude.{option_map, option_and_then}
 use Rattle.std.proofs.lemmas.Bool.{false≢true}
@@ -29,7 +29,7 @@ module _ {B : Type 0} (machine : Machine B) (ms : List Move) (s : State B) (lead
   tells : Tells ops model bound laws code s h
   tells = told ops model bound laws code ms s leads
 
-  -- a thread that hasn't exited asks something next
+  -- a thread that hasn't exited has a next request
   all_blocked : NothingFollows ops.buffered bound code h → AllDrained ops.buffered h → (n : Name) → IsLeftIn h n → IsBlockedNext code h n
   all_blocked none drained n left =
       let l = left_there machine s h tells n left in
@@ -42,7 +42,7 @@ module _ {B : Type 0} (machine : Machine B) (ms : List Move) (s : State B) (lead
         blocked = (step_is_blocked ops.buffered bound code h n _ asks (drained n)).0 (λ k r took other m. none (Did n k r took other) m);
       }
 
-  -- and one that asks something hasn't exited
+  -- a thread with a next request hasn't exited
   no_deed : AllDrained ops.buffered h → AllAreBlocked code h → (d : Deed) → MayFollow ops.buffered bound code h d → ⊥
   no_deed drained blocked (Did n k r took other) m =
       let x = asker machine s h n r tells m.asks in

@@ -26,7 +26,7 @@ cell_asked code r c within is = absurd (none-some c is)
 module _ {B : Type 0} (machine : Machine B) where
   open machine use {ops, model, bound, laws, code, lawful}
 
-  -- what a thread asks next is there
+  -- the next request of a thread names a cell in memory
   pub next_within : (h : List Deed) (n : Name) (r : Request) → AllFollow ops.buffered bound code h
       → asks_next code h n ≡ Some r → AsksOf code r
   next_within h n r all asks =

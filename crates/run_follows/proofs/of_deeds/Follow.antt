@@ -1,4 +1,4 @@
--- The first of deeds that follow.
+-- Any first part of deeds that follow follows too.
 use Rattle.std.proofs.Common.{◌∙◌, Bool, List, ◌∷◌, ◌++◌, ap, append_assoc}
 use Rattle.tc_code.specs.Code.{Code}
 use Rattle.store_buffers.specs.Pending.{Binding}

@@ -1,4 +1,4 @@
--- Who waits, and who owns a mutex.
+-- Waiters and owners of mutexes.
 use Rattle.std.proofs.Common.{◌≡◌, ◌↔◌, ◌∙◌, inl, inr, ℕ, ◌==◌, true, false, List, Option, Some, None, refl, sym, ap}
 use Rattle.std.specs.FinSet as set
 use Rattle.std.proofs.lemmas.Bool.{true≢false, cases_Bool, eqb-true}
@@ -21,7 +21,7 @@ nobody_waits h c = (
       ],
 )
 
--- who isn't there isn't the owner
+-- an owner that isn't any thread is none
 none_of : (o : Option Name) → ((n : Name) → o ≡ Some n → ⊥) → o ≡ None
 none_of None none = refl
 none_of (Some n) none = absurd (none n refl)

@@ -1,4 +1,4 @@
--- Thread, step and kind name a deed, and a drain is that of a store that was issued.
+-- A deed is named by thread, step and kind, and a drain is of a store that was issued.
 use Rattle.std.proofs.Common.{◌≡◌, ◌∙◌, ◌⊎◌, inl, inr, ℕ, ◌+◌, ◌<◌, ◌≤◌, ℤ, Bool, true, false, not, ◌||◌, ◌&&◌, cond, IsTrue}
 use Rattle.std.proofs.Common.{List, [], ◌∷◌, ◌++◌, Option, Some, refl, sym, ap, ap₂, subst, arith}
 use Rattle.std.specs.List.{filter_map}
@@ -32,7 +32,7 @@ use Rattle.run_history.proofs.of_pending.Buffers.{BuffersAre, keeps_buffers, ope
 use Rattle.run_history.proofs.of_pending.In.{In, in_at, in_split, from_filter, from_mapped}
 use Rattle.run_history.proofs.Frame.{Keeps, holds_after}
 
--- a place in a list with one more at the end: the last, or one before
+-- a place in a list with one element appended: the last place, or an earlier one
 pub record IsBefore {A : Type 0} (xs : List A) (x : A) (older : List A) (e : A) (newer : List A) : Type 0 where
   pub rest : List A
   pub ends : newer ≡ rest ++ x ∷ []
@@ -105,7 +105,8 @@ is_issued b h n x e is what =
       pending = not-true _ kept.1;
     }
 
--- what is told of deeds by their names
+-- steps are numbered below their thread's count, deeds have different names, and drains are of
+-- stores
 pub record Named (h : List Deed) : Type 0 where
   pub below : (older newer : List Deed) (q : Name) (k : ℕ) (r : Request) (v : ℤ) (o : Option Name) → h ≡ older ++ Did q k r v o ∷ newer → k < steps_in h q
   pub apart : AllApart h
@@ -116,7 +117,7 @@ drained_at h older newer q k c v is =
     ap (λ g. has_drained g q k) is ∙ list_any-append (drains q k) older (Drained q k c v ∷ newer)
     ∙ ap₂ (λ x y. has_drained older q k || (x && y || has_drained newer q k)) (same_self q q refl) (eq-eqb k k refl) ∙ or-true (has_drained older q k)
 
--- where the name of one more deed is new, all stay apart
+-- deeds stay apart if the appended one has a new name
 apart_push : (h : List Deed) (x : Deed) → AllApart h → ((older newer : List Deed) (d : Deed) → h ≡ older ++ d ∷ newer → name_of d ≡ name_of x → ⊥)
     → AllApart (h ++ x ∷ [])
 apart_push h x apart fresh older newer between d e is same_name =
@@ -154,7 +155,7 @@ named_did h n k r v o last a = record {
         omega (arith, at_n, last, ap (λ x. x.number) same_name)
     fresh older newer (Drained q j c w) is same_name = false≢true (sym (ap (λ x. x.is_drain) same_name))
 
--- the store of a drain is issued
+-- the store of this drain was issued
 abbrev Issued_of : List Deed → Deed → Type 0
 Issued_of h (Drained n k c v) = IsIssuedIn h n k c v
 Issued_of h (Did n k r v o) = ⊥
@@ -207,7 +208,7 @@ module _ {B : Type 0} (ops : BufferOps B) (model : Model) (bound : Binding) (law
       let out = laws.drain_stands t.buffer ps form some.older some.store some.newer st some.drains in
       let split = split_at (pending_issues ops.buffered h n) some.older (Store some.store) some.newer some.drains.there in
       subst (λ d. Named (h ++ d ∷ []))
-      (sym (deed_is ops model bound laws code s (machine.drained ops s n t form) h n t form here refl some.older some.store some.newer some.drains.is_free out
+      (sym (deed_is ops model bound laws code s (machine.state_after_drain ops s n t form) h n t form here refl some.older some.store some.newer some.drains.is_free out
       a.buffers split))
       (named_drained h n split.at.number some.store
       (is_issued ops.buffered h n split.at some.store (subst (In split.at) (sym split.there) (in_at split.older split.at split.newer)) split.what) a.named)

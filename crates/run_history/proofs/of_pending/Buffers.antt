@@ -1,4 +1,4 @@
--- What is in a thread's buffer is told by the history: what it issued and hasn't drained.
+-- The history determines a thread's buffer: the stores that it issued and hasn't drained.
 use Rattle.std.proofs.Common.{◌≡◌, ◌≢◌, ◌∙◌, inl, inr, ℕ, ◌+◌, ◌<◌, ◌≤◌, ◌==◌, ℤ, pos, Bool, true, false, not, ◌||◌, ◌&&◌, cond, IsTrue}
 use Rattle.std.proofs.Common.{List, [], ◌∷◌, ◌++◌, Option, Some, None, refl, sym, ap, ap₂, subst, arith, append-nil, if◌then◌else◌}
 use Rattle.std.specs.List.{filter, filter_map, cons_option}
@@ -18,7 +18,7 @@ use Rattle.tc_base.specs.declared.request.Request.TheVariants.{Silent, Write, Ba
 use Rattle.tc_code.specs.declared.instr.Instr.{Instr}
 use Rattle.tc_code.specs.declared.instr.Instr.TheVariants.{Signal}
 use Rattle.tc_code.specs.Code.{Code}
-use Rattle.tc_code.specs.Step.{perform, born, woken, opening}
+use Rattle.tc_code.specs.Step.{perform, born, state_after_wake, opening}
 use Rattle.tc_code.specs.Step as machine
 use Rattle.tc_code.specs.Run.{IsReached}
 use Rattle.run_laws.proofs.Names.{same_self, same_other, is_same, same_or_apart, get_put_cases}
@@ -26,7 +26,7 @@ use Rattle.store_buffers.specs.Pending.{Pending, Store, Bar as barred, Binding, 
 use Rattle.store_buffers.specs.Laws.{Laws, TakesOut}
 use Rattle.store_buffers.specs.helpers.Lists.{store_last, bar_last}
 use Rattle.run_history.specs.History.{Deed, Did, Drained, Issue, same, issue_of, drains, has_drained, pending_issues, pending, oldest_to}
-use Rattle.run_history.specs.History.{drained, taken, created_by}
+use Rattle.run_history.specs.History.{drained, value_taken, created_by}
 use Rattle.run_history.specs.Told.{is_step_of, steps_in}
 use Rattle.run_history.proofs.of_pending.Issues.{AllBelow, Rises, below_more, none_below_zero, rises_push, rises_filter}
 use Rattle.run_history.proofs.of_pending.Issues.{filter-twice, isnt, taken_out, whats, SplitAt, split_at, oldest_is}
@@ -49,7 +49,7 @@ module _ (buffered : Bool) where
   abbrev undrained : List Deed → Name → Issue → Bool
   undrained h q i = not (has_drained h q i.number)
 
-  -- what is pending after a step: also what it issues
+  -- a step adds what it issues to what is pending
   pending-did : (h : List Deed) (n q : Name) (k : ℕ) (r : Request) (v : ℤ) (o : Option Name)
       → pending_issues buffered (h ++ Did n k r v o ∷ []) q
       ≡ pending_issues buffered h q ++ filter (undrained h q) (cons_option (issue_of buffered q (Did n k r v o)) [])
@@ -74,7 +74,7 @@ module _ (buffered : Bool) where
   never true x = refl
   never false x = refl
 
-  -- a step of another thread issues nothing of this one
+  -- a step of another thread adds nothing to what this thread issued
   issue-other : (n q : Name) (k : ℕ) (r : Request) (v : ℤ) (o : Option Name) → q ≢ n → issue_of buffered q (Did n k r v o) ≡ None
   issue-other n q k (Write c w) v o other =
       let i : Issue = record { number = k; what = Store (record { cell = c; value = w }) } in
@@ -84,7 +84,7 @@ module _ (buffered : Bool) where
   issue-other n q k Silent v o other = refl
   issue-other n q k r v o other = refl
 
-  -- what is pending after a drain: no longer what it drained
+  -- a drain removes its store from what is pending
   pending-drained : (h : List Deed) (n q : Name) (k c : ℕ) (v : ℤ) → q ≡ n
       → pending_issues buffered (h ++ Drained n k c v ∷ []) q ≡ filter (isnt k) (pending_issues buffered h q)
   pending-drained h n q k c v e =
@@ -104,7 +104,7 @@ module _ (buffered : Bool) where
       ∙ filter_agree (undrained (h ++ Drained n k c v ∷ []) q) (undrained h q)
       (λ i. ap not (drained-drained h n q k i.number c v ∙ ap (λ b. has_drained h q i.number || (b && i.number == k)) (same_other q n other) ∙ or-false _)) _
 
--- the numbers of what a history tells of a buffer
+-- the numbers of pending issues rise, and they and the drained ones are below the thread's count
 pub record NumbersAre (buffered : Bool) (h : List Deed) (q : Name) : Type 0 where
   pub rises : Rises (pending_issues buffered h q)
   pub below : AllBelow (steps_in h q) (pending_issues buffered h q)
@@ -119,13 +119,13 @@ numbers_stay buffered h g q is more drained a = record {
 }
 
 module _ {B : Type 0} (ops : BufferOps B) (model : Model) (bound : Binding) (laws : Laws ops model bound) (code : Code) where
-  -- what is told of buffers
+  -- the history determines the buffer of each thread
   pub record BuffersAre (s : State B) (h : List Deed) : Type 0 where
     pub threads : ThreadsAre ops code s h
     pub stands : (q : Name) (t : Thread B) → fin.get s.threads q ≡ Some t → Stands ops t.buffer (pending ops.buffered h q)
     pub numbers : (q : Name) → NumbersAre ops.buffered h q
 
-  -- what a step of a thread issues, and what that makes of its buffer
+  -- what a step of a thread issues, and the buffer after it
   data Issues (b : B) (ps : List Pending) (r : Request) (k : ℕ) (o : Option Issue) : Type 0 where
     Nothing : o ≡ None → buffer_by ops code b r ≡ b → Issues b ps r k o
     Something : (p : Pending) → o ≡ Some (record { number = k; what = p }) → Stands ops (buffer_by ops code b r) (ps ++ p ∷ []) → Issues b ps r k o
@@ -243,7 +243,7 @@ module _ {B : Type 0} (ops : BufferOps B) (model : Model) (bound : Binding) (law
         numbers = numbers_after;
       }
 
-  -- a drain takes out what the model's drain takes
+  -- a drain removes the store that the model's drain takes
   module _ (s u : State B) (h : List Deed) (n : Name) (t : Thread B) (form : Option ℕ) (here : fin.get s.threads n ≡ Some t)
       (is : u.threads ≡ fin.insert s.threads n (record t { buffer = (ops.drain t.buffer form).rest })) (older : List Pending) (e : Entry) (newer : List Pending)
       (free : waits bound older e.cell ≡ false) (out : TakesOut ops t.buffer form older e newer) (a : BuffersAre s h)
@@ -328,25 +328,25 @@ module _ {B : Type 0} (ops : BufferOps B) (model : Model) (bound : Binding) (law
 
   drain_keeps : (s : State B) (h : List Deed) (n : Name) (t : Thread B) (form : Option ℕ) → fin.get s.threads n ≡ Some t
       → IsTrue (ops.may_drain t.buffer form) → BuffersAre s h
-      → BuffersAre (machine.drained ops s n t form) (h ++ drained ops code h n (ops.drain t.buffer form).entry ∷ [])
+      → BuffersAre (machine.state_after_drain ops s n t form) (h ++ drained ops code h n (ops.drain t.buffer form).entry ∷ [])
   drain_keeps s h n t form here may a =
       let ps = pending ops.buffered h n in
       let some = laws.may_drain_stands t.buffer ps form (a.stands n t here) may in
       let out = laws.drain_stands t.buffer ps form some.older some.store some.newer (a.stands n t here) some.drains in
-      buffers_flushed s (machine.drained ops s n t form) h n t form here refl some.older some.store some.newer some.drains.is_free out a
+      buffers_flushed s (machine.state_after_drain ops s n t form) h n t form here refl some.older some.store some.newer some.drains.is_free out a
       (split_at (pending_issues ops.buffered h n) some.older (Store some.store) some.newer some.drains.there)
 
   pub keeps_buffers : Keeps ops code BuffersAre
   keeps_buffers = record {
     ran = λ s h n t i r reached _ here _ asks _ a.
         let u = perform ops code s n t i r in
-        let v = taken ops code s t r in
+        let v = value_taken ops code s t r in
         let o = created_by ops code n t.local r in
         let is = performed_threads ops code s n t i r in
         buffers_by s u h n t i r v o reached here is a
         (threads_by ops code s u h n t i r v o reached here asks is (makes_what ops code n t.local t.local.steps r v) a.threads);
     waked = λ s h n w t c reached _ here _ _ _ a.
-        let u = woken ops s n w t c in
+        let u = state_after_wake ops s n w t c in
         buffers_by s u h n t (Signal c) (WakeOne c) (pos 0) (Some w) reached here refl a
         (threads_by ops code s u h n t (Signal c) (WakeOne c) (pos 0) (Some w) reached here refl refl refl a.threads);
     flushed = λ s h n t form _ _ here may a. drain_keeps s h n t form here may a;

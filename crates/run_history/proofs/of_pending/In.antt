@@ -1,4 +1,4 @@
--- What is in a list.
+-- Elements of lists.
 use Rattle.std.proofs.Common.{◌≡◌, ◌∙◌, ◌⊎◌, inl, inr, Bool, true, false, ◌||◌, cond, List, [], ◌∷◌, ◌++◌, Option, Some, None, refl, sym, ap, subst}
 use Rattle.std.specs.List.{All, filter, filter_map, cons_option, list_any}
 use Rattle.std.proofs.Math.Bool.{or-true}
@@ -28,7 +28,7 @@ in_right y (x ∷ xs) ys i = inr (in_right y xs ys i)
 pub in_at : {A : Type 0} (older : List A) (y : A) (newer : List A) → In y (older ++ y ∷ newer)
 in_at older y newer = in_right y older (y ∷ newer) (inl refl)
 
--- where something stands in a list
+-- the place of an element in a list
 pub record StoodAt {A : Type 0} (xs : List A) (x : A) : Type 0 where
   pub older : List A
   pub newer : List A
@@ -40,7 +40,7 @@ in_split y (x ∷ xs) (inl e) = record { older = []; newer = xs; there = ap (λ 
 in_split y (x ∷ xs) (inr i) =
     let s = in_split y xs i in record { older = x ∷ s.older; newer = s.newer; there = ap (λ zs. x ∷ zs) s.there }
 
--- what all of a list are, one that is in it is
+-- a property of all elements of a list holds for each one
 pub all_in : {A : Type 0} (P : A → Type 0) (xs : List A) (y : A) → All P xs → In y xs → P y
 all_in P [] y all i = absurd i
 all_in P (x ∷ xs) y all (inl e) = subst P e (All-head P x xs all)
@@ -54,7 +54,7 @@ in_first : {A : Type 0} (x : A) (ys : List A) (b : Bool) → b ≡ true → In x
 in_first x ys true e = inl refl
 in_first x ys false e = absurd (false≢true e)
 
--- what passes a test is in what it leaves
+-- an element that passes a test is in the filtered list
 pub in_filter : {A : Type 0} (p : A → Bool) (y : A) (xs : List A) → In y xs → p y ≡ true → In y (filter p xs)
 in_filter p y [] i e = absurd i
 in_filter p y (x ∷ xs) (inl same) e =
@@ -84,7 +84,7 @@ in_mapped f d c (x ∷ xs) (inl same) e =
     subst (λ o. In c (cons_option o (filter_map f xs))) (sym (ap f same ∙ e)) (inl refl)
 in_mapped f d c (x ∷ xs) (inr i) e = in_consed c (f x) (filter_map f xs) (in_mapped f d c xs i e)
 
--- what a map gives of something in the list
+-- the element from which a map gives a value of the list
 pub record IsFrom {A C : Type 0} (f : A → Option C) (c : C) (xs : List A) : Type 0 where
   pub of : A
   pub there : In of xs
@@ -103,7 +103,7 @@ pub from_mapped : {A C : Type 0} (f : A → Option C) (c : C) (xs : List A) → 
 from_mapped f c [] i = absurd i
 from_mapped f c (x ∷ xs) i = from_consed f c x xs (from_mapped f c xs) (f x) refl i
 
--- what passes a test, where something does
+-- an element that passes a test
 pub record Passes {A : Type 0} (p : A → Bool) (xs : List A) : Type 0 where
   pub one : A
   pub there : In one xs
@@ -129,7 +129,7 @@ apart_behind x h apart older newer between d e is = apart (x ∷ older) newer be
 not_again : (x : Deed) (h : List Deed) (e : Deed) → AllApart (x ∷ h) → In e h → name_of x ≡ name_of e → ⊥
 not_again x h e apart i named = let s = in_split e h i in apart [] s.newer s.older x e (ap (λ g. x ∷ g) s.there) named
 
--- where deeds are apart, one name is of one deed
+-- deeds that are apart have different names
 pub one_of_name : (h : List Deed) (d e : Deed) → AllApart h → In d h → In e h → name_of d ≡ name_of e → d ≡ e
 one_of_name [] d e apart i j named = absurd i
 one_of_name (x ∷ h) d e apart (inl p) (inl q) named = sym p ∙ q

@@ -1,4 +1,4 @@
--- What a thread has put into its buffer, by the numbers of its steps.
+-- What a thread has issued, by the numbers of its steps.
 use Rattle.std.proofs.Common.{◌≡◌, ◌≢◌, ◌∙◌, ℕ, ◌<◌, ◌≤◌, ◌==◌, Bool, true, false, not, ◌&&◌, cond, List, [], ◌∷◌, ◌++◌}
 use Rattle.std.proofs.Common.{refl, sym, ap, ap₂, arith, if◌then◌else◌}
 use Rattle.std.specs.Prelude.{map}
@@ -40,7 +40,7 @@ rises_filter p (i ∷ is) r =
     by_bool (λ c. Rises (cond c (i ∷ filter p is) (filter p is))) (p i)
     (All-filter p (λ j. i.number < j.number) is r.0, rises_filter p is r.1) (rises_filter p is r.1)
 
--- two tests, one after the other
+-- filtering twice is filtering by both tests
 filter-twice_by : {X : Type 0} (p q : X → Bool) (x : X) (xs : List X) (b c : Bool) → p x ≡ b → q x ≡ c
     → cond (b && c) (x ∷ filter q (filter p xs)) (filter q (filter p xs)) ≡ filter q (cond b (x ∷ filter p xs) (filter p xs))
 filter-twice_by p q x xs true c e f = ap (λ b. cond b (x ∷ filter q (filter p xs)) (filter q (filter p xs))) (sym f)
@@ -53,7 +53,7 @@ filter-twice p q r (x ∷ xs) is =
     ∙ ap (λ ys. cond (p x && q x) (x ∷ ys) ys) (filter-twice p q r xs is)
     ∙ filter-twice_by p q x xs (p x) (q x) refl refl
 
--- whether it has another number
+-- whether an issue has another number
 abbrev pub isnt : ℕ → Issue → Bool
 isnt k i = not (i.number == k)
 
@@ -65,7 +65,7 @@ others_stay k (i ∷ is) a =
     ap (λ b. cond (not b) (i ∷ filter (isnt k) is) (filter (isnt k) is)) (ne_eqb i.number k other)
     ∙ ap (λ ys. i ∷ ys) (others_stay k is (All-tail (λ j. k < j.number) i is a))
 
--- where numbers rise, one of them is there once
+-- with rising numbers, each number occurs once
 pub taken_out : (older : List Issue) (x : Issue) (newer : List Issue) → Rises (older ++ x ∷ newer)
     → filter (isnt x.number) (older ++ x ∷ newer) ≡ older ++ newer
 taken_out [] x newer r =
@@ -80,7 +80,7 @@ taken_out (i ∷ older) x newer r =
 abbrev pub whats : List Issue → List Pending
 whats is = map (λ i. i.what) is
 
--- where a list of pending stores and bars is split, so is what made it
+-- a split of the list of pending stores and bars, and the same split of the issues
 pub record SplitAt (is : List Issue) (ps : List Pending) (p : Pending) (qs : List Pending) : Type 0 where
   pub older : List Issue
   pub at : Issue
@@ -90,7 +90,7 @@ pub record SplitAt (is : List Issue) (ps : List Pending) (p : Pending) (qs : Lis
   pub what : at.what ≡ p
   pub newers : whats newer ≡ qs
 
--- one more before those that are split
+-- the split with one more issue in front
 split_behind : (i : Issue) (is : List Issue) (q : Pending) (ps : List Pending) (p : Pending) (qs : List Pending) → i.what ≡ q → SplitAt is ps p qs
     → SplitAt (i ∷ is) (q ∷ ps) p qs
 split_behind i is q ps p qs first s = record {
@@ -111,7 +111,7 @@ split_at (i ∷ is) (q ∷ ps) p qs e =
     let rest : whats is ≡ ps ++ p ∷ qs = cc in
     split_behind i is q ps p qs first (split_at is ps p qs rest)
 
--- what a store to a cell needn't wait for is no store to the cell
+-- a store to a cell has to wait for each older store to the same cell
 not_to_by : (bound : Binding) (barred : Bool) → ((b : Bool) → bound true b ≡ true) → (c : Bool) → bound c barred ≡ false → c ≡ false
 not_to_by bound barred same true e = absurd (false≢true (sym e ∙ same barred))
 not_to_by bound barred same false e = refl
@@ -122,7 +122,7 @@ not_to bound same (Store e) ps c free =
     let both = or_parts _ _ free in (not_to_by bound (has_bar ps) same (e.cell == c) both.0, both.1)
 not_to bound same Bar ps c free = (refl, free)
 
--- so the oldest store to its cell is one that needn't wait
+-- a store that needn't wait is the oldest to its cell
 pub oldest_is : (bound : Binding) → ((b : Bool) → bound true b ≡ true) → (older : List Issue) (x : Issue) (newer : List Issue) (e : Entry) → x.what ≡ Store e
     → waits bound (whats older) e.cell ≡ false → oldest_to e.cell (older ++ x ∷ newer) ≡ x.number
 oldest_is bound same [] x newer e is free =

@@ -1,4 +1,4 @@
--- What a thread has pending, by what it issued and what has drained.
+-- The pending stores of a thread, by what it issued and what has drained.
 use Rattle.std.proofs.Common.{◌≡◌, ◌↔◌, ◌∙◌, inl, inr, ℕ, ◌==◌, ℤ, Bool, true, false, not, ◌&&◌, cond, List, [], ◌∷◌, Some, None}
 use Rattle.std.proofs.Common.{refl, sym, ap, subst}
 use Rattle.std.specs.Option.{option_or}
@@ -21,7 +21,7 @@ use Rattle.run_history.proofs.of_pending.Apart.{a_store, is_issued}
 use Rattle.run_history.proofs.of_pending.In.{In, from_filter, from_mapped}
 use Rattle.run_history.proofs.of_pending.Turns.{store_pending}
 
--- stores among what is pending
+-- if a store is in the list of issues, some store is pending
 store_by : (x : Issue) (is : List Issue) (k : ℕ) (e : Entry) → (In (a_store k e) is → is_nil (stores (whats is)) ≡ true → ⊥) → (p : Pending) → x.what ≡ p
     → In (a_store k e) (x ∷ is) → is_nil (stores (p ∷ whats is)) ≡ true → ⊥
 store_by x is k e later (Store d) what i nil = false≢true nil
@@ -41,7 +41,7 @@ no_store : (is : List Issue) → ((k : ℕ) (e : Entry) → In (a_store k e) is 
 no_store [] none = refl
 no_store (x ∷ is) none = no_store_by x is (no_store is (λ k e i. none k e (inr i))) none x.what refl
 
--- a store is issued only where there are buffers
+-- a store is issued only with buffers
 issues_by : (b : Bool) (n : Name) (d : Deed) (k : ℕ) (e : Entry) → issue_of b n d ≡ Some (a_store k e) → b ≡ true
 issues_by b n (Did q j (Write c w) took other) k e is =
     (and_parts b (same n q) (cond_some (b && same n q) (a_store j (record { cell = c; value = w })) (a_store k e) is).0).0
@@ -53,7 +53,7 @@ issues_by b n (Did q j Silent took other) k e is = absurd (none-some _ is)
 issues_by b n (Did q j r took other) k e is = absurd (none-some _ is)
 issues_by b n (Drained q j c w) k e is = absurd (none-some _ is)
 
--- no store is pending exactly where each that was issued has drained
+-- no store is pending exactly if each issued store has drained
 pub stores_have_drained : (buffered : Bool) (h : List Deed) (n : Name)
     → (is_nil (stores (pending buffered h n)) ≡ true)
     ↔ (buffered ≡ true → (k c : ℕ) (v : ℤ) → IsIssuedIn h n k c v → has_drained h n k ≡ true)
@@ -70,7 +70,7 @@ stores_have_drained buffered h n = (
       false≢true (sym of.pending ∙ all (issues_by buffered n from.of k e from.gives) k e.cell e.value of.issued)),
 )
 
--- the newest of what is pending is the last that was issued and hasn't drained
+-- the newest pending store is the last one that was issued and hasn't drained
 module _ (p : Issue → Bool) (k x : ℕ) (v : ℤ) (is : List Issue) (vs : List ℤ) (c : ℕ) (rest : newest (stores (whats (filter p is))) c ≡ last_or None vs) where
   abbrev I : Issue
   I = a_store k (record { cell = x; value = v })

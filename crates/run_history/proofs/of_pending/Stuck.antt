@@ -1,4 +1,4 @@
--- Where nothing can go on, nothing is buffered.
+-- In a stuck state nothing is buffered.
 use Rattle.std.proofs.Common.{◌≡◌, ◌∙◌, true, Some, sym, ap}
 use Rattle.std.specs.FinMap as fin
 use Rattle.std.proofs.lemmas.Bool.{false_from_ne_true}

@@ -1,4 +1,4 @@
--- Whose turn it is to drain, by what was issued and has drained.
+-- Which store drains next, by what was issued and has drained.
 use Rattle.std.proofs.Common.{◌≡◌, ◌∙◌, ◌⊎◌, inl, inr, ℕ, ◌<◌, ◌==◌, ℤ, true, false, not, ◌||◌, ◌&&◌, nat_lt, List, [], ◌∷◌, ◌++◌}
 use Rattle.std.proofs.Common.{length, Option, Some, None, refl, sym, ap, ap₂, subst, arith, if◌then◌else◌}
 use Rattle.std.specs.List.{All, filter_map}
@@ -20,7 +20,7 @@ use Rattle.run_history.proofs.of_pending.Apart.{a_store, is_issued, Named}
 use Rattle.run_history.proofs.of_pending.In.{StoodAt, Passes, In, all_in, in_append, in_left, in_right, in_at, in_split, in_filter, from_filter}
 use Rattle.run_history.proofs.of_pending.In.{in_mapped, from_mapped, any_in, in_any, one_of_name}
 
--- numbers that rise tell which is before
+-- rising numbers show which issue comes before
 rises_at : (older : List Issue) (x : Issue) (newer : List Issue) → Rises (older ++ x ∷ newer) → All (λ j. x.number < j.number) newer
 rises_at [] x newer r = r.0
 rises_at (i ∷ older) x newer r = rises_at older x newer r.1
@@ -89,7 +89,7 @@ bar_in [] y i e = absurd i
 bar_in (x ∷ is) y (inl same) e = ap (λ p. has_bar (p ∷ whats is)) (ap (λ (z : Issue). z.what) same ∙ e)
 bar_in (x ∷ is) y (inr i) e = bar_behind x.what is (bar_in is y i e)
 
--- a deed that puts in a bar
+-- a deed that issues a bar
 record IsBar (d : Deed) (n : Name) (k : ℕ) : Type 0 where
   took : ℤ
   other : Option Name
@@ -120,7 +120,7 @@ below_true a b l = grind (arith, nat_tests)
 true_below : (a b : ℕ) → nat_lt a b ≡ true → a < b
 true_below a b e = grind (arith, nat_tests)
 
--- what a deed drains
+-- a deed that drains a store
 record IsDrain (d : Deed) (n : Name) (k : ℕ) : Type 0 where
   cell : ℕ
   value : ℤ
@@ -140,7 +140,7 @@ module _ (h : List Deed) (n : Name) where
   issued_in : (k c : ℕ) (v : ℤ) → (i : IsIssuedIn h n k c v) → In (Did n k (Write c v) i.took i.other) h
   issued_in k c v i = subst (In (Did n k (Write c v) i.took i.other)) (sym i.issued) (in_at i.before _ i.after)
 
-  -- what was issued and hasn't drained is pending
+  -- a store that was issued and hasn't drained is pending
   pub store_pending : (k c : ℕ) (v : ℤ) → IsIssuedIn h n k c v → has_drained h n k ≡ false
       → In (a_store k (record { cell = c; value = v })) (pending_issues true h n)
   store_pending k c v i none =
@@ -150,7 +150,7 @@ module _ (h : List Deed) (n : Name) where
       (not_from_false _ none)
 
 module _ (h : List Deed) (n : Name) (named : Named h) (rises : Rises (pending_issues true h n)) where
-  -- a store that was issued before something is in the history
+  -- a store that was issued before a deed is in the history before it
   issued_before : (older newer : List Deed) (x : Deed) (k c : ℕ) (v : ℤ) → h ≡ older ++ x ∷ newer → (i : IsIssuedIn older n k c v)
       → In (Did n k (Write c v) i.took i.other) h
   issued_before older newer x k c v there i =
@@ -160,7 +160,7 @@ module _ (h : List Deed) (n : Name) (named : Named h) (rises : Rises (pending_is
   not_both : (k : ℕ) (v w : ℤ) (o p : Option Name) (c : ℕ) (x : ℤ) → Did n k Bar v o ≡ Did n k (Write c x) w p → ⊥
   not_both k v w o p c x e = cc
 
-  -- the store of a drain isn't a bar
+  -- no drain is of a bar
   bar_isnt : (k : ℕ) (v : ℤ) (o : Option Name) → In (Did n k Bar v o) h → (older newer : List Deed) (c : ℕ) (w : ℤ) → h ≡ older ++ Drained n k c w ∷ newer → ⊥
   bar_isnt k v o i older newer c w there =
       let from = named.stores older newer n k c w there in
@@ -183,7 +183,7 @@ module _ (h : List Deed) (n : Name) (named : Named h) (rises : Rises (pending_is
       (in_mapped (issue_of true n) (Did n k Bar v o) (a_bar k) h i (ap (λ b. if b then Some (a_bar k) else None) (same_self n n refl)))
       (not_from_false _ (bar_stays k v o i))
 
-  -- where two of what is pending stand, a bar stands between them where the thread put one in between their steps
+  -- two pending stores have a bar between them if the thread issued one between their steps
   module _ (o₁ : List Issue) (j d : ℕ) (w : ℤ) (o₂ : List Issue) (k c : ℕ) (v : ℤ) (newer : List Issue)
       (split : pending_issues true h n ≡ (o₁ ++ a_store j (record { cell = d; value = w }) ∷ o₂) ++ a_store k (record { cell = c; value = v }) ∷ newer) where
     abbrev J : Issue
@@ -232,7 +232,7 @@ module _ (h : List Deed) (n : Name) (named : Named h) (rises : Rises (pending_is
     same_bars = both_ways (has_bar (whats o₂)) (has_bar_between h n j k) bar_between
         (λ b. let p = any_in (is_bar_between n j k) h b in between p.one p.there p.passes)
 
-  -- what waits for none of these isn't bound behind any of them
+  -- a store that waits for none of these isn't bound after any of them
   free_at : (bound : Binding) (o₁ : List Issue) (j : ℕ) (e : Entry) (o₂ : List Issue) (c : ℕ) → waits bound (whats (o₁ ++ a_store j e ∷ o₂)) c ≡ false
       → bound (e.cell == c) (has_bar (whats o₂)) ≡ false
   free_at bound [] j e o₂ c free = (or_parts _ _ free).0
@@ -242,7 +242,7 @@ module _ (h : List Deed) (n : Name) (named : Named h) (rises : Rises (pending_is
       waits_behind bound (Store e) ps c free = (or_parts _ _ free).1
       waits_behind bound barred ps c free = free
 
-  -- so a pending store that waits for no older one is the next, by the steps
+  -- a pending store that waits for no older one is next, by the steps
   pub next_by_steps : (bound : Binding) (older newer : List Issue) (k c : ℕ) (v : ℤ)
       → pending_issues true h n ≡ older ++ a_store k (record { cell = c; value = v }) ∷ newer → waits bound (whats older) c ≡ false
       → MayDrainNext bound h n k c v
@@ -261,7 +261,7 @@ module _ (h : List Deed) (n : Name) (named : Named h) (rises : Rises (pending_is
             ∙ free_at bound s.older j (record { cell = d; value = w }) s.newer c (subst (λ os. waits bound (whats os) c ≡ false) s.there free);
       }
 
-  -- and the other way round
+  -- a store that is next by the steps waits for no older one
   free_by : (bound : Binding) (c : ℕ) (older : List Issue)
       → ((o₁ : List Issue) (j : ℕ) (e : Entry) (o₂ : List Issue) → older ≡ o₁ ++ a_store j e ∷ o₂ → bound (e.cell == c) (has_bar (whats o₂)) ≡ false)
       → waits bound (whats older) c ≡ false

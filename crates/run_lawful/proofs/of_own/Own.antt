@@ -24,8 +24,7 @@ use Rattle.path_walk.specs.declared.event.EventKind.{EventKind}
 use Rattle.path_walk.specs.declared.event.EventKind.TheVariants as kind
 use Rattle.path_laws.specs.Setting.{Setting}
 use Rattle.path_laws.specs.Deeds.{kind_of}
-use Rattle.path_laws.specs.history.Along.{IsAlongPaths, IsThread}
-use Rattle.path_laws.proofs.of_history.Told.{first_along}
+use Rattle.path_laws.specs.history.Along.{IsThread, HistoryAlong, path_thread}
 use Rattle.path_laws.proofs.of_history.Walks.{walk_is}
 use Rattle.path_laws.specs.events.Done.{IsDoneIn}
 use Rattle.path_laws.proofs.of_events.Bars as bars
@@ -53,19 +52,22 @@ use Rattle.world_plan.specs.Sights.{Shows}
 use Rattle.run_lawful.specs.world.Order.{TakesPlace, IsOrderOf}
 use Rattle.run_lawful.specs.world.WorldOf.{world_in}
 use Rattle.run_lawful.proofs.of_world.Ordered.{is_order}
-use Rattle.run_lawful.proofs.of_world.Run.{fits, along, told, seen, event_is_done, all_steps}
+use Rattle.run_lawful.proofs.of_world.Run.{fits, told, seen, event_is_done, all_steps}
 use Rattle.run_lawful.proofs.of_world.Run as run
 use Rattle.run_lawful.proofs.of_world.Loads as loads
 use Rattle.run_lawful.proofs.of_world.Seen.{SeenBy, Done, Drain, shown_by, shows_step, shows_drain}
 use Rattle.run_lawful.proofs.of_world.Splits.{TwoPlaces, Before, Same, After, two_places}
 use Rattle.run_lawful.proofs.of_world.Steps.{IsDrainedAt, drained_at, steps_after, steps_ordered, step_before_drain}
 use Rattle.run_lawful.proofs.of_own.Requests.{store_writes, failure_fails, no_store, finds_empty, none_fails}
+use Rattle.path_laws.proofs.of_history.Told.{up_to}
+use Rattle.path_laws.proofs.of_history.Logged.{history_again}
+use Rattle.sym_steps.specs.Valued.{ValuedHistory}
 
 abbrev asked_of : Deed → Option EventKind
 asked_of (Did n k r v o) = kind_of r o
 asked_of _ = None
 
--- the step of an event that is done
+-- the deed that does an event
 abbrev deed_of : (g : List Deed) (n : Name) (x : Event) → IsDoneIn g n x.step x.kind → Deed
 deed_of g n x d = Did n x.step d.request d.took d.other
 
@@ -82,7 +84,7 @@ drains_itself n k c v = ap₂ (λ d e. d && e) (same_self n n refl) (eq-eqb k k 
 
 module _ {B : Type 0} (setting : Setting B) (nodes : List Node) (terms : AreTerms nodes) (moves : List Move)
     (again : Reproduces setting.ops setting.code setting.log moves) where
-  open setting use {machine, ops, bound, code, lawful, log, log_is as is}
+  open setting use {ops, bound, code, lawful, log, log_is as is}
 
   abbrev h : List Deed
   h = run.done setting moves again
@@ -99,14 +101,17 @@ module _ {B : Type 0} (setting : Setting B) (nodes : List Node) (terms : AreTerm
   abbrev w : World
   w = world_in b ps x'.symbolic h
 
-  abbrev go : IsAlongPaths b bound code log h
-  go = along setting moves again
+  abbrev all : HistoryAlong setting
+  all = history_again setting moves again
 
   ordered : IsOrderOf b ps h w
   ordered = is_order b ps x'.symbolic h (seen setting moves again)
 
   agrees : AgreesWith x'.symbolic w.loads h
   agrees = loads.agrees ops code log nodes moves again
+
+  abbrev valued : ValuedHistory setting nodes w.loads
+  valued = record { history = all; terms = terms; agrees = agrees }
 
   module _ (t : ℕ) (q : Walk) (there : IsThread code log t q) where
     doing : (x : Event) → In x q.events → IsDoneIn h q.name x.step x.kind
@@ -146,7 +151,7 @@ module _ {B : Type 0} (setting : Setting B) (nodes : List Node) (terms : AreTerm
           at = d.there ∙ ap (λ r. d.older ++ Did q.name x.step r d.took d.other ∷ d.newer) s.2;
         }
 
-    -- a store that waits takes place by its drain, or never
+    -- a store that waits takes place by its drain or never
     drained_or_never : (x : Event) → In x q.events → (b && is_store x.kind) ≡ true → IsDrainedAt h q.name x.step ⊎ (TakesPlace b ps h t x.step → ⊥)
     drained_or_never x i waits = by (has_drained h q.name x.step) refl
       where
@@ -172,7 +177,7 @@ module _ {B : Type 0} (setting : Setting B) (nodes : List Node) (terms : AreTerm
         by true e = inl (drained_at h q.name x.step e)
         by false e = inr (never e)
 
-    -- The cell of a store, as its access has it.
+    -- The cell of a store, by its access.
 
     -- the access of a store
     record HasCell (x : Event) (c : ℕ) : Type 0 where
@@ -196,7 +201,7 @@ module _ {B : Type 0} (setting : Setting B) (nodes : List Node) (terms : AreTerm
         let c = course in
         let f = fits setting moves again in
         let asked : Asked = record { cell = s.cell; takes = None; writes = Some s.value } in
-        let a = asked_access setting f nodes w.loads terms h go agrees t q c.0 there c.1 x.step asked (record {
+        let a = asked_access setting nodes w.loads valued (record { thread = path_thread t q there; course = c.0; executed = c.1 }) x.step asked (record {
           older = s.older;
           newer = s.newer;
           request = Write s.cell s.value;
@@ -206,7 +211,7 @@ module _ {B : Type 0} (setting : Setting B) (nodes : List Node) (terms : AreTerm
           asks = refl;
         }) in
         let many = all_steps setting moves again t q there in
-        let inside = event_within code log q (walk_is code log is f t q there) x i in
+        let inside = event_within code log q (walk_is code log is f (path_thread t q there)) x i in
         record {
           access = a.0;
           cell = ap (cell_of x'.symbolic t) (sym a.2)
@@ -228,9 +233,9 @@ module _ {B : Type 0} (setting : Setting B) (nodes : List Node) (terms : AreTerm
       IsFirst = IsBefore ps w t x.step t y.step
 
       abbrev follow : AllFollow b bound code h
-      follow = go.follow
+      follow = all.along.follow
 
-      -- neither waits
+      -- neither event waits
       by_steps : (b && is_store x.kind) ≡ false → (b && is_store y.kind) ≡ false → IsFirst
       by_steps x_kept y_kept =
           let dx = doing x xi in
@@ -240,7 +245,7 @@ module _ {B : Type 0} (setting : Setting B) (nodes : List Node) (terms : AreTerm
           ordered.order dx.older m.0 dy.newer (deed x dx) (deed y dy) t x.step t y.step (dy.there ∙ ap (λ g. g ++ deed y dy ∷ dy.newer) m.1)
           (shows x dx x_kept) (shows y dy y_kept)
 
-      -- the second waits
+      -- the second event waits
       by_drain : (b && is_store x.kind) ≡ false → (b && is_store y.kind) ≡ true → IsFirst
       by_drain x_kept y_waits =
           let dx = doing x xi in
@@ -258,7 +263,7 @@ module _ {B : Type 0} (setting : Setting B) (nodes : List Node) (terms : AreTerm
           stores : DrainsAreOfStores h
           stores = (told setting moves again).stores
 
-      -- the first waits and has drained where the second is done
+      -- the first event waits, and has drained when the second is done
       by_empty : (b && is_store x.kind) ≡ true → may_overtake y.kind ≡ false → IsFirst
       by_empty x_waits y_needs =
           let both = and_parts b (is_store x.kind) x_waits in
@@ -277,17 +282,16 @@ module _ {B : Type 0} (setting : Setting B) (nodes : List Node) (terms : AreTerm
           ordered.order d.older d.newer dy.newer drain (deed y dy) t x.step t y.step (dy.there ∙ ap (λ g. g ++ deed y dy ∷ dy.newer) d.there)
           (shows_drain b ps t x.step q d.cell d.value there) (shows y dy y_kept)
 
-      -- both wait, and the second is bound behind the first
+      -- both events wait, and the second is bound after the first
       same_is : (sx : IsStoreAt x) → (sy : IsStoreAt y)
           → same_cell b bound ps x'.symbolic x'.nodes w t x y ≡ (sx.cell == sy.cell)
       same_is sx sy =
-          let f = fits setting moves again in
           let cx = cell_at x xi sx in
           let cy = cell_at y yi sy in
           ap₂ (option_eq (is_same_cell x'.nodes w)) cx.cell cy.cell
           ∙ same_cell_is lawful.arrays.arrays lawful.arrays.apart x'.nodes w cx.access.cell cy.access.cell
-          (reached_sound setting f nodes w.loads terms h go agrees t cx.access cx.reached)
-          (reached_sound setting f nodes w.loads terms h go agrees t cy.access cy.reached)
+          (reached_sound setting nodes w.loads valued t cx.access cx.reached)
+          (reached_sound setting nodes w.loads valued t cy.access cy.reached)
           ∙ ap₂ (λ c d. c == d) cx.same cy.same
 
       by_bound : (b && is_store x.kind) ≡ true → (b && is_store y.kind) ≡ true
@@ -331,7 +335,7 @@ module _ {B : Type 0} (setting : Setting B) (nodes : List Node) (terms : AreTerm
                   let m = step_before_drain b bound code h follow stores q.name x.step y.step sx.older sx.newer (Write sx.cell sx.value) sx.took sx.other sx.at d less in
                   record { before = sx.older; after = m.0; took = sx.took; other = sx.other; issued = m.1 }
 
-              -- the cell of the drain is that of the store
+              -- the drain is to the cell of the store
               drained_cell : sy.cell ≡ d.cell
               drained_cell =
                   let i = stores d.older d.newer q.name y.step d.cell d.value d.there in
@@ -357,9 +361,8 @@ module _ {B : Type 0} (setting : Setting B) (nodes : List Node) (terms : AreTerm
 
               bars_told : has_bar_between d.older q.name x.step y.step ≡ not (x.bars == y.bars)
               bars_told =
-                  bars.told setting (fits setting moves again) d.older
-                  (first_along machine log d.older (Drained q.name y.step d.cell d.value ∷ d.newer)
-                  (subst (IsAlongPaths b bound code log) d.there go)) t q there x y xi yi less few
+                  bars.told setting (up_to setting all d.older (Drained q.name y.step d.cell d.value ∷ d.newer) d.there) (path_thread t q there) x y xi yi
+                  less few
 
               by : (c : Bool) → has_drained d.older q.name x.step ≡ c → IsFirst
               by true e =
@@ -386,7 +389,7 @@ module _ {B : Type 0} (setting : Setting B) (nodes : List Node) (terms : AreTerm
       keeps kept =
           kept_by (b && is_store x.kind) refl (b && is_store y.kind) refl (may_overtake y.kind) refl (is_store y.kind) refl kept
 
-    -- after the failing event nothing comes
+    -- nothing comes after the event that fails
     pub lasts : (u : ℕ) (r : Walk) → IsThread code log u r → (x f : Event) → In x q.events → In f r.events → f.kind ≡ kind.Fail → x.kind ≢ kind.Fail
         → (b && is_store x.kind) ≡ false → IsBefore ps w t x.step u f.step
     lasts u r there_too x f xi fi fails_so no_fail kept =
@@ -413,7 +416,7 @@ module _ {B : Type 0} (setting : Setting B) (nodes : List Node) (terms : AreTerm
             let gone = Did r.name f.step Fail df.took df.other in
             let there_gone : In gone dx.older =
             subst (λ g. In gone g) (sym (at ∙ ap (λ s. df.older ++ Did r.name f.step s df.took df.other ∷ between) is_fail)) (in_at df.older gone between) in
-            let none = (go.follow dx.older dx.newer (deed x dx) dx.there).0 in
+            let none = (all.along.follow dx.older dx.newer (deed x dx) dx.there).0 in
             absurd (none_fails dx.older r.name (in_mapped fails gone r.name dx.older there_gone refl) none)
 
   pub own_rule : (t : ℕ) → OwnRule b bound ps x'.symbolic x'.nodes w t

@@ -1,4 +1,4 @@
--- What requests that are events ask.
+-- The requests of events.
 use Rattle.std.proofs.Common.{◌≡◌, ◌∙◌, ℕ, ℤ, Bool, true, false, List, [], ◌∷◌, Option, Some, None, refl, sym, ap}
 use Rattle.std.specs.Prelude.{option_map, option_and_then}
 use Rattle.std.specs.FinSet as set
@@ -19,7 +19,7 @@ use Rattle.path_walk.specs.declared.event.EventKind.TheVariants as kind
 use Rattle.path_laws.specs.Deeds.{kind_of}
 use Rattle.lawful_order.specs.Memory.{is_store, may_overtake}
 
--- what an event asks, where there is one
+-- a property of the event of a request, if it is one
 abbrev if_asked : (EventKind → Bool) → Bool → Option EventKind → Bool
 if_asked p none None = none
 if_asked p none (Some k) = p k
@@ -39,7 +39,7 @@ pub store_writes : (r : Request) (other : Option Name) (asked : EventKind) → k
     → (c : ℕ) × (v : ℤ) × (r ≡ Write c v)
 store_writes r other asked asks is = is_write r other (ap (if_asked is_store false) asks ∙ is)
 
--- what fails does
+-- whether an event is the failure
 abbrev is_failure : EventKind → Bool
 is_failure kind.Fail = true
 is_failure _ = false
@@ -52,12 +52,12 @@ is_fail r other hit = absurd (false≢true hit)
 pub failure_fails : (r : Request) (other : Option Name) → kind_of r other ≡ Some kind.Fail → r ≡ Fail
 failure_fails r other asks = is_fail r other (ap (if_asked is_failure false) asks)
 
--- what overtakes no store is none
+-- an event that may not overtake stores isn't a store
 pub no_store : (k : EventKind) → may_overtake k ≡ false → is_store k ≡ false
 no_store kind.Store e = absurd (true≢false e)
 no_store k e = refl
 
--- and is done where the thread's buffer is empty
+-- an event that may not overtake stores finds its thread's buffer empty
 empty_by : (buffered : Bool) (h : List Deed) (n : Name) (r : Request) (other : Option Name) → if_asked may_overtake true (kind_of r other) ≡ false
     → may_do_in buffered h n r other ≡ true → is_nil (stores (pending buffered h n)) ≡ true
 empty_by buffered h n (WakeOne c) (Some u) e may = (and_parts (is_nil (stores (pending buffered h n))) (set.contains (waiting_in h c) u) may).0
@@ -74,7 +74,7 @@ pub finds_empty : (buffered : Bool) (h : List Deed) (n : Name) (r : Request) (ot
     → may_overtake asked ≡ false → may_do_in buffered h n r other ≡ true → is_nil (stores (pending buffered h n)) ≡ true
 finds_empty buffered h n r other asked asks is may = empty_by buffered h n r other (ap (if_asked may_overtake true) asks ∙ is) may
 
--- where none has failed no step has
+-- if no thread has failed, no step has failed
 some_last : {X : Type 0} (x : X) (xs : List X) → last_or (Some x) xs ≡ None → ⊥
 some_last x [] e = none-some x (sym e)
 some_last x (y ∷ xs) e = some_last y xs e

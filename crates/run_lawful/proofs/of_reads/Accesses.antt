@@ -14,7 +14,7 @@ use Rattle.run_history.proofs.of_pending.In.{In, in_split}
 use Rattle.path_walk.specs.Fits.{Fits}
 use Rattle.path_walk.specs.Paths.{Walk, Paths, paths_of}
 use Rattle.path_laws.specs.Setting.{Setting}
-use Rattle.path_laws.specs.history.Along.{IsAlongPaths, IsThread}
+use Rattle.path_laws.specs.history.Along.{IsThread, path_thread}
 use Rattle.path_laws.proofs.of_history.Walks.{walk_is, thread_path_at}
 use Rattle.path_laws.proofs.of_events.Events.{event_within}
 use Rattle.path_laws.proofs.of_events.Lists.{contains_in, in_contains}
@@ -34,12 +34,14 @@ use Rattle.lawful_order.specs.Whole.{IsExecutedBy, HasStep}
 use Rattle.sym_steps.specs.accesses.Asked.{IsAskedIn, IsReachedIn}
 use Rattle.sym_steps.proofs.of_accesses.Asked.{access_asked, asked_access}
 use Rattle.sym_steps.proofs.of_accesses.Reached.{same_cells, cell_begins}
-use Rattle.run_lawful.proofs.of_world.Run.{fits, along, all_steps}
+use Rattle.run_lawful.proofs.of_world.Run.{fits, all_steps}
+use Rattle.path_laws.proofs.of_history.Logged.{history_again}
+use Rattle.sym_steps.specs.Valued.{ValuedHistory}
 
 module _ {B : Type 0} (setting : Setting B) (nodes : List Node) (terms : AreTerms nodes) (moves : List Move)
     (again : Reproduces setting.ops setting.code setting.log moves) (w : World)
     (agrees : AgreesWith (found setting.code setting.log nodes).symbolic w.loads (history setting.ops setting.code moves)) where
-  open setting use {ops, bound, code, lawful, log, log_is as is}
+  open setting use {ops, code, lawful, log, log_is as is}
 
   abbrev h : List Deed
   h = history ops code moves
@@ -56,13 +58,13 @@ module _ {B : Type 0} (setting : Setting B) (nodes : List Node) (terms : AreTerm
   abbrev fit : Fits code log
   fit = fits setting moves again
 
-  abbrev go : IsAlongPaths ops.buffered bound code log h
-  go = along setting moves again
+  abbrev valued : ValuedHistory setting nodes w.loads
+  valued = record { history = history_again setting moves again; terms = terms; agrees = agrees }
 
   executed_so : IsExecutedBy paths symbolic
   executed_so = is_executed code paths nodes (record { log = log; fits = fit; are = refl })
 
-  -- each access is a step of its thread, and is done
+  -- each access is of a step of its thread
   pub access_step : (t : ℕ) (a : Access) → HasAccess symbolic t a → HasStep paths t a.step
   access_step t a has = let x = executed_so.accesses t a has in (x.0, x.1, x.2)
 
@@ -70,7 +72,7 @@ module _ {B : Type 0} (setting : Setting B) (nodes : List Node) (terms : AreTerm
   access_walk t a has =
       let x = executed_so.accesses t a has in
       let q = x.1.0 in
-      let inside = event_within code log q (walk_is code log is fit t q x.1.1) x.0 (in_contains x.0 q.events x.1.2) in
+      let inside = event_within code log q (walk_is code log is fit (path_thread t q x.1.1)) x.0 (in_contains x.0 q.events x.1.2) in
       let many = all_steps setting moves again t q x.1.1 in
       (q, x.1.1, omega (arith, inside, many, x.2))
 
@@ -78,15 +80,15 @@ module _ {B : Type 0} (setting : Setting B) (nodes : List Node) (terms : AreTerm
   access_reached t a has =
       let q = access_walk t a has in record { walk = q.0; course = has.0; thread = q.1; there = has.1; among = has.2; reached = inl q.2 }
 
-  -- two of them are to one cell where they ask for one, and this has at the start what memory has there
+  -- two accesses are to one cell if their requests are, and its initial value is that of memory
   pub same_cell : (t : ℕ) (a : Access) (u : ℕ) (b : Access) → HasAccess symbolic t a → HasAccess symbolic u b
       → is_same_cell later w a.cell b.cell ≡ (cell_by later w.loads a.cell == cell_by later w.loads b.cell)
   same_cell t a u b has and =
-      same_cells setting fit nodes w terms h go agrees t u a b (access_reached t a has) (access_reached u b and)
+      same_cells setting nodes w valued t u a b (access_reached t a has) (access_reached u b and)
 
   pub starts_so : (t : ℕ) (a : Access) → HasAccess symbolic t a
       → value_at_start code a.cell ≡ slice_index_or code.memory (cell_by later w.loads a.cell) (pos 0)
-  starts_so t a has = cell_begins setting fit nodes w.loads terms h go agrees t a (access_reached t a has)
+  starts_so t a has = cell_begins setting nodes w.loads valued t a (access_reached t a has)
 
   -- the deed of an access
   pub record HasDeed (t : ℕ) (a : Access) : Type 0 where
@@ -100,11 +102,11 @@ module _ {B : Type 0} (setting : Setting B) (nodes : List Node) (terms : AreTerm
       record {
         walk = q.0;
         thread = q.1;
-        asked = access_asked setting fit nodes w.loads terms h go agrees t q.0 has.0 q.1 has.1 a
+        asked = access_asked setting nodes w.loads valued (record { thread = path_thread t q.0 q.1; course = has.0; executed = has.1 }) a
             (in_contains a has.0.accesses has.2) q.2;
       }
 
-  -- and the access of a deed
+  -- the access of a deed's request
   pub access_of : (t : ℕ) (q : Walk) (k : ℕ) (r : Request) (took : ℤ) (other : Option Name) (x : Asked) → IsThread code log t q
       → In (Did q.name k r took other) h → asked_by took r ≡ x ∷ []
       → (a : Access) × HasAccess symbolic t a × (a.step ≡ k) × (asked_in later w.loads a ≡ x)
@@ -112,7 +114,7 @@ module _ {B : Type 0} (setting : Setting B) (nodes : List Node) (terms : AreTerm
       let c = course_at t q there in
       let s = in_split (Did q.name k r took other) h i in
       let d : IsAskedIn h q.name k x = record { older = s.older; newer = s.newer; request = r; took = took; other = other; there = s.there; asks = asks } in
-      let a = asked_access setting fit nodes w.loads terms h go agrees t q c.0 there c.1 k x d in
+      let a = asked_access setting nodes w.loads valued (record { thread = path_thread t q there; course = c.0; executed = c.1 }) k x d in
       (a.0, (c.0, c.1, contains_in a.0 c.0.accesses a.1), a.2, a.3)
     where
       course_at : (t : ℕ) (q : Walk) → IsThread code log t q → (c : Course) × (slice_get symbolic.threads t ≡ Some c)

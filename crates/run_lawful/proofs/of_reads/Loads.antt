@@ -1,4 +1,4 @@
--- What a load's deed takes.
+-- The value that the deed of a load takes.
 use Rattle.std.proofs.Common.{◌≡◌, ◌∙◌, ℕ, ◌&&◌, ℤ, Bool, true, false, List, [], ◌∷◌, Option, Some, None, refl, sym, ap}
 use Rattle.std.specs.Prelude.{is_some, unwrap_or}
 use Rattle.std.proofs.lemmas.Bool.{false≢true, and_parts}
@@ -21,7 +21,7 @@ use Rattle.lawful_order.specs.Memory.{is_store}
 use Rattle.sym_exec.specs.Alone.{Asked, asked_by}
 use Rattle.run_lawful.proofs.of_reads.Writes.{asking, never_waits}
 
--- a load takes place by its step
+-- a load takes place by its own step
 pub record IsLoad (b : Bool) (r : Request) (other : Option Name) : Type 0 where
   pub asked : EventKind
   pub asks : kind_of r other ≡ Some asked
@@ -35,7 +35,7 @@ load_is b (Exchange c v) took other x asks takes = record { asked = kind.Exchang
 load_is b (CompareExchange c e v) took other x asks takes = record { asked = kind.Exchange; asks = refl; kept = never_waits b }
 load_is b r took other x asks takes = absurd cc
 
--- an exchange finds its buffer empty, so that it too takes what its thread sees
+-- an exchange finds its buffer empty, so it too takes the value that its thread sees
 none_newer : (es : List Entry) (c : ℕ) (v : ℤ) → is_nil es ≡ true → unwrap_or (newest es c) v ≡ v
 none_newer [] c v nil = refl
 none_newer (e ∷ es) c v nil = absurd (false≢true nil)

@@ -1,4 +1,4 @@
--- What takes place before a deed, and what after it.
+-- What takes place before a deed and what after it.
 use Rattle.std.proofs.Common.{◌≡◌, ◌∙◌, ◌⊎◌, inl, inr, ℕ, Bool, true, false, List, ◌∷◌, ◌++◌, refl, sym, ap, subst}
 use Rattle.std.specs.List.{list_any}
 use Rattle.std.proofs.lemmas.Bool.{true≢false}
@@ -14,7 +14,7 @@ use Rattle.run_lawful.proofs.of_world.Seen.{shown, shown_is, is_shown_by}
 use Rattle.run_lawful.proofs.of_world.Splits.{TwoPlaces, Before, Same, After, two_places}
 
 module _ (buffered : Bool) (paths : Paths) where
-  -- a deed of a list by which a step takes place
+  -- a deed of this list by which a step takes place
   pub record IsShownIn (g : List Deed) (t k : ℕ) : Type 0 where
     pub deed : Deed
     pub there : In deed g
@@ -41,13 +41,13 @@ module _ (buffered : Bool) (paths : Paths) where
 
     module _ (w : World) (order : IsOrderOf buffered paths h w) (older newer : List Deed) (d : Deed) (t k : ℕ) (at : h ≡ older ++ d ∷ newer)
         (shows : Shows buffered paths d t k) where
-      -- what takes place by an older deed comes before it
+      -- a step that takes place by an older deed comes before
       pub first_before : (u j : ℕ) → IsShownIn older u j → IsBefore paths w u j t k
       first_before u j s =
           let p = in_split s.deed older s.there in
           order.order p.older p.newer newer s.deed d u j t k (at ∙ ap (λ g. g ++ d ∷ newer) p.there) s.shows shows
 
-      -- what comes before it takes place by an older deed
+      -- a step that comes before takes place by an older deed
       pub shown_before : (u j : ℕ) → HasStep paths u j → IsBefore paths w u j t k → IsShownIn older u j
       shown_before u j step before = by (two_places older d newer (y.older ++ y.first ∷ y.between) y.second y.newer (sym at ∙ y.there))
         where
@@ -62,7 +62,7 @@ module _ (buffered : Bool) (paths : Paths) where
           by (After between is rest) =
               absurd (order.once (y.older ++ y.first ∷ y.between) between newer y.second d t k (at ∙ ap (λ g. g ++ d ∷ newer) is) y.shows_second shows)
 
-      -- what takes place neither by it nor by an older deed comes after it
+      -- a step that takes place by neither this deed nor an older one comes after
       pub comes_after : (u j : ℕ) → HasStep paths u j → (IsShownIn older u j → ⊥) → (Shows buffered paths d u j → ⊥) → IsBefore paths w t k u j
       comes_after u j step none other = elim (takes_or_not u j) [
         | inl x ↦ later x (two_places older d newer x.older x.deed x.newer (sym at ∙ x.there))

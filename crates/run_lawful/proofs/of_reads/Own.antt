@@ -1,4 +1,4 @@
--- A thread's stores to one cell reach memory in order.
+-- A thread's stores to one cell drain in order.
 use Rattle.std.proofs.Common.{◌≡◌, ◌∙◌, inl, inr, ℕ, ◌<◌, ℤ, true, List, ◌∷◌, ◌++◌, Option, Some, refl, sym, ap, subst}
 use Rattle.std.specs.Prelude.{slice_get}
 use Rattle.std.proofs.lemmas.Bool.{true≢false, true_from_ne_false, eq-eqb}
@@ -38,7 +38,7 @@ module _ {B : Type 0} (ops : BufferOps B) (model : Model) (bound : Binding) (law
       true≢false (sym (ap (λ x. bound x (has_bar_between older n i j)) (eq-eqb c c refl) ∙ laws.same_cell (has_bar_between older n i j))
       ∙ next.is_free i c u issued waits less))
 
-  -- so its stores to one cell are in the order of their steps
+  -- a thread's stores to one cell take place in the order of their steps
   module _ (paths : Paths) (w : World) (order : IsOrderOf ops.buffered paths h w) where
     pub own_in_order : (t : ℕ) (q : Walk) (i j c : ℕ) (u v took taken : ℤ) (other others : Option Name) → slice_get paths.threads t ≡ Some q
         → ops.buffered ≡ true → In (Did q.name i (Write c u) took other) h → In (Did q.name j (Write c v) taken others) h → i < j

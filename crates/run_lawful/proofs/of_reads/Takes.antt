@@ -1,4 +1,4 @@
--- What the loads of a run take: the value of the last store that they see.
+-- Each load of a run takes the value of the last store that it sees.
 use Rattle.std.proofs.Common.{◌≡◌, ◌∙◌, ◌⊎◌, inl, inr, ℕ, ◌<◌, ℤ, pos, Bool, true, false, List, [], ◌∷◌, ◌++◌, Option, Some, None}
 use Rattle.std.proofs.Common.{refl, sym, ap, subst, arith, append_assoc}
 use Rattle.std.specs.Prelude.{is_some, unwrap_or, option_map, slice_index_or, IsSome}
@@ -22,8 +22,7 @@ use Rattle.run_history.proofs.of_pending.Own.{own_has_last, own_has_none}
 use Rattle.run_follows.specs.Follow.{IsNextStep, seen_in}
 use Rattle.path_walk.specs.Paths.{Walk, Paths, paths_of}
 use Rattle.path_laws.specs.Setting.{Setting}
-use Rattle.path_laws.specs.history.Along.{IsAlongPaths, IsThread, IsNameOfThread}
-use Rattle.path_laws.proofs.of_history.Told.{run_of, first_along}
+use Rattle.path_laws.specs.history.Along.{IsThread, IsNameOfThread, HistoryAlong}
 use Rattle.path_laws.proofs.of_history.Walks.{thread_named}
 use Rattle.sym_terms.specs.Terms.{AreTerms}
 use Rattle.sym_terms.specs.declared.node.Node.{Node}
@@ -38,7 +37,7 @@ use Rattle.lawful_order.specs.Whole.{HasStep}
 use Rattle.world_plan.specs.Sights.{Sight, sight_of, Shows}
 use Rattle.world_plan.proofs.Threads.{one_thread}
 use Rattle.run_lawful.specs.world.Order.{IsOrderOf}
-use Rattle.run_lawful.proofs.of_world.Run.{fits, along, told}
+use Rattle.run_lawful.proofs.of_world.Run.{told}
 use Rattle.run_lawful.proofs.of_world.Seen.{SeenBy, Done, Drain, AreTold, the_sight, seen_by, shown_by, shows_step, shows_drain}
 use Rattle.run_lawful.proofs.of_world.Steps.{steps_ordered}
 use Rattle.run_lawful.proofs.of_reads.Accesses.{access_step, same_cell, starts_so, HasDeed, deed_of, access_of, one_access}
@@ -47,6 +46,8 @@ use Rattle.run_lawful.proofs.of_reads.Order.{IsShownIn, first_before, shown_befo
 use Rattle.run_lawful.proofs.of_reads.Own.{own_in_order}
 use Rattle.run_lawful.proofs.of_reads.Writes.{last_or_none, none_gives, drain_in, in_drain, asking, entry, reached, brings_so, seen_or_waits, by_its_drain, shown_reaches}
 use Rattle.run_lawful.proofs.of_reads.Writes.{IsOfStep, of_step, writes_asked, asks_written, IsPendingStore, own_is, own_so}
+use Rattle.path_laws.proofs.of_history.Told.{its_run, up_to}
+use Rattle.path_laws.proofs.of_history.Logged.{history_again}
 
 then_before : (i j k : ℕ) → i < j → j < k → i < k
 then_before i j k first second = omega (arith, first, second)
@@ -55,7 +56,7 @@ module _ {B : Type 0} (setting : Setting B) (nodes : List Node) (terms : AreTerm
     (again : Reproduces setting.ops setting.code setting.log moves) (w : World)
     (agrees : AgreesWith (found setting.code setting.log nodes).symbolic w.loads (history setting.ops setting.code moves))
     (order : IsOrderOf setting.ops.buffered (paths_of setting.code setting.log) (history setting.ops setting.code moves) w) where
-  open setting use {machine, ops, model, bound, laws, code, log, log_is as is}
+  open setting use {ops, model, bound, laws, code, log, log_is as is}
 
   abbrev buffered : Bool
   buffered = ops.buffered
@@ -72,8 +73,8 @@ module _ {B : Type 0} (setting : Setting B) (nodes : List Node) (terms : AreTerm
   abbrev later : List Node
   later = (found code log nodes).nodes
 
-  abbrev go : IsAlongPaths buffered bound code log h
-  go = along setting moves again
+  abbrev all : HistoryAlong setting
+  all = history_again setting moves again
 
   abbrev apart : AreTold buffered h
   apart = told setting moves again
@@ -86,10 +87,6 @@ module _ {B : Type 0} (setting : Setting B) (nodes : List Node) (terms : AreTerm
 
   abbrev SeesOf : (t : ℕ) (a : Access) (u : ℕ) (y : Access) → Type 0
   SeesOf t a u y = Sees code paths symbolic later w t a u y
-
-  -- histories of the first deeds
-  along_first : (older newer : List Deed) (d : Deed) → h ≡ older ++ d ∷ newer → IsAlongPaths buffered bound code log older
-  along_first older newer d at = first_along machine log older (d ∷ newer) (subst (IsAlongPaths buffered bound code log) at go)
 
   shows_so : (t k : ℕ) (q : Walk) (d : Deed) → IsThread code log t q → SeenBy buffered q.name k d → Shows buffered paths d t k
   shows_so t k q d there (Done r took other asked is_it kind kept) =
@@ -149,7 +146,7 @@ module _ {B : Type 0} (setting : Setting B) (nodes : List Node) (terms : AreTerm
     at = d.asked.there
 
     next : IsNextStep buffered code older n k d.asked.request d.asked.took d.asked.other
-    next = (go.follow older newer deed at).1
+    next = (all.along.follow older newer deed at).1
 
     takes_some : is_some (asks a).takes ≡ true
     takes_some = let m = some_value a.takes loads in ap (λ o. is_some (option_map (λ i. slice_index_or w.loads i (pos 0)) o)) m.1
@@ -165,7 +162,7 @@ module _ {B : Type 0} (setting : Setting B) (nodes : List Node) (terms : AreTerm
     in_history : (e : Deed) → In e older → In e h
     in_history e i = subst (In e) (sym at) (in_left e older (deed ∷ newer) i)
 
-    -- an own store that waits when the load is done
+    -- a store of the same thread that waits when the load is done
     record IsWaiting (y : Access) : Type 0 where
       buffers : buffered ≡ true
       value : ℤ
@@ -184,7 +181,7 @@ module _ {B : Type 0} (setting : Setting B) (nodes : List Node) (terms : AreTerm
       in_older : In step older
       in_older =
           let s = in_split step h writing.there in
-          let b = steps_ordered buffered bound code h go.follow n y.step k s.older s.newer older newer writing.request d.asked.request writing.took d.asked.took
+          let b = steps_ordered buffered bound code h all.along.follow n y.step k s.older s.newer older newer writing.request d.asked.request writing.took d.asked.took
           writing.other d.asked.other s.there at less in
           subst (In step) (sym b.1) (in_at s.older step b.0)
 
@@ -214,7 +211,7 @@ module _ {B : Type 0} (setting : Setting B) (nodes : List Node) (terms : AreTerm
         eqb-true (cell y) c
         (sym (same_cell setting nodes terms moves again w agrees u y t a s.there has) ∙ s.cell)
 
-    -- what it sees has taken place before it, or is an own store that waits
+    -- each store that the load sees has taken place before it, or waits in the thread's own buffer
     how_seen : (u : ℕ) (y : Access) → SeesOf t a u y → IsShownIn buffered paths older u y.step ⊎ ((u ≡ t) × IsWaiting y)
     how_seen u y s = elim s.before [
       | inl before ↦
@@ -230,7 +227,7 @@ module _ {B : Type 0} (setting : Setting B) (nodes : List Node) (terms : AreTerm
     first_so : (u j : ℕ) → IsShownIn buffered paths older u j → IsBefore paths w u j t k
     first_so u j shown = first_before buffered paths h w order older newer deed t k at shows u j shown
 
-    -- The thread has stores to the cell that wait: the load takes the last of them.
+    -- If the thread has waiting stores to the cell, the load takes the last of them.
     module _ (v : ℤ) (l : IsLast (own_value buffered older n c) older v) where
       own : IsPendingStore buffered older n c v l.deed
       own = own_is buffered older n c v l.deed l.gives
@@ -257,14 +254,14 @@ module _ {B : Type 0} (setting : Setting B) (nodes : List Node) (terms : AreTerm
 
       earlier : j < k
       earlier =
-          let r = run_of machine log older (along_first older newer deed at) in
+          let r = its_run setting (up_to setting all older (deed ∷ newer) at) in
           let below = r.told.tells.deeds.named.below l.older l.newer n j (Write c v) own.took own.other older_is in
           omega (arith, below, next.number)
 
       has_step : HasStep paths t j
       has_step = subst (HasStep paths t) written.2 (access_step setting nodes terms moves again w agrees t newest written.1)
 
-      -- it takes place after the load, if it does
+      -- the waiting store doesn't take place before the load
       not_shown : IsShownIn buffered paths older t j → ⊥
       not_shown s =
           let seen = shown_by buffered paths t j q s.deed d.thread s.shows in
@@ -281,12 +278,12 @@ module _ {B : Type 0} (setting : Setting B) (nodes : List Node) (terms : AreTerm
       after : IsBefore paths w t k t j
       after = comes_after buffered paths h w order older newer deed t k at shows t j has_step not_shown other_deed
 
-      -- no own store to the cell that waits is newer
+      -- no later store of the thread to the cell waits
       none_newer : (z : Access) → IsWaiting z → j < z.step → ⊥
       none_newer z x more =
           let step = Did n z.step (Write c x.value) x.took x.other in
           let s = in_split step older x.there in
-          let follow = (along_first older newer deed at).follow in
+          let follow = (up_to setting all older (deed ∷ newer) at).along.follow in
           let b = steps_ordered buffered bound code older follow n j z.step l.older l.newer s.older s.newer (Write c v) (Write c x.value) own.took x.took
           own.other x.other older_is s.there more in
           let both : l.older ++ store ∷ l.newer ≡ l.older ++ store ∷ (b.0 ++ step ∷ s.newer) =
@@ -303,7 +300,7 @@ module _ {B : Type 0} (setting : Setting B) (nodes : List Node) (terms : AreTerm
       own_later z and x = elim (cases_order z.step j) [
         | inl same ↦ inl (one_access setting nodes terms moves again w agrees t z newest and written.1 (same ∙ sym written.2))
         | inr (inl less) ↦
-            inr (before_newest t z.step (own_in_order ops model bound laws code h go.follow apart paths w order t q z.step j c x.value v x.took own.took x.other
+            inr (before_newest t z.step (own_in_order ops model bound laws code h all.along.follow apart paths w order t q z.step j c x.value v x.took own.took x.other
             own.other d.thread own.buffers (in_history (Did n z.step (Write c x.value) x.took x.other) x.there) store_in less
             (access_step setting nodes terms moves again w agrees t z and) has_step))
         | inr (inr more) ↦ absurd (none_newer z x more)
@@ -334,7 +331,7 @@ module _ {B : Type 0} (setting : Setting B) (nodes : List Node) (terms : AreTerm
             ∙ sym (ap (λ (x : Asked). x.writes) written.3);
       }
 
-    -- It has none: the load takes what memory has.
+    -- If the thread has no waiting store to the cell, the load takes the value in memory.
     module _ (none : filter_map (own_value buffered older n c) older ≡ []) where
       in_memory : (asks a).takes ≡ Some (value_in buffered code older c)
       in_memory = takes_so ∙ ap (λ o. Some (unwrap_or o (value_in buffered code older c))) (own_has_none buffered older n c none)
@@ -348,7 +345,7 @@ module _ {B : Type 0} (setting : Setting B) (nodes : List Node) (terms : AreTerm
             (own_so buffered older n c x.value z.step x.took x.other x.buffers x.waits))
       ]
 
-      -- what it sees has brought a value to the cell
+      -- each store that the load sees has brought a value to the cell
       brought : (u : ℕ) (z : Access) → SeesOf t a u z → (x : IsShownIn buffered paths older u z.step) → (v : ℤ) × (brings buffered c x.deed ≡ Some v)
       brought u z s x =
           let p = x.shows.walk in
@@ -357,7 +354,7 @@ module _ {B : Type 0} (setting : Setting B) (nodes : List Node) (terms : AreTerm
           (in_history x.deed x.there) (seen_by buffered p.name z.step x.deed x.shows.sight) in
           (y.value, brings_so buffered c y.value x.deed (reach ∙ ap (λ i. Some (entry i y.value)) (same_so u z s)))
 
-      -- the last store that reached the cell
+      -- the load takes the value of the last store that reached the cell
       module _ (v : ℤ) (l : IsLast (brings buffered c) older v) where
         deed_in : In l.deed older
         deed_in = subst (In l.deed) (sym l.there) (in_at l.older l.deed l.newer)
@@ -371,13 +368,11 @@ module _ {B : Type 0} (setting : Setting B) (nodes : List Node) (terms : AreTerm
         thread : IsNameOfThread code log bringer.thread
         thread =
             let s = in_split writing_deed h bringer.there in
-            let r = run_of machine log h go in
-            let left = r.told.threads s.older s.newer bringer.thread bringer.step bringer.request bringer.took bringer.other s.there in
-            thread_named setting (fits setting moves again) s.older bringer.thread
-            (along_first s.older s.newer writing_deed s.there) left.there
+            let left = (its_run setting all).told.threads s.older s.newer bringer.thread bringer.step bringer.request bringer.took bringer.other s.there in
+            thread_named setting (up_to setting all s.older (writing_deed ∷ s.newer) s.there) bringer.thread left.there
 
         abbrev u : ℕ
-        u = thread.place
+        u = thread.index
 
         abbrev p : Walk
         p = thread.walk
@@ -391,13 +386,13 @@ module _ {B : Type 0} (setting : Setting B) (nodes : List Node) (terms : AreTerm
         source : (y : Access) × HasAccess symbolic u y × (y.step ≡ i) × (asks y ≡ writes_it.0)
         source =
             access_of setting nodes terms moves again w agrees u p i bringer.request bringer.took bringer.other writes_it.0
-            thread.there (subst (λ m. In (Did m i bringer.request bringer.took bringer.other) h) (sym thread.name) bringer.there) writes_it.1
+            thread.there (subst (λ m. In (Did m i bringer.request bringer.took bringer.other) h) (sym thread.name_is) bringer.there) writes_it.1
 
         abbrev latest : Access
         latest = source.0
 
         last_shows : Shows buffered paths l.deed u i
-        last_shows = shows_so u i p l.deed thread.there (subst (λ m. SeenBy buffered m i l.deed) (sym thread.name) bringer.seen)
+        last_shows = shows_so u i p l.deed thread.there (subst (λ m. SeenBy buffered m i l.deed) (sym thread.name_is) bringer.seen)
 
         at_last : h ≡ l.older ++ l.deed ∷ (l.newer ++ deed ∷ newer)
         at_last = at ∙ ap (λ g. g ++ deed ∷ newer) l.there ∙ append_assoc l.older (l.deed ∷ l.newer) (deed ∷ newer)
@@ -444,7 +439,7 @@ module _ {B : Type 0} (setting : Setting B) (nodes : List Node) (terms : AreTerm
               ∙ sym (ap (λ (g : Asked). g.writes) source.3 ∙ writes_it.3);
         }
 
-      -- none has
+      -- if no store reached the cell, the load takes its initial value
       from_start : filter_map (brings buffered c) older ≡ [] → TakesFirst code paths symbolic later w t a
       from_start nothing = record {
         sees = λ u z s. let e = shown u z s in let v = brought u z s e in none_gives (brings buffered c) older e.deed v.0 nothing e.there v.1;
@@ -458,11 +453,11 @@ module _ {B : Type 0} (setting : Setting B) (nodes : List Node) (terms : AreTerm
       | inl none ↦
           elim (last_or_none (brings buffered c) older) [
             | inl nothing ↦ inr (from_start none nothing)
-            | inr l ↦ inl ((thread none l.0 l.1).place, (source none l.0 l.1).0, from_memory none l.0 l.1)
+            | inr l ↦ inl ((thread none l.0 l.1).index, (source none l.0 l.1).0, from_memory none l.0 l.1)
           ]
       | inr l ↦ inl (t, (written l.0 l.1).0, from_store l.0 l.1)
     ]
 
-  -- so each load meets its rule
+  -- each load meets its rule
   pub read_rule : (t line : ℕ) → ReadRule code paths symbolic later w t line
   read_rule t line = record { loads = λ a x has loads event step at_line. takes_last t a has loads }

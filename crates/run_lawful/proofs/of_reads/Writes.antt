@@ -1,4 +1,4 @@
--- What deeds bring to cells, and which steps they are or drain.
+-- The values that deeds bring to cells, and the steps of these deeds.
 use Rattle.std.proofs.Common.{◌≡◌, ◌∙◌, ◌⊎◌, inl, inr, ℕ, ◌==◌, ◌&&◌, ℤ, Bool, true, false, not, List, [], ◌∷◌, Option, Some, None, refl, sym, ap, ap₂, subst}
 use Rattle.std.specs.Prelude.{option_and_then, if◌then◌else◌}
 use Rattle.std.specs.List.{filter_map, cons_option}
@@ -25,7 +25,7 @@ use Rattle.run_lawful.proofs.of_world.Steps.{drained_at}
 
 -- Lists of deeds.
 
--- the last deed that gives something, or none does
+-- some deed is the last that gives something, or no deed gives anything
 pub last_or_none : {X : Type 0} (f : Deed → Option X) (h : List Deed) → (filter_map f h ≡ []) ⊎ ((x : X) × IsLast f h x)
 last_or_none f [] = inl refl
 last_or_none {X} f (d ∷ h) = by (last_or_none f h)
@@ -40,11 +40,11 @@ last_or_none {X} f (d ∷ h) = by (last_or_none f h)
         let z = l.1 in
         inr (l.0, record { older = d ∷ z.older; deed = z.deed; newer = z.newer; there = ap (λ g. d ∷ g) z.there; gives = z.gives; last = z.last })
 
--- where nothing is given, no deed gives
+-- if a list of given values is empty, no deed gives anything
 pub none_gives : {X : Type 0} (f : Deed → Option X) (h : List Deed) (d : Deed) (x : X) → filter_map f h ≡ [] → In d h → f d ≡ Some x → ⊥
 none_gives f h d x none i gives = subst (In x) none (in_mapped f d x h i gives)
 
--- the store of a step has drained exactly where its drain is there
+-- the store of a step has drained exactly if its drain is in the history
 pub drain_in : (h : List Deed) (n : Name) (k : ℕ) → has_drained h n k ≡ true → (c : ℕ) × (v : ℤ) × In (Drained n k c v) h
 drain_in h n k has =
     let d = drained_at h n k has in
@@ -54,7 +54,7 @@ drain_in h n k has =
 pub in_drain : (h : List Deed) (n : Name) (k c : ℕ) (v : ℤ) → In (Drained n k c v) h → has_drained h n k ≡ true
 in_drain h n k c v i = in_any (drains n k) (Drained n k c v) h i (ap₂ (λ x y. x && y) (same_self n n refl) (eq-eqb k k refl))
 
--- What deeds write.
+-- The writes of deeds.
 
 abbrev pub asking : ℕ → Option ℤ → Option ℤ → Asked
 asking c takes writes = record { cell = c; takes = takes; writes = writes }
@@ -62,7 +62,7 @@ asking c takes writes = record { cell = c; takes = takes; writes = writes }
 abbrev pub entry : ℕ → ℤ → Entry
 entry c v = record { cell = c; value = v }
 
--- what reaches memory brings a value to its cell
+-- a write that reaches memory brings its value to its cell
 brought : (c : ℕ) (v : ℤ) (o : Option Entry) → option_and_then (λ (e : Entry). if e.cell == c then Some e.value else None) o ≡ Some v → o ≡ Some (entry c v)
 brought c v None is = absurd (none-some v is)
 brought c v (Some e) is =
@@ -80,7 +80,7 @@ abbrev pub kind_by : Deed → Option EventKind
 kind_by (Did n k r took other) = kind_of r other
 kind_by (Drained n k c v) = None
 
--- without buffers each write of a step reaches memory at once; a store waits where there are buffers, and all else doesn't
+-- a write that reaches memory at once isn't put into a buffer
 unbuffered : (b : Bool) (x e : Entry) → (if b then None else Some x) ≡ Some e → (b ≡ false) × (x ≡ e)
 unbuffered true x e is = absurd (none-some e is)
 unbuffered false x e is = (refl, same_Some x e is)
@@ -104,7 +104,7 @@ seen_or_waits b n k (CompareExchange c x v) took other e is = inl (Done (Compare
 seen_or_waits b n k r took other e is = absurd (none-some e is)
 
 module _ (b : Bool) (h : List Deed) (told : AreTold b h) where
-  -- by what a step that writes takes place, that reaches memory
+  -- the deed by which a writing step takes place reaches memory
   pub shown_reaches : (n : Name) (k : ℕ) (r : Request) (took : ℤ) (other : Option Name) (e : Entry) (d : Deed) → In (Did n k r took other) h
       → reaches false (Did n k r took other) ≡ Some e → In d h → SeenBy b n k d → reaches b d ≡ Some e
   shown_reaches n k r took other e d i writes j (Done s v o asked is asks kept) =
@@ -134,7 +134,7 @@ module _ (b : Bool) (h : List Deed) (told : AreTold b h) where
       let same : a ≡ c = ap (λ (x : Entry). x.cell) (same_Some (entry a e) (entry c v) (ap (reaches false) one)) in
       (e, is ∙ ap (λ x. Drained n k x e) same)
 
-  -- what reaches memory is a step that writes, or the drain of one
+  -- a deed that reaches memory is a step that writes, or the drain of one
   pub record IsOfStep (d : Deed) (e : Entry) : Type 0 where
     pub thread : Name
     pub step : ℕ
@@ -195,7 +195,7 @@ module _ (b : Bool) (h : List Deed) (told : AreTold b h) where
         seen = Drain c v refl;
       }
 
--- What a step writes is what it asks.
+-- A step writes what its request asks.
 written : (c : ℕ) (w : ℤ) (takes : Option ℤ) (x : Asked) (v : ℤ) → asking c takes (Some w) ≡ x → x.writes ≡ Some v → Some (entry c w) ≡ Some (entry x.cell v)
 written c w takes x v same is =
     ap (λ (e : Entry). Some e) (ap₂ entry (ap (λ (y : Asked). y.cell) same) (same_Some w v (ap (λ (y : Asked). y.writes) same ∙ is)))
@@ -223,7 +223,7 @@ asks_written n k (Exchange c v) took other e is = asked_so c v (Some took) e is
 asks_written n k (CompareExchange c x v) took other e is = asked_so c (replaced took x v) (Some took) e is
 asks_written n k r took other e is = absurd (none-some e is)
 
--- What a thread has pending.
+-- The pending stores of a thread.
 pub record IsPendingStore (b : Bool) (h : List Deed) (n : Name) (c : ℕ) (v : ℤ) (d : Deed) : Type 0 where
   pub step : ℕ
   pub took : ℤ

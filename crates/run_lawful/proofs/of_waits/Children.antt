@@ -1,4 +1,4 @@
--- Threads begin after their create, and a join comes after the thread's end.
+-- A thread begins after its create, and a join comes after the thread's exit.
 use Rattle.std.proofs.Common.{◌≡◌, ◌∙◌, ℕ, ◌+◌, ℤ, Bool, true, false, not, ◌||◌, List, ◌∷◌, ◌++◌, Option, Some, None, refl, sym, ap, subst}
 use Rattle.std.specs.Prelude.{is_some, option_and_then}
 use Rattle.std.specs.FinMap as fin
@@ -25,8 +25,8 @@ use Rattle.path_walk.specs.Paths.{Walk, Paths}
 use Rattle.path_walk.specs.declared.event.Event.{Event}
 use Rattle.path_walk.specs.declared.event.Link.{Link}
 use Rattle.path_laws.specs.Setting.{Setting}
-use Rattle.path_laws.specs.history.Along.{IsThread}
-use Rattle.path_laws.proofs.of_history.Told.{run_of, reached, thread_of}
+use Rattle.path_laws.specs.history.Along.{IsThread, PathThread, path_thread}
+use Rattle.path_laws.proofs.of_history.Told.{reached, thread_of, its_run}
 use Rattle.path_laws.proofs.of_events.Events.{event_done}
 use Rattle.path_laws.proofs.of_events.Lists.{in_contains}
 use Rattle.path_laws.proofs.of_events.Waiters.{exits_told}
@@ -37,11 +37,11 @@ use Rattle.lawful_order.specs.Memory.{is_store}
 use Rattle.world_plan.specs.Sights.{Shows}
 use Rattle.run_lawful.proofs.of_world.Seen.{shows_step}
 use Rattle.run_lawful.proofs.of_world.Splits.{TwoPlaces, Before, Same, After, two_places}
-use Rattle.run_lawful.proofs.of_waits.Deeds.{none_pending, creates_are, joins_are, h, paths, w, fit, ordered, left_at, event_deed}
+use Rattle.run_lawful.proofs.of_waits.Deeds.{none_pending, creates_are, joins_are, h, paths, w, fit, ordered, left_at, event_deed, before_deed}
 use Rattle.run_lawful.proofs.of_waits.First.{comes_first}
 use Rattle.run_lawful.proofs.of_waits.Parts.{created_by, joined_by, start_is, await_is}
 
--- a thread stays one
+-- a thread of a history is one of a longer history
 thread_stays : (xs ys : List Deed) (n : Name) → is_thread_in xs n ≡ true → is_thread_in (xs ++ ys) n ≡ true
 thread_stays xs ys n there =
     ap (λ os. same n main || list_any (same n) os) (filter_map-append creates xs ys)
@@ -67,7 +67,7 @@ module _ {B : Type 0} (setting : Setting B) (nodes : List Node) (moves : List Mo
 
   module _ (t : ℕ) (p : Walk) (l : Link) (there : IsThread code log t p) (c : ℕ) (q : Walk) (child_there : IsThread code log c q)
       (name : q.name ≡ child p.name l.child) where
-    -- the deed that creates a child, which is no thread before
+    -- the deed that creates a child, which isn't a thread before
     record CreateDeed : Type 0 where
       older : List Deed
       deed : Deed
@@ -87,7 +87,7 @@ module _ {B : Type 0} (setting : Setting B) (nodes : List Node) (moves : List Mo
         let number : l.child ≡ children_in d.older p.name + 1 =
         same_Some l.child (children_in d.older p.name + 1)
         (sym s.2 ∙ ap (option_and_then (last_or None)) other ∙ last_or-push None p.name (children_in d.older p.name + 1)) in
-        let r = run_of machine log d.older d.along in
+        let r = its_run setting (before_deed setting nodes moves again d) in
         let parent = thread_of machine log d.older r p.name d.left.there in
         let count = children_are ops code r.state d.older p.name r.told.tells.deeds.buffers.threads parent.0 parent.1 in
         let none = child_is_new ops code r.state p.name parent.0 (reached machine log d.older r) parent.1 in
@@ -103,7 +103,7 @@ module _ {B : Type 0} (setting : Setting B) (nodes : List Node) (moves : List Mo
         }
 
     module _ (d : CreateDeed) where
-      -- so the child's steps come after it
+      -- the child's steps come after its create
       step_after : (older newer : List Deed) (k : ℕ) (r : Request) (took : ℤ) (other : Option Name) → done ≡ older ++ Did q.name k r took other ∷ newer
           → (between : List Deed) × (older ≡ d.older ++ d.deed ∷ between)
       step_after older newer k r took other at =
@@ -125,7 +125,7 @@ module _ {B : Type 0} (setting : Setting B) (nodes : List Node) (moves : List Mo
           let b = step_after e.older e.newer x.step e.request e.took e.other e.at in
           comes_first setting nodes moves again c q x child_there i e t l.step d.older b.0 d.deed d.shows b.1
 
-    -- a join finds the child's exit done
+    -- a join finds that the child has exited
     joined_last : Contains p.joins l → HasExited threads (w setting nodes moves again) c t l.step
     joined_last i =
         let f = fit setting nodes moves again in
@@ -139,8 +139,10 @@ module _ {B : Type 0} (setting : Setting B) (nodes : List Node) (moves : List Mo
         ap (has_exited_in d.older) name
         ∙ (and_parts (not (drains_first (Await l.child)) || is_nil (stores (pending ops.buffered d.older p.name)))
         (has_exited_in d.older (child p.name l.child)) may).1 in
-        let x = (exits_told setting f d.older d.along c q child_there).0 gone in
-        let e = event_done setting f d.older d.along c q child_there x.0 (in_contains x.0 q.events x.1) x.3 in
+        let before = before_deed setting nodes moves again d in
+        let child_thread : PathThread code log = path_thread c q child_there in
+        let x = (exits_told setting before child_thread).0 gone in
+        let e = event_done setting before child_thread x.0 (in_contains x.0 q.events x.1) x.3 in
         let exit = Did q.name x.0.step e.request e.took e.other in
         record {
           exit = x.0;

@@ -1,4 +1,4 @@
--- What ends waits in a run.
+-- What ends the waits of a run.
 use Rattle.std.proofs.Common.{◌≡◌, ◌∙◌, inl, inr, ℕ, ◌+◌, ◌<◌, ◌==◌, ℤ, true, false, not, cond, ◌&&◌, ◌||◌, List, ◌∷◌, ◌++◌}
 use Rattle.std.proofs.Common.{Option, Some, None, refl, sym, ap, ap₂, subst, arith, append_assoc}
 use Rattle.std.specs.Prelude.{slice_get, map, option_map, unwrap_or}
@@ -29,7 +29,7 @@ use Rattle.path_walk.specs.declared.event.EventKind.{EventKind}
 use Rattle.path_walk.specs.declared.event.EventKind.TheVariants as kind
 use Rattle.path_walk.specs.declared.event.Sleep.{Sleep}
 use Rattle.path_laws.specs.Setting.{Setting}
-use Rattle.path_laws.specs.history.Along.{IsThread}
+use Rattle.path_laws.specs.history.Along.{IsThread, path_thread}
 use Rattle.path_laws.proofs.of_history.Walks.{walk_is}
 use Rattle.path_laws.proofs.of_events.Lists.{in_contains}
 use Rattle.path_laws.proofs.of_events.Sleeps.{walk_wakes}
@@ -51,13 +51,14 @@ use Rattle.run_lawful.proofs.of_world.Found.{some_found}
 use Rattle.run_lawful.proofs.of_world.Run.{seen}
 use Rattle.run_lawful.proofs.of_world.Steps.{steps_ordered}
 use Rattle.run_lawful.proofs.of_world.Splits.{TwoPlaces, Before, Same, After, two_places}
-use Rattle.run_lawful.proofs.of_waits.Deeds.{none_pending, sleeps_are, h, paths, w, fit, ordered, goes_along, EventDeed, event_deed}
+use Rattle.run_lawful.proofs.of_waits.Deeds.{none_pending, sleeps_are, h, paths, w, fit, ordered, EventDeed, event_deed, before_deed}
 use Rattle.run_lawful.proofs.of_waits.First.{comes_first}
 use Rattle.run_lawful.proofs.of_waits.Parts.{signal_is, broadcast_is}
 use Rattle.run_lawful.proofs.of_waits.Sleeping.{gives_none, none_ends, SleepDeed, sleep_deed, waits_while, none_between, EndsAt, ends_at, ended_by, waiter_rests}
 use Rattle.run_lawful.proofs.of_waits.Sleeps.{one_sleep}
+use Rattle.path_laws.proofs.of_history.Logged.{history_again}
 
--- a signal that wakes a thread ends its wait, and a broadcast that of all
+-- a signal that wakes a thread ends its wait, and a broadcast ends all waits on its condition
 wakes_it : (c : ℕ) (n q : Name) (k : ℕ) (took : ℤ) → ends_wait c n (Did q k (WakeOne c) took (Some n)) ≡ true
 wakes_it c n q k took = ap₂ (λ a b. option_map_or not (cond (a && b) (Some false) None) false) (eq-eqb c c refl) (same_self n n refl)
 
@@ -96,7 +97,7 @@ module _ {B : Type 0} (setting : Setting B) (nodes : List Node) (moves : List Mo
   abbrev Ends : (x : Of Sleep) → Its_deed x → ℕ → Type 0
   Ends x d g = EndsAt setting nodes moves again x d g
 
-  -- what ends a sleep comes when it has begun
+  -- what ends a sleep comes after the sleep begins
   ends_later : (s g : ℕ) (x : Of Sleep) → slice_get (all_sleeps threads) s ≡ Some x → ender_of world s ≡ Some g
       → place_of threads world x.thread x.it.step < position world g
   ends_later s g x at ended =
@@ -106,7 +107,7 @@ module _ {B : Type 0} (setting : Setting B) (nodes : List Node) (moves : List Mo
       ((ordered setting nodes moves again).order d.older e.between e.newer d.deed e.ender x.thread x.it.step e.thread e.step
       e.at d.shows e.shows)
 
-  -- something that ended a sleep before a deed
+  -- a deed that ended a sleep before another deed
   record EndedBefore (x : Of Sleep) (d : Its_deed x) (between : List Deed) : Type 0 where
     number : ℕ
     thread : ℕ
@@ -153,7 +154,7 @@ module _ {B : Type 0} (setting : Setting B) (nodes : List Node) (moves : List Mo
         shows = e.shows;
       }
 
-  -- before a thread wakes something has ended its sleep
+  -- something has ended a sleep before its thread wakes
   wakes_after : (s k : ℕ) (x : Of Sleep) → slice_get (all_sleeps threads) s ≡ Some x → x.it.wake ≡ Some k
       → (g : ℕ) × (ender_of world s ≡ Some g) × (position world g < place_of threads world x.thread k)
   wakes_after s k x at wake = first later.0 (later.1 ∙ ap (λ y. d.older ++ y ∷ later.0) (sym d.begins))
@@ -166,7 +167,7 @@ module _ {B : Type 0} (setting : Setting B) (nodes : List Node) (moves : List Mo
 
       next : k ≡ x.it.step + 1
       next =
-          (walk_wakes code lawful log d.walk (walk_is code log is f x.thread d.walk d.there) x.it (in_contains x.it d.walk.sleeps d.among)).next k wake
+          (walk_wakes code lawful log d.walk (walk_is code log is f (path_thread x.thread d.walk d.there)) x.it (in_contains x.it d.walk.sleeps d.among)).next k wake
 
       y : (y : Event) × Contains d.walk.events y × (y.step ≡ k)
       y =
@@ -197,18 +198,18 @@ module _ {B : Type 0} (setting : Setting B) (nodes : List Node) (moves : List Mo
             | inr none ↦
                 let silent = none_between setting nodes moves again x d between (waking ∷ e.newer) split none in
                 let waits = waits_while setting nodes moves again x d between (waking ∷ e.newer) split silent in
-                absurd (waiter_rests setting nodes moves again e.older n x.it.condition y.0.step e.request e.took e.other
-                e.along d.within (ap (λ g. set.contains (waiting_in g x.it.condition) n) front ∙ waits) e.may)
+                absurd (waiter_rests setting nodes moves again (before_deed setting nodes moves again e) n x.it.condition y.0.step e.request e.took e.other
+                d.within (ap (λ g. set.contains (waiting_in g x.it.condition) n) front ∙ waits) e.may)
           ]
 
-      -- it wakes after its sleep
+      -- the wake comes after the sleep
       later : (between : List Deed) × (e.older ≡ d.older ++ Did n x.it.step (BeginWait x.it.condition x.it.mutex) d.took d.other ∷ between)
       later =
-          steps_ordered ops.buffered bound code done (goes_along setting nodes moves again).follow n x.it.step y.0.step d.older
+          steps_ordered ops.buffered bound code done (history_again setting moves again).along.follow n x.it.step y.0.step d.older
           d.newer e.older e.newer (BeginWait x.it.condition x.it.mutex) e.request d.took e.took d.other e.other
           (d.at ∙ ap (λ z. d.older ++ z ∷ d.newer) d.begins) e.at (omega (arith, y.2, next))
 
-  -- the deed of the event of a number
+  -- the deed of the event with this number
   record Signalled (g : ℕ) (e : Of Event) : Type 0 where
     walk : Walk
     there : IsThread code log e.thread walk
@@ -231,7 +232,7 @@ module _ {B : Type 0} (setting : Setting B) (nodes : List Node) (moves : List Mo
         shows = d.shows (none_pending ops.buffered e.it.kind quiet);
       }
 
-  -- a sleep that waits when an event comes: it has begun, and nothing has ended it
+  -- a sleep that has begun before an event, and that no deed before it ended
   record WaitsAt (x : Of Sleep) (d : Its_deed x) (older : List Deed) : Type 0 where
     between : List Deed
     front : older ≡ d.older ++ d.deed ∷ between
@@ -246,7 +247,7 @@ module _ {B : Type 0} (setting : Setting B) (nodes : List Node) (moves : List Mo
     abbrev signal : Deed
     signal = Did v.walk.name e.it.step v.deed.request v.deed.took v.deed.other
 
-    -- the place of the event
+    -- the place of an event among all deeds
     its_place : position world g ≡ place_of threads world e.thread e.it.step
     its_place = ap (position world) (sym v.number)
 
@@ -286,7 +287,7 @@ module _ {B : Type 0} (setting : Setting B) (nodes : List Node) (moves : List Mo
             e.it.step x.thread x.it.step (d.at ∙ ap (λ xs. xs ++ d.deed ∷ d.newer) back) v.shows d.shows in
             absurd (omega (arith, less, its_place, waits.begun))
 
-    -- a broadcast ends it
+    -- a broadcast ends the sleep
     broadcast_ends : v.deed.request ≡ WakeAll x.it.condition → ender_of world s ≡ Some g
     broadcast_ends asked =
         let a = waits_at in
@@ -316,18 +317,18 @@ module _ {B : Type 0} (setting : Setting B) (nodes : List Node) (moves : List Mo
         may : (o : Option Name) → v.deed.other ≡ o → may_do_in ops.buffered v.deed.older v.walk.name (WakeOne c) o ≡ true
         may o other = ap₂ (may_do_in ops.buffered v.deed.older v.walk.name) (sym asked) (sym other) ∙ v.deed.may.may
 
-        -- it wakes the thread of a sleep
+        -- the signal wakes the thread of a sleep
         woken : (u : Name) → v.deed.other ≡ Some u → set.contains (waiting_in v.deed.older c) u ≡ true → (r : ℕ) × (ender_of world r ≡ Some g)
         woken u other waits =
-            let p = waiter_named setting f v.deed.older c u v.deed.along waits in
-            let a = (sleep_waits setting f v.deed.older v.deed.along p.place p.walk p.there c).0
-            (ap (λ m. set.contains (waiting_in v.deed.older c) m) p.name ∙ waits) in
-            let z : Of Sleep = record { thread = p.place; it = a.0 } in
+            let before = before_deed setting nodes moves again v.deed in
+            let p = waiter_named setting before c u waits in
+            let a = (sleep_waits setting before p.thread c).0 (ap (λ m. set.contains (waiting_in v.deed.older c) m) p.name_is ∙ waits) in
+            let z : Of Sleep = record { thread = p.index; it = a.0 } in
             let r = place_of_one (all_sleeps threads) z
-            (in_all_from (λ (q : Walk). q.sleeps) 0 p.place p.place threads.threads p.walk a.0 p.there a.1 (omega arith)) in
+            (in_all_from (λ (q : Walk). q.sleeps) 0 p.index p.index threads.threads p.walk a.0 p.there a.1 (omega arith)) in
             let begun = Did p.walk.name a.0.step (BeginWait a.0.condition a.0.mutex) a.3.took a.3.other in
             let is_it : signal ≡ Did v.walk.name e.it.step (WakeOne a.0.condition) v.deed.took (Some p.walk.name) =
-            ap₂ (λ q o. Did v.walk.name e.it.step q v.deed.took o) (asked ∙ ap WakeOne (sym a.2)) (other ∙ ap (λ m. Some m) (sym p.name)) in (
+            ap₂ (λ q o. Did v.walk.name e.it.step q v.deed.took o) (asked ∙ ap WakeOne (sym a.2)) (other ∙ ap (λ m. Some m) (sym p.name_is)) in (
               r.0,
               ended_is ops.buffered threads done (seen setting moves again) (found code log nodes).symbolic r.0 g z r.1
                   (record {
@@ -359,9 +360,9 @@ module _ {B : Type 0} (setting : Setting B) (nodes : List Node) (moves : List Mo
             woken u other
             (and_parts (is_nil (stores (pending ops.buffered v.deed.older v.walk.name))) (set.contains (waiting_in v.deed.older c) u) (may (Some u) other)).1
 
-  -- A signal ends one sleep at most.
+  -- A signal ends at most one sleep.
 
-  -- where a sleep begins after another of its thread, something has ended the first between
+  -- if a sleep begins after another of its thread, a deed between has ended the first
   not_between : (x y : Of Sleep) (d : Its_deed x) (b : Its_deed y) (between mid later newer : List Deed) → done ≡ (d.older ++ d.deed ∷ between) ++ newer
       → list_any (ends_wait x.it.condition d.walk.name) between ≡ false → between ≡ mid ++ b.deed ∷ later → x.it.condition ≡ y.it.condition
       → d.walk.name ≡ b.walk.name → ⊥
@@ -377,7 +378,7 @@ module _ {B : Type 0} (setting : Setting B) (nodes : List Node) (moves : List Mo
     abbrev the_signal : Deed
     the_signal = Did v.walk.name e.it.step v.deed.request v.deed.took v.deed.other
 
-    -- what ends a sleep is that signal
+    -- the deed that ends the sleep is this signal
     record EndsBySignal (x : Of Sleep) (d : Its_deed x) (a : Ends x d g) : Type 0 where
       front : d.older ++ d.deed ∷ a.between ≡ v.deed.older
       condition : x.it.condition ≡ c
@@ -422,7 +423,7 @@ module _ {B : Type 0} (setting : Setting B) (nodes : List Node) (moves : List Mo
             absurd ((ordered setting nodes moves again).once v.deed.older between a.newer the_signal a.ender e.thread
             e.it.step (a.at ∙ ap (λ xs. xs ++ a.ender ∷ a.newer) back) v.shows its_shows)
 
-    -- two sleeps that it ends are one
+    -- two sleeps that the signal ends are the same
     one_step_of : (x y : Of Sleep) (d : Its_deed x) (b : Its_deed y) → Ends x d g → Ends y b g → (x.thread ≡ y.thread) × (x.it.step ≡ y.it.step)
     one_step_of x y d b ends also = (thread, by (two_places d.older d.deed d.newer b.older b.deed b.newer (sym d.at ∙ b.at)))
       where
@@ -441,7 +442,7 @@ module _ {B : Type 0} (setting : Setting B) (nodes : List Node) (moves : List Mo
         condition : x.it.condition ≡ y.it.condition
         condition = first.condition ∙ sym second.condition
 
-        -- what is between the first and the signal
+        -- the deeds between the first sleep and the signal
         rest_is : (o : List Deed) (z : Deed) (between mid : List Deed) (p : List Deed) (y : Deed) (later : List Deed) → o ++ z ∷ between ≡ p ++ y ∷ later
             → p ≡ o ++ z ∷ mid → between ≡ mid ++ y ∷ later
         rest_is o z between mid p y later whole front =
@@ -460,7 +461,7 @@ module _ {B : Type 0} (setting : Setting B) (nodes : List Node) (moves : List Mo
             absurd (not_between y x b d also.between mid ends.between (also.ender ∷ also.newer) also.at also.lasts
             (rest_is b.older b.deed also.between mid d.older d.deed ends.between (second.front ∙ sym first.front) back) (sym condition) (sym name))
 
-  -- the sleep of an ender
+  -- a number with an ender is that of a sleep
   sleep_there : (s g : ℕ) → ender_of world s ≡ Some g → (x : Of Sleep) × (slice_get (all_sleeps threads) s ≡ Some x)
   sleep_there s g ended =
       elim (slice_get_cases (all_sleeps threads) s).1 [

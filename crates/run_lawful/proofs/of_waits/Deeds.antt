@@ -1,5 +1,5 @@
 -- The events of paths as the deeds of a run that reproduces their log.
-use Rattle.std.proofs.Common.{◌≡◌, ◌∙◌, ℕ, ℤ, Bool, true, false, ◌&&◌, List, ◌∷◌, ◌++◌, Option, Some, sym, ap, subst}
+use Rattle.std.proofs.Common.{◌≡◌, ◌∙◌, ℕ, ℤ, Bool, true, false, ◌&&◌, List, ◌∷◌, ◌++◌, Option, Some, sym, ap}
 use Rattle.std.specs.List.{Contains}
 use Rattle.std.proofs.Math.Bool.{and-false}
 use Rattle.run_log.specs.Logs.{Log}
@@ -18,8 +18,7 @@ use Rattle.path_walk.specs.declared.event.Event.{Event}
 use Rattle.path_walk.specs.declared.event.EventKind.{EventKind}
 use Rattle.path_laws.specs.Setting.{Setting}
 use Rattle.path_laws.specs.Deeds.{kind_of}
-use Rattle.path_laws.specs.history.Along.{IsAlongPaths, IsThread}
-use Rattle.path_laws.proofs.of_history.Told.{reproduced_run, first_along}
+use Rattle.path_laws.specs.history.Along.{IsThread, HistoryAlong, path_thread}
 use Rattle.path_laws.proofs.of_history.Walks.{walk_is}
 use Rattle.path_laws.proofs.of_events.Lists.{in_contains}
 use Rattle.sym_laws.specs.Valued.{found}
@@ -31,30 +30,32 @@ use Rattle.run_lawful.specs.world.Order.{IsOrderOf}
 use Rattle.run_lawful.specs.world.WorldOf.{is_step, world_in}
 use Rattle.run_lawful.proofs.of_world.Enders.{step_named}
 use Rattle.run_lawful.proofs.of_world.Ordered.{is_order}
-use Rattle.run_lawful.proofs.of_world.Run.{fits, along, event_is_done, seen}
+use Rattle.run_lawful.proofs.of_world.Run.{fits, event_is_done, seen}
 use Rattle.run_lawful.proofs.of_world.Seen.{shows_step}
 use Rattle.run_lawful.proofs.of_world.Splits.{TwoPlaces, Before, Same, After, two_places}
+use Rattle.path_laws.proofs.of_history.Told.{its_run, up_to}
+use Rattle.path_laws.proofs.of_history.Logged.{history_again}
 
--- what isn't a store isn't kept in a buffer
+-- an event that isn't a store isn't kept in a buffer
 pub none_pending : (buffered : Bool) (k : EventKind) → is_store k ≡ false → (buffered && is_store k) ≡ false
 none_pending buffered k quiet = ap (λ b. buffered && b) quiet ∙ and-false buffered
 
--- a thread of the paths, by what its walk has
+-- a thread of the paths, with its walk
 module _ (code : Code) (log : Log) (is : is_log log ≡ true) (fits : Fits code log) (t : ℕ) (q : Walk) (there : IsThread code log t q) where
   pub creates_are : q.creates ≡ creates_of q.events
-  creates_are = let k = walk_is code log is fits t q there in ap (λ (v : Walk). v.creates) k.is ∙ sym (ap (λ (v : Walk). creates_of v.events) k.is)
+  creates_are = let k = walk_is code log is fits (path_thread t q there) in ap (λ (v : Walk). v.creates) k.is ∙ sym (ap (λ (v : Walk). creates_of v.events) k.is)
 
   pub joins_are : q.joins ≡ joins_of q.events
-  joins_are = let k = walk_is code log is fits t q there in ap (λ (v : Walk). v.joins) k.is ∙ sym (ap (λ (v : Walk). joins_of v.events) k.is)
+  joins_are = let k = walk_is code log is fits (path_thread t q there) in ap (λ (v : Walk). v.joins) k.is ∙ sym (ap (λ (v : Walk). joins_of v.events) k.is)
 
   pub regions_are : q.regions ≡ regions_of q.events
-  regions_are = (walk_is code log is fits t q there).regions
+  regions_are = (walk_is code log is fits (path_thread t q there)).regions
 
   pub sleeps_are : q.sleeps ≡ sleeps_of q.events
-  sleeps_are = (walk_is code log is fits t q there).sleeps
+  sleeps_are = (walk_is code log is fits (path_thread t q there)).sleeps
 
 module _ {B : Type 0} (setting : Setting B) (nodes : List Node) (moves : List Move) (again : Reproduces setting.ops setting.code setting.log moves) where
-  open setting use {machine, ops, bound, code, log}
+  open setting use {ops, bound, code, log}
 
   abbrev pub h : List Deed
   h = history ops code moves
@@ -71,20 +72,15 @@ module _ {B : Type 0} (setting : Setting B) (nodes : List Node) (moves : List Mo
   pub ordered : IsOrderOf ops.buffered paths h w
   ordered = is_order ops.buffered paths (found code log nodes).symbolic h (seen setting moves again)
 
-  pub goes_along : IsAlongPaths ops.buffered bound code log h
-  goes_along = along setting moves again
+  abbrev pub whole : HistoryAlong setting
+  whole = history_again setting moves again
 
-  -- the first deeds are along the paths too
-  pub begins_along : (older newer : List Deed) → h ≡ older ++ newer → IsAlongPaths ops.buffered bound code log older
-  begins_along older newer at =
-      first_along machine log older newer (subst (IsAlongPaths ops.buffered bound code log) at goes_along)
-
-  -- a step is one of a thread that is there
+  -- each step is one of an existing thread
   pub left_at : (older newer : List Deed) (n : Name) (k : ℕ) (r : Request) (took : ℤ) (other : Option Name) → h ≡ older ++ Did n k r took other ∷ newer
       → IsLeftIn older n
-  left_at older newer n k r took other at = (reproduced_run machine log moves again).told.threads older newer n k r took other at
+  left_at older newer n k r took other at = (its_run setting whole).told.threads older newer n k r took other at
 
-  -- a thread does each step once
+  -- a thread does each step only once
   pub step_once : (n : Name) (k : ℕ) (o : List Deed) (x : Deed) (u p : List Deed) (y : Deed) (m : List Deed) → h ≡ o ++ x ∷ u → h ≡ p ++ y ∷ m
       → is_step n k x ≡ true → is_step n k y ≡ true → (o ≡ p) × (x ≡ y) × (u ≡ m)
   step_once n k o x u p y m at bt one two = by (two_places o x u p y m (sym at ∙ bt))
@@ -107,10 +103,14 @@ module _ {B : Type 0} (setting : Setting B) (nodes : List Node) (moves : List Mo
     pub other : Option Name
     pub at : h ≡ older ++ Did q.name x.step request took other ∷ newer
     pub asks : kind_of request other ≡ Some x.kind
-    pub along : IsAlongPaths ops.buffered bound code log older
     pub may : MayFollow ops.buffered bound code older (Did q.name x.step request took other)
     pub left : IsLeftIn older q.name
     pub shows : (ops.buffered && is_store x.kind) ≡ false → Shows ops.buffered paths (Did q.name x.step request took other) t x.step
+
+  -- and the history before it
+  module _ {t : ℕ} {q : Walk} {x : Event} (d : EventDeed t q x) where
+    abbrev pub before_deed : HistoryAlong setting
+    before_deed = up_to setting whole d.older (Did q.name x.step d.request d.took d.other ∷ d.newer) d.at
 
   pub event_deed : (t : ℕ) (q : Walk) (x : Event) → IsThread code log t q → Contains q.events x → EventDeed t q x
   event_deed t q x there i =
@@ -123,8 +123,7 @@ module _ {B : Type 0} (setting : Setting B) (nodes : List Node) (moves : List Mo
         other = d.other;
         at = d.there;
         asks = d.asks;
-        along = begins_along d.older (Did q.name x.step d.request d.took d.other ∷ d.newer) d.there;
-        may = (goes_along.follow d.older d.newer (Did q.name x.step d.request d.took d.other) d.there).1;
+        may = (whole.along.follow d.older d.newer (Did q.name x.step d.request d.took d.other) d.there).1;
         left = left_at d.older d.newer q.name x.step d.request d.took d.other d.there;
         shows = λ kept. shows_step ops.buffered paths t x.step q d.request d.took d.other x.kind there d.asks kept;
       }

@@ -1,4 +1,5 @@
--- What is done before an event's step comes before the event, also where that is a store that waits in a buffer.
+-- A deed before an event's step comes before the event, even if that is a store that waits in a
+-- buffer.
 use Rattle.std.proofs.Common.{◌≡◌, ◌∙◌, ℕ, ℤ, Bool, true, false, ◌&&◌, List, ◌∷◌, ◌++◌, Option, None, refl, sym, ap, ap₂, subst, append_assoc}
 use Rattle.std.specs.List.{Contains}
 use Rattle.std.proofs.lemmas.Bool.{true≢false, eq-eqb}
@@ -43,13 +44,13 @@ module _ {B : Type 0} (setting : Setting B) (nodes : List Node) (moves : List Mo
   abbrev threads : Paths
   threads = paths setting nodes moves again
 
-  -- an event's step
+  -- the step of an event
   module _ (c : ℕ) (q : Walk) (x : Event) (there : IsThread code log c q) (i : Contains q.events x)
       (e : EventDeed setting nodes moves again c q x) where
     abbrev its_deed : Deed
     its_deed = Did q.name x.step e.request e.took e.other
 
-    -- what is done before it, which shows a step of a thread
+    -- a deed before that step, which shows a step of a thread
     module _ (t k : ℕ) (older between : List Deed) (deed : Deed) (shows : Shows ops.buffered threads deed t k)
         (before : e.older ≡ older ++ deed ∷ between) where
       abbrev First : Type 0
@@ -78,7 +79,7 @@ module _ {B : Type 0} (setting : Setting B) (nodes : List Node) (moves : List Mo
           (ordered setting nodes moves again).order older (between ++ issue ∷ store.after) z.newer deed drain t k c x.step
           (z.there ∙ ap (λ g. g ++ drain ∷ z.newer) all) shows (shows_drain ops.buffered threads c x.step q z.cell z.value there)
 
-      -- one that never drains comes after all
+      -- a store that never drains comes last
       by_never : (ops.buffered && is_store x.kind) ≡ true → has_drained done q.name x.step ≡ false → First
       by_never waits none =
           (ordered setting nodes moves again).never t k c x.step

@@ -1,4 +1,4 @@
--- A mutex is left before it is taken again.
+-- A mutex is released before it is acquired again.
 use Rattle.std.proofs.Common.{◌≡◌, ◌≢◌, ◌∙◌, ◌⊎◌, inl, inr, ℕ, ◌<◌, ◌≤◌, Bool, true, false, not, ◌&&◌, ◌||◌, List, ◌∷◌, ◌++◌}
 use Rattle.std.proofs.Common.{Option, Some, None, refl, sym, ap, subst, arith}
 use Rattle.std.specs.Prelude.{is_none}
@@ -18,14 +18,14 @@ use Rattle.run_history.specs.History.{Deed, Did, pending}
 use Rattle.run_history.specs.Told.{steps_in, owner_in, waiting_in}
 use Rattle.run_follows.specs.Follow.{may_do_in}
 use Rattle.run_history.specs.pending.Deeds.{DeedName, name_of}
-use Rattle.path_walk.specs.Events.{takes, leaves}
+use Rattle.path_walk.specs.Events.{acquired_mutex, released_mutex}
 use Rattle.path_walk.specs.Paths.{Walk, Paths}
 use Rattle.path_walk.specs.declared.event.Event.{Event}
 use Rattle.path_walk.specs.declared.event.EventKind.{EventKind}
 use Rattle.path_walk.specs.declared.event.EventKind.TheVariants as kind
 use Rattle.path_walk.specs.declared.event.Region.{Region}
 use Rattle.path_laws.specs.Setting.{Setting}
-use Rattle.path_laws.specs.history.Along.{IsThread}
+use Rattle.path_laws.specs.history.Along.{IsThread, HistoryAlong, PathThread, path_thread}
 use Rattle.path_laws.proofs.of_events.Events.{event_done}
 use Rattle.path_laws.proofs.of_events.Lists.{in_contains}
 use Rattle.path_laws.proofs.of_events.Owners.{region_owned}
@@ -37,15 +37,15 @@ use Rattle.lawful_order.specs.Mutexes.{IsLeftBefore, MutexRule}
 use Rattle.run_lawful.proofs.of_world.Run.{seen}
 use Rattle.run_lawful.proofs.of_world.Seen.{shows_step}
 use Rattle.run_lawful.proofs.of_world.Splits.{TwoPlaces, Before, Same, After, two_places}
-use Rattle.run_lawful.proofs.of_waits.Deeds.{none_pending, regions_are, h, paths, w, fit, ordered, EventDeed, event_deed}
+use Rattle.run_lawful.proofs.of_waits.Deeds.{none_pending, regions_are, h, paths, w, fit, ordered, EventDeed, event_deed, before_deed}
 use Rattle.run_lawful.proofs.of_waits.Parts.{IsRegionOf, region_of_events, Takes, Locks, Wakes, taker_is}
 
--- what takes or leaves a mutex is no store
-taker_no_store : (k : EventKind) (m : ℕ) → takes k ≡ Some m → is_store k ≡ false
+-- an event that acquires or releases a mutex isn't a store
+taker_no_store : (k : EventKind) (m : ℕ) → acquired_mutex k ≡ Some m → is_store k ≡ false
 taker_no_store kind.Store m t = absurd (none-some m t)
 taker_no_store k m t = refl
 
-leaver_no_store : (k : EventKind) (m : ℕ) → leaves k ≡ Some m → is_store k ≡ false
+leaver_no_store : (k : EventKind) (m : ℕ) → released_mutex k ≡ Some m → is_store k ≡ false
 leaver_no_store kind.Store m t = absurd (none-some m t)
 leaver_no_store k m t = refl
 
@@ -81,7 +81,7 @@ module _ {B : Type 0} (setting : Setting B) (nodes : List Node) (moves : List Mo
   abbrev Before_in : (t k u j : ℕ) → Type 0
   Before_in t k u j = IsBefore threads (w setting nodes moves again) t k u j
 
-  -- the region of a mutex, with the deed that takes it
+  -- the region of a mutex, with the deed that acquires it
   record RegionDeed (t : ℕ) (q : Walk) (r : Region) : Type 0 where
     parts : IsRegionOf q.events r
     deed : Deed_of t q parts.taken.event
@@ -103,13 +103,19 @@ module _ {B : Type 0} (setting : Setting B) (nodes : List Node) (moves : List Mo
     abbrev second : Deed
     second = Did q.name b.parts.taken.event.step b.deed.request b.deed.took b.deed.other
 
-    -- where another takes the mutex later, the region has ended
+    -- if another region of the mutex begins later, this one has ended
     left_before : (between : List Deed) → b.deed.older ≡ a.deed.older ++ first ∷ between
         → IsLeftBefore threads (w setting nodes moves again) t r u s
     left_before between before = by r.to refl
       where
         g : List Deed
         g = b.deed.older
+
+        before_it : HistoryAlong setting
+        before_it = before_deed setting nodes moves again b.deed
+
+        first_thread : PathThread code log
+        first_thread = path_thread t p p_there
 
         free : owner_in g r.mutex ≡ None
         free =
@@ -119,21 +125,18 @@ module _ {B : Type 0} (setting : Setting B) (nodes : List Node) (moves : List Mo
 
         begun : r.«from» < steps_in g p.name
         begun =
-            let step = step_is setting (fit setting nodes moves again) g b.deed.along t p
-            p_there a.deed.older between a.parts.taken.event.step a.deed.request a.deed.took a.deed.other before in
+            let step = step_is setting before_it first_thread a.deed.older between a.parts.taken.event.step a.deed.request a.deed.took a.deed.other before in
             subst (λ k. k < steps_in g p.name) a.parts.taken.step step.done
 
         closed : ((k : ℕ) → r.to ≡ Some k → steps_in g p.name ≤ k) → ⊥
         closed lasts =
             none-some p.name
-            (sym free ∙ (region_owned setting (fit setting nodes moves again) g b.deed.along t p
-            p_there r.mutex).1 (r, i, refl, record { begun = begun; lasts = lasts }))
+            (sym free ∙ (region_owned setting before_it first_thread r.mutex).1 (r, i, refl, record { begun = begun; lasts = lasts }))
 
         ends : (k : ℕ) → r.to ≡ Some k → k < steps_in g p.name → Before_in t k u s.«from»
         ends k to less =
             let x = a.parts.left k to in
-            let d = event_done setting (fit setting nodes moves again) g b.deed.along t p
-            p_there x.event (in_contains x.event p.events x.among) (subst (λ n. n < steps_in g p.name) (sym x.step) less) in
+            let d = event_done setting before_it first_thread x.event (in_contains x.event p.events x.among) (subst (λ n. n < steps_in g p.name) (sym x.step) less) in
             let leave = Did p.name x.event.step d.request d.took d.other in
             subst (λ n. Before_in t n u s.«from») x.step
             (subst (λ n. Before_in t x.event.step u n) b.parts.taken.step
@@ -169,7 +172,7 @@ module _ {B : Type 0} (setting : Setting B) (nodes : List Node) (moves : List Mo
       second_deed : Deed
       second_deed = Did also.0.name b.parts.taken.event.step b.deed.request b.deed.took b.deed.other
 
-      -- they aren't one
+      -- the two deeds are different
       differ : first_deed ≡ second_deed → ⊥
       differ one =
           let name = ap (λ (n : DeedName). n.thread) (ap name_of one) in

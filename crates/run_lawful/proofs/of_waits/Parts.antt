@@ -1,4 +1,4 @@
--- The parts of a path are made of its events: links, regions and sleeps begin and end with events of their kinds.
+-- The links, regions and sleeps of a path begin and end with events of their kinds.
 use Rattle.std.proofs.Common.{◌≡◌, ◌∙◌, inl, inr, ℕ, ◌==◌, Bool, true, false, cond, List, [], ◌∷◌, Option, Some, None, refl, ap, ap₂, subst}
 use Rattle.std.specs.Prelude.{slice_get, option_map, option_and_then}
 use Rattle.std.specs.Option.{option_map_or}
@@ -8,7 +8,7 @@ use Rattle.std.proofs.lemmas.Option.{none-some, same_Some}
 use Rattle.tc_base.specs.Names.{Name}
 use Rattle.tc_base.specs.declared.request.Request.{Request}
 use Rattle.tc_base.specs.declared.request.Request.TheVariants.{Silent, Bar, Acquire, BeginWait, EndWait, WakeOne, WakeAll, Start, Await}
-use Rattle.path_walk.specs.Events.{takes, leaves, left_at, regions_of, sleep_by, sleeps_of, create_by, creates_of, join_by, joins_of}
+use Rattle.path_walk.specs.Events.{acquired_mutex, released_mutex, release_step, regions_of, sleep_by, sleeps_of, create_by, creates_of, join_by, joins_of}
 use Rattle.path_walk.specs.declared.event.Event.{Event}
 use Rattle.path_walk.specs.declared.event.EventKind.{EventKind}
 use Rattle.path_walk.specs.declared.event.EventKind.TheVariants as kind
@@ -19,7 +19,7 @@ use Rattle.path_laws.specs.Deeds.{kind_of}
 use Rattle.path_laws.proofs.of_stuck.Rests.{mapped_from}
 use Rattle.order_events.proofs.Lists.{of_nil, of_cons, in_front, in_back, of_filter_map}
 
--- an event of a kind that passes a test, in a step
+-- the event of a step, whose kind has this property
 pub record IsEventOf (es : List Event) (k : ℕ) (P : EventKind → Type 0) : Type 0 where
   pub event : Event
   pub among : Contains es event
@@ -55,47 +55,47 @@ joined_by es l i =
     record { event = o.0; among = o.1; step = is.0; kind = is.1 }
 
 -- regions
-first_left : (m k : ℕ) (es : List Event) → left_at m es ≡ Some k → IsEventOf es k (λ a. leaves a ≡ Some m)
+first_left : (m k : ℕ) (es : List Event) → release_step m es ≡ Some k → IsEventOf es k (λ a. released_mutex a ≡ Some m)
 first_left m k [] is = absurd (none-some k is)
-first_left m k (e ∷ es) is = by (leaves e.kind) refl is (first_left m k es)
+first_left m k (e ∷ es) is = by (released_mutex e.kind) refl is (first_left m k es)
   where
-    here : (l : ℕ) → leaves e.kind ≡ Some l → (b : Bool) → (l == m) ≡ b → cond b (Some e.step) (left_at m es) ≡ Some k
-        → (left_at m es ≡ Some k → IsEventOf es k (λ a. leaves a ≡ Some m)) → IsEventOf (e ∷ es) k (λ a. leaves a ≡ Some m)
+    here : (l : ℕ) → released_mutex e.kind ≡ Some l → (b : Bool) → (l == m) ≡ b → cond b (Some e.step) (release_step m es) ≡ Some k
+        → (release_step m es ≡ Some k → IsEventOf es k (λ a. released_mutex a ≡ Some m)) → IsEventOf (e ∷ es) k (λ a. released_mutex a ≡ Some m)
     here l left true same is later =
         record { event = e; among = in_front e es; step = same_Some e.step k is; kind = left ∙ ap (λ i. Some i) (eqb-true l m same) }
-    here l left false same is later = one_more e es k (λ a. leaves a ≡ Some m) (later is)
+    here l left false same is later = one_more e es k (λ a. released_mutex a ≡ Some m) (later is)
 
-    by : (o : Option ℕ) → leaves e.kind ≡ o → cond (option_map_or (λ l. l == m) o false) (Some e.step) (left_at m es) ≡ Some k
-        → (left_at m es ≡ Some k → IsEventOf es k (λ a. leaves a ≡ Some m)) → IsEventOf (e ∷ es) k (λ a. leaves a ≡ Some m)
-    by None left is later = one_more e es k (λ a. leaves a ≡ Some m) (later is)
+    by : (o : Option ℕ) → released_mutex e.kind ≡ o → cond (option_map_or (λ l. l == m) o false) (Some e.step) (release_step m es) ≡ Some k
+        → (release_step m es ≡ Some k → IsEventOf es k (λ a. released_mutex a ≡ Some m)) → IsEventOf (e ∷ es) k (λ a. released_mutex a ≡ Some m)
+    by None left is later = one_more e es k (λ a. released_mutex a ≡ Some m) (later is)
     by (Some l) left is later = here l left (l == m) refl is later
 
 pub record IsRegionOf (es : List Event) (r : Region) : Type 0 where
-  pub taken : IsEventOf es r.«from» (λ a. takes a ≡ Some r.mutex)
-  pub left : (k : ℕ) → r.to ≡ Some k → IsEventOf es k (λ a. leaves a ≡ Some r.mutex)
+  pub taken : IsEventOf es r.«from» (λ a. acquired_mutex a ≡ Some r.mutex)
+  pub left : (k : ℕ) → r.to ≡ Some k → IsEventOf es k (λ a. released_mutex a ≡ Some r.mutex)
 
 abbrev region_at : Event → List Event → ℕ → Region
-region_at e later m = record { mutex = m; «from» = e.step; to = left_at m later }
+region_at e later m = record { mutex = m; «from» = e.step; to = release_step m later }
 
 pub region_of_events : (es : List Event) (r : Region) → Contains (regions_of es) r → IsRegionOf es r
 region_of_events [] r i = absurd (of_nil r i)
-region_of_events (e ∷ es) r i = by (takes e.kind) refl i (region_of_events es r)
+region_of_events (e ∷ es) r i = by (acquired_mutex e.kind) refl i (region_of_events es r)
   where
-    new : (m : ℕ) → takes e.kind ≡ Some m → region_at e es m ≡ r → IsRegionOf (e ∷ es) r
+    new : (m : ℕ) → acquired_mutex e.kind ≡ Some m → region_at e es m ≡ r → IsRegionOf (e ∷ es) r
     new m taken same =
         subst (IsRegionOf (e ∷ es)) same
         (record {
           taken = record { event = e; among = in_front e es; step = refl; kind = taken };
-          left = λ k to. one_more e es k (λ a. leaves a ≡ Some m) (first_left m k es to);
+          left = λ k to. one_more e es k (λ a. released_mutex a ≡ Some m) (first_left m k es to);
         })
 
     behind : IsRegionOf es r → IsRegionOf (e ∷ es) r
     behind o = record {
-      taken = one_more e es r.«from» (λ a. takes a ≡ Some r.mutex) o.taken;
-      left = λ k to. one_more e es k (λ a. leaves a ≡ Some r.mutex) (o.left k to);
+      taken = one_more e es r.«from» (λ a. acquired_mutex a ≡ Some r.mutex) o.taken;
+      left = λ k to. one_more e es k (λ a. released_mutex a ≡ Some r.mutex) (o.left k to);
     }
 
-    by : (o : Option ℕ) → takes e.kind ≡ o → Contains (cons_option (option_map (region_at e es) o) (regions_of es)) r
+    by : (o : Option ℕ) → acquired_mutex e.kind ≡ o → Contains (cons_option (option_map (region_at e es) o) (regions_of es)) r
         → (Contains (regions_of es) r → IsRegionOf es r) → IsRegionOf (e ∷ es) r
     by None taken j later = behind (later j)
     by (Some m) taken j later =
@@ -127,7 +127,7 @@ slept_by (e ∷ es) s i = by e.kind refl i (slept_by es s)
     by kind.Load is j later = one_more e es s.step (λ k. k ≡ kind.Sleep s.condition s.mutex) (later j)
     by k is j later = one_more e es s.step (λ k. k ≡ kind.Sleep s.condition s.mutex) (later j)
 
--- What a request asks as an event of a kind.
+-- The kinds of events of requests.
 
 abbrev child_number : Option Name → Option ℕ
 child_number other = option_and_then (last_or None) other
@@ -169,18 +169,18 @@ broadcast_is (Start f) other c e =
 broadcast_is Silent other c e = absurd (none-some (kind.Broadcast c) e)
 broadcast_is r other c e = absurd cc
 
--- a request that takes a mutex
+-- a request that acquires a mutex
 pub data Takes (m : ℕ) (r : Request) : Type 0 where
   Locks : r ≡ Acquire m → Takes m r
   Wakes : (c : ℕ) → r ≡ EndWait c m → Takes m r
 
-pub taker_is : (r : Request) (other : Option Name) (k : EventKind) (m : ℕ) → kind_of r other ≡ Some k → takes k ≡ Some m → Takes m r
+pub taker_is : (r : Request) (other : Option Name) (k : EventKind) (m : ℕ) → kind_of r other ≡ Some k → acquired_mutex k ≡ Some m → Takes m r
 taker_is (Acquire l) other k m e t =
-    let same : l ≡ m = same_Some l m (ap takes (same_Some (kind.Lock l) k e) ∙ t) in Locks (ap Acquire same)
+    let same : l ≡ m = same_Some l m (ap acquired_mutex (same_Some (kind.Lock l) k e) ∙ t) in Locks (ap Acquire same)
 taker_is (EndWait c l) other k m e t =
-    let same : l ≡ m = same_Some l m (ap takes (same_Some (kind.Wake c l) k e) ∙ t) in Wakes c (ap (EndWait c) same)
+    let same : l ≡ m = same_Some l m (ap acquired_mutex (same_Some (kind.Wake c l) k e) ∙ t) in Wakes c (ap (EndWait c) same)
 taker_is (Start f) other k m e t =
-    let x = mapped_from kind.Create (child_number other) k e in absurd (none-some m (ap takes x.2 ∙ t))
+    let x = mapped_from kind.Create (child_number other) k e in absurd (none-some m (ap acquired_mutex x.2 ∙ t))
 taker_is Silent other k m e t = absurd (none-some k e)
 taker_is Bar other k m e t = absurd (none-some k e)
-taker_is r other k m e t = absurd (none-some m (ap takes (same_Some _ k e) ∙ t))
+taker_is r other k m e t = absurd (none-some m (ap acquired_mutex (same_Some _ k e) ∙ t))

@@ -30,8 +30,8 @@ use Rattle.path_walk.specs.Paths.{Walk, Paths}
 use Rattle.path_walk.specs.declared.event.EventKind.TheVariants as kind
 use Rattle.path_walk.specs.declared.event.Sleep.{Sleep}
 use Rattle.path_laws.specs.Setting.{Setting}
-use Rattle.path_laws.specs.history.Along.{IsAlongPaths, IsThread}
-use Rattle.path_laws.proofs.of_history.Told.{run_of, reached}
+use Rattle.path_laws.specs.history.Along.{IsThread, HistoryAlong, path_thread}
+use Rattle.path_laws.proofs.of_history.Told.{reached, its_run, up_to}
 use Rattle.path_laws.specs.events.Done.{IsAsleepIn}
 use Rattle.path_laws.proofs.of_events.Steps.{steps_first, step_at}
 use Rattle.path_laws.proofs.of_events.Waiters.{sleep_waits}
@@ -45,16 +45,17 @@ use Rattle.run_lawful.specs.world.Order.{IsEndedBy}
 use Rattle.run_lawful.specs.world.WorldOf.{is_step, ends_wait}
 use Rattle.run_lawful.proofs.of_world.Enders.{is_its_step, sleeper, ended_told, ended_is}
 use Rattle.run_lawful.proofs.of_world.Run.{seen}
-use Rattle.run_lawful.proofs.of_waits.Deeds.{none_pending, sleeps_are, h, paths, w, fit, goes_along, begins_along, step_once, event_deed}
+use Rattle.run_lawful.proofs.of_waits.Deeds.{none_pending, sleeps_are, h, paths, w, fit, step_once, event_deed, before_deed}
 use Rattle.run_lawful.proofs.of_waits.Parts.{slept_by, begin_is}
+use Rattle.path_laws.proofs.of_history.Logged.{history_again}
 
--- Deeds that say nothing of a thread's wait.
+-- Deeds that don't concern a thread's wait.
 
 nil_rest : {X : Type 0} (o : Option X) (xs : List X) → cons_option o xs ≡ [] → o ≡ None
 nil_rest None xs e = refl
 nil_rest (Some x) xs e = absurd cc
 
--- where nothing is given, no element gives anything
+-- if a list of given values is empty, no element gives anything
 pub gives_none : {X : Type 0} (f : Deed → Option X) (older newer : List Deed) (d : Deed) → filter_map f (older ++ d ∷ newer) ≡ [] → f d ≡ None
 gives_none f older newer d none =
     nil_rest (f d) (filter_map f newer) (last_nil (filter_map f older) (filter_map f (d ∷ newer)) (sym (filter_map-append f older (d ∷ newer)) ∙ none))
@@ -71,7 +72,7 @@ ends_by (Some false) e = refl
 pub ends_gives : (c : ℕ) (n : Name) (d : Deed) → ends_wait c n d ≡ true → waits_by c n d ≡ Some false
 ends_gives c n d e = ends_by (waits_by c n d) e
 
--- what begins a wait of a thread is a step of it
+-- a deed that begins a thread's wait is a step of that thread
 begins_by : (c : ℕ) (n : Name) (d : Deed) → waits_by c n d ≡ Some true → is_step_of n d ≡ true
 begins_by c n (Did q k (BeginWait d m) took other) e = by (d == c) (same n q) e
   where
@@ -93,7 +94,7 @@ begins_by c n (Did q k (WakeAll d) took other) e = absurd (not_begun (d == c) e)
 begins_by c n (Did q k Silent took other) e = absurd (none-some true e)
 begins_by c n d e = absurd (none-some true e)
 
--- where a thread does nothing and nothing ends its wait, nothing is said of that
+-- if a thread does nothing and no deed ends its wait, no deed concerns the wait
 pub quiet : (c : ℕ) (n : Name) (g : List Deed) → steps_in g n ≡ 0 → list_any (ends_wait c n) g ≡ false → filter_map (waits_by c n) g ≡ []
 quiet c n [] still none = refl
 quiet c n (d ∷ g) still none =
@@ -106,7 +107,7 @@ quiet c n (d ∷ g) still none =
     by (Some true) is rest =
         absurd (omega (arith, still, steps_first d g n ∙ ap (λ b. cond b 1 0 + steps_in g n) (begins_by c n d is)))
 
--- and where nothing is said nothing ends it
+-- if no deed concerns a wait, no deed ends it
 pub none_ends : (c : ℕ) (n : Name) (g : List Deed) → filter_map (waits_by c n) g ≡ [] → list_any (ends_wait c n) g ≡ false
 none_ends c n [] none = refl
 none_ends c n (d ∷ g) none = by (waits_by c n d) refl none (none_ends c n g)
@@ -128,7 +129,7 @@ module _ {B : Type 0} (setting : Setting B) (nodes : List Node) (moves : List Mo
   abbrev f : Fits code log
   f = fit setting nodes moves again
 
-  -- one sleep begins in a step
+  -- only one sleep begins in a step
   same_condition : (t : ℕ) (q : Walk) (y z : Sleep) → IsThread code log t q → Contains q.sleeps y → Contains q.sleeps z → y.step ≡ z.step
       → y.condition ≡ z.condition
   same_condition t q y z there i j same =
@@ -139,7 +140,7 @@ module _ {B : Type 0} (setting : Setting B) (nodes : List Node) (moves : List Mo
       let kinds : kind.Sleep y.condition y.mutex ≡ kind.Sleep z.condition z.mutex = sym a.kind ∙ ap (λ e. e.kind) one ∙ b.kind in
       cc
 
-  -- a sleep that something ends doesn't last
+  -- a thread whose sleep was ended is awake
   pub ended_is_awake : (s g : ℕ) (x : Of Sleep) (t : ℕ) (q : Walk) (z : Sleep) → IsThread code log t q → x.thread ≡ t → Contains q.sleeps z
       → z.step ≡ x.it.step → IsAsleepIn done q.name z → slice_get (all_sleeps threads) s ≡ Some x → IsEndedBy ops.buffered threads done x g → ⊥
   ended_is_awake s g x t q z there own i same asleep at e =
@@ -158,11 +159,11 @@ module _ {B : Type 0} (setting : Setting B) (nodes : List Node) (moves : List Mo
       none-some false (sym silent ∙ ends)
 
   -- who waits asks for the end of its wait
-  waiter_asks : (g : List Deed) (n : Name) (c : ℕ) → IsAlongPaths ops.buffered bound code log g → c < code.conditions
-      → set.contains (waiting_in g c) n ≡ true → (m : ℕ) × (asks_next code g n ≡ Some (EndWait c m))
-  waiter_asks g n c along within waits =
-      let r = run_of machine log g along in
-      let at = waiters_are_at_wake ops code r.state lawful (reached machine log g r) n c
+  waiter_asks : (g : HistoryAlong setting) (n : Name) (c : ℕ) → c < code.conditions → set.contains (waiting_in g.deeds c) n ≡ true
+      → (m : ℕ) × (asks_next code g.deeds n ≡ Some (EndWait c m))
+  waiter_asks g n c within waits =
+      let r = its_run setting g in
+      let at = waiters_are_at_wake ops code r.state lawful (reached machine log g.deeds r) n c
       (ap (λ ns. set.contains ns n) (r.told.tells.waiters.waiters c within) ∙ waits) in (
         at.mutex,
         ap (option_and_then (λ (l : Local). option_map (request l) (instr_of code l)))
@@ -171,10 +172,11 @@ module _ {B : Type 0} (setting : Setting B) (nodes : List Node) (moves : List Mo
       )
 
   -- and does nothing until then
-  pub waiter_rests : (g : List Deed) (n : Name) (c k : ℕ) (r : Request) (took : ℤ) (other : Option Name) → IsAlongPaths ops.buffered bound code log g
-      → c < code.conditions → set.contains (waiting_in g c) n ≡ true → MayFollow ops.buffered bound code g (Did n k r took other) → ⊥
-  waiter_rests g n c k r took other along within waits may =
-      let a = waiter_asks g n c along within waits in
+  pub waiter_rests : (before : HistoryAlong setting) (n : Name) (c k : ℕ) (r : Request) (took : ℤ) (other : Option Name) → c < code.conditions
+      → set.contains (waiting_in before.deeds c) n ≡ true → MayFollow ops.buffered bound code before.deeds (Did n k r took other) → ⊥
+  waiter_rests before n c k r took other within waits may =
+      let g = before.deeds in
+      let a = waiter_asks before n c within waits in
       let asked : r ≡ EndWait c a.0 = same_Some r (EndWait c a.0) (sym may.asks ∙ a.1) in
       let allowed : may_do_in ops.buffered g n (EndWait c a.0) other ≡ true = ap (λ x. may_do_in ops.buffered g n x other) (sym asked) ∙ may.may in
       let met = and_parts (not (drains_first (EndWait c a.0)) || is_nil (stores (pending ops.buffered g n)))
@@ -217,7 +219,7 @@ module _ {B : Type 0} (setting : Setting B) (nodes : List Node) (moves : List Mo
         at = d.at;
         number = sym y.step ∙ d.may.number;
         within =
-            (next_within machine d.older q.0.name (BeginWait x.it.condition x.it.mutex) d.along.follow
+            (next_within machine d.older q.0.name (BeginWait x.it.condition x.it.mutex) (before_deed setting nodes moves again d).along.follow
             (d.may.asks ∙ ap (λ r. Some r) asked)).0;
         shows = subst (λ k. Shows ops.buffered threads deed x.thread k) y.step
             (d.shows (none_pending ops.buffered y.event.kind (ap is_store y.kind)));
@@ -230,16 +232,16 @@ module _ {B : Type 0} (setting : Setting B) (nodes : List Node) (moves : List Mo
     abbrev c : ℕ
     c = x.it.condition
 
-    -- it begins a step of its thread
+    -- the deed is the step with which the sleep begins
     pub its_step : is_step n x.it.step d.deed ≡ true
     its_step = ap (is_step n x.it.step) d.begins ∙ is_its_step n x.it.step (BeginWait c x.it.mutex) d.took d.other
 
-    -- while nothing is said of its wait the thread waits
+    -- the thread waits as long as no deed concerns its wait
     pub waits_while : (between newer : List Deed) → done ≡ (d.older ++ d.deed ∷ between) ++ newer → filter_map (waits_by c n) between ≡ []
         → set.contains (waiting_in (d.older ++ d.deed ∷ between) c) n ≡ true
     waits_while between newer split silent =
-        (sleep_waits setting f (d.older ++ d.deed ∷ between)
-        (begins_along setting nodes moves again (d.older ++ d.deed ∷ between) newer split) x.thread d.walk d.there c).1 (
+        (sleep_waits setting (up_to setting (history_again setting moves again) (d.older ++ d.deed ∷ between) newer split)
+        (path_thread x.thread d.walk d.there) c).1 (
           x.it,
           d.among,
           refl,
@@ -253,7 +255,7 @@ module _ {B : Type 0} (setting : Setting B) (nodes : List Node) (moves : List Mo
           },
         )
 
-    -- so where nothing ended its wait nothing is said of it
+    -- as long as no deed ended the wait, no deed concerns it
     pub none_between : (between newer : List Deed) → done ≡ (d.older ++ d.deed ∷ between) ++ newer → list_any (ends_wait c n) between ≡ false
         → filter_map (waits_by c n) between ≡ []
     none_between between newer split none =
@@ -271,12 +273,12 @@ module _ {B : Type 0} (setting : Setting B) (nodes : List Node) (moves : List Mo
               (or_parts (list_any (ends_wait c n) s.older) (list_any (ends_wait c n) (step ∷ s.newer))
               (sym (list_any-append (ends_wait c n) s.older (step ∷ s.newer)) ∙ ap (list_any (ends_wait c n)) (sym s.there) ∙ none)).0 in
               let waits = waits_while s.older (step ∷ (s.newer ++ newer)) at (quiet c n s.older s.before first) in
-              absurd (waiter_rests g n c s.number s.request s.took s.other
-              (begins_along setting nodes moves again g (step ∷ (s.newer ++ newer)) at) d.within waits
-              ((goes_along setting nodes moves again).follow g (s.newer ++ newer) step at).1)
+              let all = history_again setting moves again in
+              absurd (waiter_rests (up_to setting all g (step ∷ (s.newer ++ newer)) at) n c s.number s.request s.took s.other d.within waits
+              (all.along.follow g (s.newer ++ newer) step at).1)
         ]
 
-    -- what ends it, after its deed
+    -- the deed that ends the sleep, after the one that begins it
     pub record EndsAt (g : ℕ) : Type 0 where
       pub between : List Deed
       pub ender : Deed

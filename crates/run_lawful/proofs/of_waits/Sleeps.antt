@@ -1,4 +1,4 @@
--- The sleeps of paths have each its own step.
+-- Each sleep of a path has its own step.
 use Rattle.std.proofs.Common.{◌≡◌, ◌∙◌, inl, inr, ℕ, zero, suc, ◌<◌, List, [], ◌∷◌, Option, Some, None, refl, sym, ap, arith}
 use Rattle.std.specs.Prelude.{slice_get}
 use Rattle.std.specs.List.{cons_option}
@@ -16,7 +16,7 @@ use Rattle.order_events.proofs.Lists.{at_in, in_at}
 use Rattle.world_plan.proofs.Numbers.{Rise, of_rise}
 use Rattle.run_lawful.proofs.of_waits.Parts.{slept_by}
 
--- the sleep that an event begins has its step
+-- a sleep has the step of the event that begins it
 sleep_step : (k : EventKind) (n : ℕ) (next : Option Event) (s : Sleep) → sleep_by n next k ≡ Some s → n ≡ s.step
 sleep_step (kind.Sleep c m) n next s e = ap (λ (x : Sleep). x.step) (same_Some _ s e)
 sleep_step kind.Load n next s e = absurd (none-some s e)
@@ -50,7 +50,7 @@ slept_rise (e ∷ es) rises j k y z at bt less =
         let first = sleep_step e.kind e.step (slice_get es 0) y (is ∙ at) in omega (arith, first, later k bt)
     by (Some s) is (suc j) (suc k) at bt less rest = rest j k at bt (omega (arith, less))
 
--- so of each thread one sleep has a step
+-- each thread has only one sleep with a step
 pub one_sleep : (paths : Paths) → AreWhole paths → ((u : ℕ) (q : Walk) → slice_get paths.threads u ≡ Some q → q.sleeps ≡ sleeps_of q.events)
     → (s r : ℕ) (x y : Of Sleep) → slice_get (all_sleeps paths) s ≡ Some x → slice_get (all_sleeps paths) r ≡ Some y → x.thread ≡ y.thread
     → x.it.step ≡ y.it.step → s ≡ r

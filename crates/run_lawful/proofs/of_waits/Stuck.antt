@@ -1,4 +1,4 @@
--- At the end of a deadlock each thread that hasn't exited is blocked by what the world says.
+-- At the end of a deadlock, the world blocks each thread that hasn't exited.
 use Rattle.std.proofs.Common.{◌≡◌, ◌∙◌, inl, inr, ℕ, ◌<◌, ◌≤◌, Bool, true, false, cond, IsSome, List, length}
 use Rattle.std.proofs.Common.{Option, Some, None, refl, sym, ap, subst, arith, bytes_eq}
 use Rattle.std.specs.Prelude.{slice_get, option_map, option_and_then}
@@ -21,7 +21,7 @@ use Rattle.run_history.specs.Told.{owner_in, waiting_in, has_exited_in, steps_in
 use Rattle.run_follows.specs.blocked.Stuck.{IsBlockedIn}
 use Rattle.run_log.specs.Logs.{rises_from, is_there, is_log}
 use Rattle.path_walk.specs.Fits.{Fits, ending_by}
-use Rattle.path_walk.specs.Marks.{Marks, unmarked, marks_after}
+use Rattle.path_walk.specs.Marks.{Marks, marks_at_start, marks_after}
 use Rattle.path_walk.specs.Paths.{Walk, Paths, blocked_after}
 use Rattle.path_walk.specs.Steps.{steps_at, standing}
 use Rattle.path_walk.specs.declared.ending.Ending.{Ending}
@@ -31,7 +31,7 @@ use Rattle.path_walk.specs.declared.event.Blocked.TheVariants.{Lock, Wake, Join}
 use Rattle.path_walk.specs.declared.event.Region.{Region}
 use Rattle.path_walk.specs.declared.event.Sleep.{Sleep}
 use Rattle.path_laws.specs.Setting.{Setting}
-use Rattle.path_laws.specs.history.Along.{IsThread}
+use Rattle.path_laws.specs.history.Along.{IsThread, HistoryAlong, path_thread}
 use Rattle.path_laws.proofs.of_history.Walks.{IsWalk, walk_is}
 use Rattle.path_laws.proofs.of_events.Events.{event_within}
 use Rattle.path_laws.proofs.of_events.Lists.{in_contains}
@@ -46,11 +46,12 @@ use Rattle.lawful_order.specs.Events.{ender_of}
 use Rattle.lawful_order.specs.Stuck.{IsHeld, SleepsOn, RunsOn, CannotGoOn, StuckRule}
 use Rattle.run_lawful.proofs.of_world.Enders.{ended_told}
 use Rattle.run_lawful.proofs.of_world.Run.{all_steps}
-use Rattle.run_lawful.proofs.of_waits.Deeds.{regions_are, h, paths, w, fit, goes_along}
+use Rattle.run_lawful.proofs.of_waits.Deeds.{regions_are, h, paths, w, fit}
 use Rattle.run_lawful.proofs.of_waits.Parts.{region_of_events}
 use Rattle.run_lawful.proofs.of_waits.Sleeping.{ended_is_awake}
+use Rattle.path_laws.proofs.of_history.Logged.{history_again}
 
--- only a path that rests says what its thread is blocked at
+-- only a path that rests has something that blocks its thread
 unblocked : (m n : Name) (t : Marks) (ss : List Sleep) (at : Option Instr) (b : Blocked) → blocked_after (ending_by (Some m) n) t ss at ≡ Some b → ⊥
 unblocked m n t ss at b e = by (bytes_eq n m) e
   where
@@ -61,7 +62,7 @@ unblocked m n t ss at b e = by (bytes_eq n m) e
     by true e = none-some b e
     by false e = none-some b e
 
--- so there is a deadlock where one does
+-- a log in which a path is blocked is that of a deadlock
 pub deadlock : (code : Code) (log : Log) (is : is_log log ≡ true) (q : Walk) (b : Blocked) → IsWalk code log q → q.blocked ≡ Some b → log.failing ≡ Deadlock
 deadlock code log is q b k blocked = by log.failing refl
   where
@@ -71,9 +72,9 @@ deadlock code log is q b k blocked = by log.failing refl
           | inl at ↦
               let failing = ap (λ f. option_and_then (λ i. option_map (λ (x : ThreadPath). x.name) (slice_get log.threads i)) (place_in f)) (e ∙ this)
               ∙ ap (option_map (λ (x : ThreadPath). x.name)) at.2 in
-              unblocked at.0.name q.name (marks_after (unmarked code q.function) (steps_at code q.function q.places)) q.sleeps
+              unblocked at.0.name q.name (marks_after (marks_at_start code q.function) (steps_at code q.function q.places)) q.sleeps
               (standing code q.function k.path) b
-              (ap (λ o. blocked_after (ending_by o q.name) (marks_after (unmarked code q.function) (steps_at code q.function q.places)) q.sleeps
+              (ap (λ o. blocked_after (ending_by o q.name) (marks_after (marks_at_start code q.function) (steps_at code q.function q.places)) q.sleeps
               (standing code q.function k.path)) (sym failing) ∙ sym k.blocked ∙ blocked)
           | inr past ↦
               let less = ltb-true j (length log.threads) (ap (λ f. is_there f (length log.threads)) (sym (e ∙ this)) ∙ inside) in
@@ -96,22 +97,24 @@ module _ {B : Type 0} (setting : Setting B) (nodes : List Node) (moves : List Mo
   abbrev f : Fits code log
   f = fit setting nodes moves again
 
+  abbrev all : HistoryAlong setting
+  all = history_again setting moves again
+
   -- a mutex that somebody owns at the end is held
   held : (m : ℕ) → IsSome (owner_in done m) → IsHeld threads (w setting nodes moves again) m
   held m owned =
-      let along = goes_along setting nodes moves again in
       let o = some_value (owner_in done m) owned in
-      let n = (took_it setting f done along m o.0 o.1).thread in
-      let g = (region_owned setting f done along n.place n.walk n.there m).0 (o.1 ∙ ap (λ x. Some x) (sym n.name)) in
+      let n = (took_it setting all m o.0 o.1).thread in
+      let g = (region_owned setting all n.thread m).0 (o.1 ∙ ap (λ x. Some x) (sym n.name_is)) in
       record {
-        thread = n.place;
+        thread = n.index;
         region = g.0;
         there = (n.walk, n.there, g.1);
         of = g.2;
-        lasts = no_end n.place n.walk n.there g.0 g.1 g.3.lasts;
+        lasts = no_end n.index n.walk n.there g.0 g.1 g.3.lasts;
       }
     where
-      -- a region that is open after all steps has no end
+      -- a region that is still open after all steps has no end
       no_end : (t : ℕ) (q : Walk) (there : IsThread code log t q) (r : Region) → Contains q.regions r
           → ((k : ℕ) → r.to ≡ Some k → steps_in done q.name ≤ k) → r.to ≡ None
       no_end t q there r i lasts = by r.to refl
@@ -121,13 +124,13 @@ module _ {B : Type 0} (setting : Setting B) (nodes : List Node) (moves : List Mo
           by (Some k) to =
               let parts = region_of_events q.events r (subst (λ rs. Contains rs r) (regions_are code log is f t q there) i) in
               let x = parts.left k to in
-              let inside = event_within code log q (walk_is code log is f t q there) x.event (in_contains x.event q.events x.among) in
+              let inside = event_within code log q (walk_is code log is f (path_thread t q there)) x.event (in_contains x.event q.events x.among) in
               let many = all_steps setting moves again t q there in
               let later = lasts k to in
               absurd (omega (arith, inside, many, later, x.step))
 
   module _ (t : ℕ) (q : Walk) (there : IsThread code log t q) where
-    -- a thread that waits at the end sleeps on
+    -- a thread that waits at the end is never woken
     sleeps_on : (c m k : ℕ) → q.blocked ≡ Some (Wake c m k) → set.contains (waiting_in done c) q.name ≡ true
         → SleepsOn threads (w setting nodes moves again) t k
     sleeps_on c m k blocked waits s x at own step =
@@ -137,26 +140,24 @@ module _ {B : Type 0} (setting : Setting B) (nodes : List Node) (moves : List Mo
             → ender_of (w setting nodes moves again) s ≡ None
         by None e = e
         by (Some g) e =
-            let along = goes_along setting nodes moves again in
-            let a = (sleep_waits setting f done along t q there c).0 waits in
-            let still = sleeps_still setting f done q.name a.0 along a.3 in
-            let last = at_last_sleep code lawful log q (walk_is code log is f t q there) c m k blocked in
+            let a = (sleep_waits setting all (path_thread t q there) c).0 waits in
+            let still = sleeps_still setting all q.name a.0 a.3 in
+            let last = at_last_sleep code lawful log q (walk_is code log is f (path_thread t q there)) c m k blocked in
             let many = all_steps setting moves again t q there in
             let same : a.0.step ≡ x.it.step = omega (arith, still, last.ends, many, step) in
             let ended = ended_told setting moves again (found code log nodes).symbolic s g x at e in
             absurd (ended_is_awake setting nodes moves again s g x t q a.0 there own a.1 same a.3 at ended)
 
-    -- a child that a thread waits for at the end runs on
+    -- a child for which a thread waits at the end never exits
     runs_on : (k : ℕ) → has_exited_in done (child q.name k) ≡ false → RunsOn threads (w setting nodes moves again) t k
     runs_on k going c x is_child event exits =
         let parent : is_child.0 ≡ q = same_Some is_child.0 q (sym is_child.2 ∙ there) in
         let own : is_child.1 ≡ event.0 = same_Some is_child.1 event.0 (sym is_child.3 ∙ event.1) in
         let name = sym (ap (λ (v : Walk). v.name) own) ∙ is_child.4 ∙ ap (λ (v : Walk). child v.name k) parent in
-        let inside = event_within code log event.0 (walk_is code log is f c event.0 event.1) x (in_contains x event.0.events event.2) in
+        let inside = event_within code log event.0 (walk_is code log is f (path_thread c event.0 event.1)) x (in_contains x event.0.events event.2) in
         let many = all_steps setting moves again c event.0 event.1 in
         let less : x.step < steps_in done event.0.name = omega (arith, inside, many) in
-        let gone = (exits_told setting f done (goes_along setting nodes moves again)
-        c event.0 event.1).1 (x, event.2, exits, less) in
+        let gone = (exits_told setting all (path_thread c event.0 event.1)).1 (x, event.2, exits, less) in
         true≢false (sym gone ∙ ap (has_exited_in done) name ∙ going)
 
     cannot_go_on : (b : Blocked) → q.blocked ≡ Some b → IsBlockedIn done q.name (asked_at b)
@@ -169,6 +170,6 @@ module _ {B : Type 0} (setting : Setting B) (nodes : List Node) (moves : List Mo
   pub stuck_rule : (t : ℕ) → StuckRule threads (w setting nodes moves again) t
   stuck_rule t = record {
     stuck = λ q b there is_it.
-        let dead = deadlock code log is q b (walk_is code log is f t q there) is_it in
-        cannot_go_on t q there b is_it (blocked_is_left setting dead moves again t q there b is_it).1.blocked;
+        let dead = deadlock code log is q b (walk_is code log is f (path_thread t q there)) is_it in
+        cannot_go_on t q there b is_it (blocked_is_left setting dead moves again (path_thread t q there) b is_it).1.blocked;
   }

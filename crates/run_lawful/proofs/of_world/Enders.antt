@@ -1,4 +1,4 @@
--- What ends the sleeps of a history, in its world.
+-- What ends the sleeps of a history in its world.
 use Rattle.std.proofs.Common.{◌≡◌, ◌∙◌, ◌⊎◌, inl, inr, ℕ, ◌==◌, ◌&&◌, not, ℤ, Bool, true, false, cond, List, ◌∷◌, ◌++◌, length, map}
 use Rattle.std.proofs.Common.{Option, Some, None, refl, sym, ap, ap₂, subst, arith, append_assoc}
 use Rattle.std.specs.Prelude.{slice_get, option_map, option_and_then}
@@ -23,8 +23,7 @@ use Rattle.path_walk.specs.declared.event.EventKind.TheVariants as kind
 use Rattle.path_walk.specs.declared.event.Sleep.{Sleep}
 use Rattle.path_laws.specs.Setting.{Setting}
 use Rattle.path_laws.specs.Deeds.{kind_of}
-use Rattle.path_laws.specs.history.Along.{IsAlongPaths, IsThread}
-use Rattle.path_laws.proofs.of_history.Told.{reproduced_run, first_along}
+use Rattle.path_laws.specs.history.Along.{IsThread, path_thread}
 use Rattle.path_laws.proofs.of_history.Walks.{walk_is, thread_named}
 use Rattle.path_laws.specs.events.Done.{IsDoneIn}
 use Rattle.path_laws.proofs.of_events.Events.{done_event, event_within}
@@ -40,10 +39,12 @@ use Rattle.run_lawful.specs.world.Order.{IsEndedBy}
 use Rattle.run_lawful.specs.world.WorldOf.{is_step, after_step, ends_wait, is_shown, ender_in, world_in}
 use Rattle.run_lawful.proofs.of_world.Found.{found, finds, behind, same_position}
 use Rattle.run_lawful.proofs.of_world.Ordered.{AreSeen}
-use Rattle.run_lawful.proofs.of_world.Run.{fits, along, all_steps, seen}
+use Rattle.run_lawful.proofs.of_world.Run.{fits, all_steps, seen}
 use Rattle.run_lawful.proofs.of_world.Seen.{the_sight, shown_is, is_shown_by, shows_step}
+use Rattle.path_laws.proofs.of_history.Told.{its_run, up_to}
+use Rattle.path_laws.proofs.of_history.Logged.{history_again}
 
--- a deed that ends a thread's wait on a condition wakes that thread, or all that wait there
+-- a deed that ends a thread's wait on a condition: it wakes that thread, or all that wait there
 pub data EndsWait (c : ℕ) (n : Name) (d : Deed) : Type 0 where
   Woken : (q : Name) (k : ℕ) (took : ℤ) → d ≡ Did q k (WakeOne c) took (Some n) → EndsWait c n d
   AllWoken : (q : Name) (k : ℕ) (took : ℤ) (other : Option Name) → d ≡ Did q k (WakeAll c) took other → EndsWait c n d
@@ -97,14 +98,14 @@ module _ (buffered : Bool) (paths : Paths) (h : List Deed) (a : AreSeen buffered
       a.told.apart s.older newer s.newer f.one d (is ∙ ap (λ xs. xs ++ d ∷ newer) s.there)
       (step_named n k f.one f.passes ∙ sym (step_named n k d hit)))) hit
 
-  -- a deed shows one step of one thread
+  -- a deed shows only one step of one thread
   pub shows_one : (d : Deed) (t k u j : ℕ) → Shows buffered paths d t k → Shows buffered paths d u j → (t ≡ u) × (k ≡ j)
   shows_one d t k u j s r =
       let one : the_sight s.walk.name k ≡ the_sight r.walk.name j =
       same_Some (the_sight s.walk.name k) (the_sight r.walk.name j) (sym s.sight ∙ r.sight) in
       (a.names t u s.walk r.walk s.there r.there (ap (λ (x : Sight). x.thread) one), ap (λ (x : Sight). x.step) one)
 
-  -- so the event of a deed is found by its number
+  -- the number of an event is found by its deed
   pub number_shown : (d : Deed) (t k : ℕ) → Shows buffered paths d t k → position_or_len (λ e. is_shown buffered paths e d) (all_events paths) ≡ number_of paths t k
   number_shown d t k s = same_position (λ e. is_shown buffered paths e d) (is_event t k) (all_events paths) agree
     where
@@ -124,7 +125,7 @@ module _ (buffered : Bool) (paths : Paths) (h : List Deed) (a : AreSeen buffered
                 (subst (λ j. Shows buffered paths d t j) (sym (eqb-true e.it.step k both.1)) s))) ∙ none)))
           ]
 
-  -- the first deed after a sleep that ends it tells its ender
+  -- the first deed after a sleep that ends it gives the ender
   ender_told : (x : Of Sleep) (q : Walk) (newer : List Deed) → slice_get paths.threads x.thread ≡ Some q → after_step h q.name x.it.step ≡ newer
       → ender_in buffered paths h x
       ≡ option_map (λ d. position_or_len (λ e. is_shown buffered paths e d) (all_events paths)) (find (ends_wait x.it.condition q.name) newer)
@@ -151,7 +152,7 @@ module _ (buffered : Bool) (paths : Paths) (h : List Deed) (a : AreSeen buffered
       ∙ ap (λ n. Some n) (number_shown e.ender e.thread e.step e.shows ∙ sym e.number)
 
 module _ {B : Type 0} (setting : Setting B) (moves : List Move) (again : Reproduces setting.ops setting.code setting.log moves) where
-  open setting use {machine, ops, bound, code, log, log_is as is}
+  open setting use {ops, code, log, log_is as is}
 
   abbrev h : List Deed
   h = history ops code moves
@@ -159,7 +160,7 @@ module _ {B : Type 0} (setting : Setting B) (moves : List Move) (again : Reprodu
   abbrev paths : Paths
   paths = paths_of code log
 
-  -- a deed that ends a wait on a condition is a signal or a broadcast of that
+  -- a deed that ends a wait on a condition is a signal or a broadcast of that condition
   pub record IsEnder (c : ℕ) (d : Deed) : Type 0 where
     pub thread : ℕ
     pub walk : Walk
@@ -176,12 +177,10 @@ module _ {B : Type 0} (setting : Setting B) (moves : List Move) (again : Reprodu
           → is_store asked ≡ false → (asked ≡ kind.Signal c) ⊎ (asked ≡ kind.Broadcast c) → IsEnder c d
       told q k r took other asked is_it asks quiet which =
           let there : h ≡ older ++ Did q k r took other ∷ newer = at ∙ ap (λ x. older ++ x ∷ newer) is_it in
-          let run = reproduced_run machine log moves again in
-          let left = run.told.threads older newer q k r took other there in
-          let before = first_along machine log older (Did q k r took other ∷ newer)
-          (subst (IsAlongPaths ops.buffered bound code log) there (along setting moves again)) in
-          let p = thread_named setting (fits setting moves again) older q before left.there in
-          let own : d ≡ Did p.walk.name k r took other = is_it ∙ ap (λ m. Did m k r took other) (sym p.name) in
+          let all = history_again setting moves again in
+          let left = (its_run setting all).told.threads older newer q k r took other there in
+          let p = thread_named setting (up_to setting all older (Did q k r took other ∷ newer) there) q left.there in
+          let own : d ≡ Did p.walk.name k r took other = is_it ∙ ap (λ m. Did m k r took other) (sym p.name_is) in
           let done : IsDoneIn h p.walk.name k asked =
           record {
             older = older;
@@ -192,46 +191,43 @@ module _ {B : Type 0} (setting : Setting B) (moves : List Move) (again : Reprodu
             there = at ∙ ap (λ x. older ++ x ∷ newer) own;
             asks = asks;
           } in
-          let x = done_event setting (fits setting moves again) h
-          (along setting moves again) p.place p.walk p.there k asked done in
+          let x = done_event setting all p.thread k asked done in
           let kept : (ops.buffered && is_store asked) ≡ false = ap (λ b. ops.buffered && b) quiet ∙ and-false ops.buffered in
           record {
-            thread = p.place;
+            thread = p.index;
             walk = p.walk;
             there = p.there;
             event = x.0;
             among = contains_in x.0 p.walk.events x.1;
             signals = elim which [ inl e ↦ inl (x.3 ∙ e) | inr e ↦ inr (x.3 ∙ e) ];
-            shows = subst (λ j. Shows ops.buffered paths d p.place j) (sym x.2)
-                (subst (λ e. Shows ops.buffered paths e p.place k) (sym own)
-                (shows_step ops.buffered paths p.place k p.walk r took other asked p.there asks kept));
+            shows = subst (λ j. Shows ops.buffered paths d p.index j) (sym x.2)
+                (subst (λ e. Shows ops.buffered paths e p.index k) (sym own)
+                (shows_step ops.buffered paths p.index k p.walk r took other asked p.there asks kept));
           }
 
       by : EndsWait c n d → IsEnder c d
       by (Woken q k took is_it) = told q k (WakeOne c) took (Some n) (kind.Signal c) is_it refl refl (inl refl)
       by (AllWoken q k took other is_it) = told q k (WakeAll c) took other (kind.Broadcast c) is_it refl refl (inr refl)
 
-  -- the sleep of a number is one of a thread
+  -- the sleep with this number belongs to a thread
   pub sleeper : (s : ℕ) (x : Of Sleep) → slice_get (all_sleeps paths) s ≡ Some x → (q : Walk) × IsThread code log x.thread q × Contains q.sleeps x.it
   sleeper s x at =
       let o = of_all_from (λ (w : Walk). w.sleeps) 0 paths.threads x (at_in (all_sleeps paths) s x at) in
       let same : o.place ≡ x.thread = omega (arith, o.thread) in
       (o.owner, ap (slice_get paths.threads) (sym same) ∙ o.at, o.among)
 
-  -- and its deed
+  -- each sleep has its deed
   pub sleep_deed : (t : ℕ) (q : Walk) (z : Sleep) (there : IsThread code log t q) → Contains q.sleeps z
-      → DeedOf setting (fits setting moves again) h
-      (along setting moves again) t q there z.step
+      → DeedOf setting (history_again setting moves again) (path_thread t q there) z.step
   sleep_deed t q z there i =
       let s = (seen setting moves again).whole.slept t z (q, there, i) in
       let p = s.1.0 in
       let same : p ≡ q = same_Some p q (sym s.1.1 ∙ there) in
-      let walk = walk_is code log is (fits setting moves again) t p s.1.1 in
+      let walk = walk_is code log is (fits setting moves again) (path_thread t p s.1.1) in
       let inside = event_within code log p walk s.0 (in_contains s.0 p.events s.1.2) in
       let many = all_steps setting moves again t q there in
       let long : length p.places ≡ length q.places = ap (λ (v : Walk). length v.places) same in
-      deed_of setting (fits setting moves again) h
-      (along setting moves again) t q there z.step (omega (arith, inside, long, many, s.2))
+      deed_of setting (history_again setting moves again) (path_thread t q there) z.step (omega (arith, inside, long, many, s.2))
 
   pub ended_told : (symbolic : Symbolic) (s g : ℕ) (x : Of Sleep) → slice_get (all_sleeps paths) s ≡ Some x
       → ender_of (world_in ops.buffered paths symbolic h) s ≡ Some g → IsEndedBy ops.buffered paths h x g

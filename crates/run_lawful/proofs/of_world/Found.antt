@@ -1,4 +1,4 @@
--- The first of a list that passes a test.
+-- The first element of a list that passes a test.
 use Rattle.std.proofs.Common.{◌≡◌, ◌∙◌, ◌+◌, Bool, true, false, not, cond, ◌||◌, List, [], ◌∷◌, ◌++◌}
 use Rattle.std.proofs.Common.{Some, None, refl, sym, ap, ap₂}
 use Rattle.std.specs.Prelude.{drop}
@@ -9,7 +9,7 @@ use Rattle.std.proofs.lemmas.Option.{none-some, same_Some}
 use Rattle.run_lawful.proofs.of_world.Splits.{is_at}
 
 module _ {X : Type 0} (p : X → Bool) where
-  -- where it stands
+  -- the first element of a list that passes the test
   pub record IsFound (xs : List X) (x : X) : Type 0 where
     pub older : List X
     pub newer : List X
@@ -37,7 +37,7 @@ module _ {X : Type 0} (p : X → Bool) where
       by true hit at later = here z x zs hit (same_Some z x at)
       by false miss at later = further z x zs miss (later at)
 
-  -- where one passes there is a first
+  -- if some element passes, there is a first one
   pub some_found : (xs : List X) → list_any p xs ≡ true → (x : X) × IsFound xs x
   some_found [] any = absurd (false≢true any)
   some_found (z ∷ zs) any = by (p z) refl any (some_found zs)
@@ -46,7 +46,7 @@ module _ {X : Type 0} (p : X → Bool) where
       by true hit any later = (z, here z z zs hit refl)
       by false miss any later = let f = later any in (f.0, further z f.0 zs miss f.1)
 
-  -- a search stops there
+  -- a search finds the first element that passes
   pub finds : (xs : List X) (y : X) (ys : List X) → list_any p xs ≡ false → p y ≡ true → find p (xs ++ y ∷ ys) ≡ Some y
   finds [] y ys none hit = ap (λ b. cond b (Some y) (find p ys)) hit
   finds (x ∷ xs) y ys none hit = by (p x) none (λ rest. finds xs y ys rest hit)
@@ -63,11 +63,11 @@ module _ {X : Type 0} (p : X → Bool) where
       by true none later = absurd (true≢false none)
       by false none later = later none
 
-  -- what comes after it
+  -- the elements from the first that passes
   pub behind : (xs : List X) (y : X) (ys : List X) → list_any p xs ≡ false → p y ≡ true → drop (position_or_len p (xs ++ y ∷ ys) + 1) (xs ++ y ∷ ys) ≡ ys
   behind xs y ys none hit = ap (λ k. drop (k + 1) (xs ++ y ∷ ys)) (is_at p xs y ys hit none) ∙ drop-append-add xs (y ∷ ys) 1
 
-  -- another test that says the same of all of them finds the same place
+  -- an equal test finds the same place
   pub same_position : (q : X → Bool) (xs : List X) → ((x : X) → p x ≡ q x) → position_or_len p xs ≡ position_or_len q xs
   same_position q [] same = refl
   same_position q (x ∷ xs) same = ap₂ (λ b k. cond (not b) (1 + k) 0) (same x) (same_position q xs same)

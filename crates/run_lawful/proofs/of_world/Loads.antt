@@ -1,4 +1,4 @@
--- What the loads of a run took is what the loads of its world take.
+-- The loads of the world take the values that the loads of the run took.
 use Rattle.std.proofs.Common.{◌≡◌, List, length}
 use Rattle.tc_base.specs.Buffers.{BufferOps}
 use Rattle.run_log.specs.Logs.{Log}

@@ -1,4 +1,4 @@
--- The world of a history has its events in their order.
+-- The world of a history orders the events as the history does.
 use Rattle.std.proofs.Common.{◌≡◌, ◌∙◌, inl, inr, ℕ, suc, ◌+◌, ◌<◌, Bool, false, ◌&&◌, List, ◌∷◌, ◌++◌, length, Some, sym, ap, ap₂, subst, arith}
 use Rattle.std.proofs.Common.{append_assoc, length-append}
 use Rattle.std.specs.Prelude.{slice_get}
@@ -22,7 +22,7 @@ use Rattle.run_lawful.proofs.of_world.Splits.{TwoPlaces, Before, Same, After, tw
 abbrev pub NamesDiffer : Paths → Type 0
 NamesDiffer paths = (t u : ℕ) (q r : Walk) → slice_get paths.threads t ≡ Some q → slice_get paths.threads u ≡ Some r → q.name ≡ r.name → t ≡ u
 
--- all events take place but stores that wait for good, and nothing else does
+-- all events take place, except stores that wait forever, and nothing else does
 pub record AreSeen (buffered : Bool) (paths : Paths) (h : List Deed) : Type 0 where
   pub told : AreTold buffered h
   pub whole : AreWhole paths
@@ -57,7 +57,7 @@ module _ (buffered : Bool) (paths : Paths) (symbolic : Symbolic) (h : List Deed)
       (a.events u j (record { older = older ++ d ∷ between; deed = e; newer = newer; there = is; shows = es }))
       (omega (arith, first, second, length-append older (d ∷ between)))
 
-  -- two steps of threads take place by different deeds
+  -- different steps take place by different deeds
   apart : (d : Deed) (t k u j : ℕ) → Shows buffered paths d t k → Shows buffered paths d u j → (t ≡ u) × (k ≡ j)
   apart d t k u j s r =
       let one : the_sight s.walk.name k ≡ the_sight r.walk.name j =

@@ -1,4 +1,4 @@
--- Events stand in the world of a history by the places of their deeds, and by their numbers where these are equal.
+-- The world of a history orders events by the places of their deeds, and equal places by number.
 use Rattle.std.proofs.Common.{◌≡◌, ◌∙◌, ◌⊎◌, inl, inr, ℕ, ◌<◌, ◌≤◌, ◌==◌, nat_lt, Bool, true, false, ◌&&◌, ◌||◌, List, ◌∷◌, ◌++◌, map, length, get_or}
 use Rattle.std.proofs.Common.{refl, sym, ap, ap₂, subst, arith}
 use Rattle.std.specs.List.{list_any, position_or_len}
@@ -76,7 +76,7 @@ module _ (buffered : Bool) (paths : Paths) (symbolic : Symbolic) (h : List Deed)
         (told ∙ ap₂ (λ x y. nat_lt (place t k) (place u j) || (x && y)) (eq-eqb (place t k) (place u j) same) (lt-ltb a b less)
         ∙ or-true (nat_lt (place t k) (place u j)))
 
-  -- where a step takes place once, its place is that of its deed
+  -- a step that takes place once has the place of its deed
   pub place_at : (t k : ℕ) (older : List Deed) (d : Deed) (newer : List Deed)
       → ((before between : List Deed) (c : Deed) → h ≡ (before ++ c ∷ between) ++ d ∷ newer → Shows buffered paths c t k → ⊥)
       → h ≡ older ++ d ∷ newer → Shows buffered paths d t k → place t k ≡ length older
@@ -92,7 +92,7 @@ module _ (buffered : Bool) (paths : Paths) (symbolic : Symbolic) (h : List Deed)
   pub place_within : (t k : ℕ) → place t k ≤ length h
   place_within t k = within (shown buffered paths t k) h
 
-  -- a place within the history is that of a deed
+  -- a place within the history is that of a deed that shows the step
   pub record IsFound (t k : ℕ) : Type 0 where
     pub takes : TakesPlace buffered paths h t k
     pub place_is : length takes.older ≡ place t k
@@ -106,7 +106,7 @@ module _ (buffered : Bool) (paths : Paths) (symbolic : Symbolic) (h : List Deed)
         place_is = f.place;
       }
 
-  -- what never takes place has the place after all
+  -- a step that never takes place has the place after all deeds
   pub place_never : (t k : ℕ) → (TakesPlace buffered paths h t k → ⊥) → place t k ≡ length h
   place_never t k never = by (nat_lt (place t k) (length h)) refl
     where

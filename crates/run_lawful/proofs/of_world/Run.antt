@@ -1,4 +1,4 @@
--- What is told of the history of moves that reproduce a log.
+-- Facts on the history of moves that reproduce a log.
 use Rattle.std.proofs.Common.{◌≡◌, ℕ, ℤ, List, length, Option, Some, refl, sym, subst, arith}
 use Rattle.tc_base.specs.Names.{Name}
 use Rattle.tc_base.specs.declared.moves.Move.{Move}
@@ -17,9 +17,9 @@ use Rattle.path_walk.specs.declared.event.EventKind.TheVariants as kind
 use Rattle.path_laws.specs.Setting.{Setting}
 use Rattle.path_laws.specs.Deeds.{kind_of}
 use Rattle.path_laws.proofs.Logs.{reproduced_fits}
-use Rattle.path_laws.specs.history.Along.{IsAlongPaths, IsThread}
-use Rattle.path_laws.proofs.of_history.Told.{reproduced_run, reproduced_along}
-use Rattle.path_laws.proofs.of_history.Logged.{has_done}
+use Rattle.path_laws.specs.history.Along.{IsThread, path_thread}
+use Rattle.path_laws.proofs.of_history.Told.{reproduced_run}
+use Rattle.path_laws.proofs.of_history.Logged.{has_done, history_again}
 use Rattle.path_laws.proofs.of_history.Walks.{walk_is}
 use Rattle.path_laws.specs.events.Done.{IsDoneIn}
 use Rattle.path_laws.proofs.of_events.Events.{event_done, done_event, event_within}
@@ -32,7 +32,7 @@ use Rattle.run_lawful.proofs.of_world.Ordered.{AreSeen}
 use Rattle.run_lawful.proofs.of_world.Seen.{AreTold, SeenBy, Done, Drain, shown_by, shows_step, store_of}
 
 module _ {B : Type 0} (setting : Setting B) (moves : List Move) (again : Reproduces setting.ops setting.code setting.log moves) where
-  open setting use {machine, ops, model, bound, laws, code, lawful, log, log_is as is}
+  open setting use {machine, ops, code, log, log_is as is}
 
   abbrev pub done : List Deed
   done = history ops code moves
@@ -41,10 +41,7 @@ module _ {B : Type 0} (setting : Setting B) (moves : List Move) (again : Reprodu
   paths = paths_of code log
 
   pub fits : Fits code log
-  fits = reproduced_fits code ops model bound laws lawful log moves again
-
-  pub along : IsAlongPaths ops.buffered bound code log done
-  along = reproduced_along machine log moves again
+  fits = reproduced_fits machine log moves again
 
   all : AllTold machine again.state done
   all = (reproduced_run machine log moves again).told
@@ -57,19 +54,19 @@ module _ {B : Type 0} (setting : Setting B) (moves : List Move) (again : Reprodu
   }
 
   pub all_steps : (t : ℕ) (q : Walk) → IsThread code log t q → steps_in done q.name ≡ length q.places
-  all_steps t q there = has_done setting moves again t q there
+  all_steps t q there = has_done setting moves again (path_thread t q there)
 
-  -- each event is done
+  -- each event of a path is done
   pub event_is_done : (t : ℕ) (q : Walk) (x : Event) → IsThread code log t q → In x q.events → IsDoneIn done q.name x.step x.kind
   event_is_done t q x there i =
-      let inside = event_within code log q (walk_is code log is fits t q there) x i in
+      let inside = event_within code log q (walk_is code log is fits (path_thread t q there)) x i in
       let many = all_steps t q there in
-      event_done setting fits done along t q there x i (omega (arith, inside, many))
+      event_done setting (history_again setting moves again) (path_thread t q there) x i (omega (arith, inside, many))
 
-  -- and what is done and asks something is one
+  -- each event that is done is one of the path
   pub is_step : (t : ℕ) (q : Walk) (k : ℕ) (asked : EventKind) → IsThread code log t q → IsDoneIn done q.name k asked → HasStep paths t k
   is_step t q k asked there d =
-      let x = done_event setting fits done along t q there k asked d in
+      let x = done_event setting (history_again setting moves again) (path_thread t q there) k asked d in
       (x.0, (q, there, contains_in x.0 q.events x.1), x.2)
 
   done_at : (n : Name) (k : ℕ) (r : Request) (took : ℤ) (other : Option Name) (asked : EventKind) → In (Did n k r took other) done

@@ -1,4 +1,4 @@
--- By which deeds events take place.
+-- The deeds by which events take place.
 use Rattle.std.proofs.Common.{◌≡◌, ◌∙◌, ℕ, ℤ, Bool, true, false, cond, ◌==◌, ◌&&◌, List, ◌∷◌, ◌++◌, Option, Some, None, refl, sym, ap, ap₂, subst}
 use Rattle.std.specs.Prelude.{option_and_then, slice_get}
 use Rattle.std.specs.Option.{option_map_or}
@@ -21,7 +21,7 @@ use Rattle.world_plan.specs.Sights.{Sight, sight_of, Shows}
 abbrev pub the_sight : Name → ℕ → Sight
 the_sight n k = record { thread = n; step = k }
 
--- by a thread's step, which is no store that waits, or by the drain of its store
+-- a step of the thread that isn't a waiting store, or the drain of its store
 pub data SeenBy (buffered : Bool) (n : Name) (k : ℕ) (d : Deed) : Type 0 where
   Done : (r : Request) (took : ℤ) (other : Option Name) (asked : EventKind) → d ≡ Did n k r took other → kind_of r other ≡ Some asked
       → (buffered && is_store asked) ≡ false → SeenBy buffered n k d
@@ -47,7 +47,7 @@ seen_by buffered n k (Did q j r took other) is = by (kind_of r other) refl is
     by (Some x) asks s = kept x asks (buffered && is_store x) refl s
 
 module _ (buffered : Bool) (paths : Paths) where
-  -- a step of a thread that is an event takes place by it, or, if it is a store that waits, by its drain
+  -- an event takes place by its step, or, if it is a store that waits, by its drain
   pub shows_step : (t k : ℕ) (q : Walk) (r : Request) (took : ℤ) (other : Option Name) (asked : EventKind) → slice_get paths.threads t ≡ Some q
       → kind_of r other ≡ Some asked → (buffered && is_store asked) ≡ false → Shows buffered paths (Did q.name k r took other) t k
   shows_step t k q r took other asked at asks kept = record {
@@ -60,13 +60,13 @@ module _ (buffered : Bool) (paths : Paths) where
   pub shows_drain : (t k : ℕ) (q : Walk) (c : ℕ) (v : ℤ) → slice_get paths.threads t ≡ Some q → Shows buffered paths (Drained q.name k c v) t k
   shows_drain t k q c v at = record { walk = q; there = at; sight = refl }
 
-  -- the walk is that of the thread
+  -- a deed shows a step of the thread with this walk
   pub shown_by : (t k : ℕ) (q : Walk) (d : Deed) → slice_get paths.threads t ≡ Some q → Shows buffered paths d t k → SeenBy buffered q.name k d
   shown_by t k q d at s =
       let one : s.walk ≡ q = same_Some s.walk q (sym s.there ∙ at) in
       seen_by buffered q.name k d (s.sight ∙ ap (λ (x : Walk). Some (the_sight x.name k)) one)
 
-  -- the same as a test
+  -- whether a deed shows this step
   abbrev pub shown : (t k : ℕ) → Deed → Bool
   shown t k d =
       option_map_or (λ (q : Walk). option_map_or (λ (s : Sight). same q.name s.thread && k == s.step) (sight_of buffered d) false)
@@ -96,7 +96,7 @@ module _ (buffered : Bool) (paths : Paths) where
       ∙ ap (λ o. option_map_or (λ (x : Sight). same s.walk.name x.thread && k == x.step) o false) s.sight
       ∙ ap₂ (λ a b. a && b) (same_self s.walk.name s.walk.name refl) (eq-eqb k k refl)
 
--- what is told of deeds: none has another's name; drains are of stores, and come only where there are buffers
+-- deeds have different names; drains are of stores, and happen only with buffers
 pub record AreTold (buffered : Bool) (h : List Deed) : Type 0 where
   pub apart : AllApart h
   pub stores : DrainsAreOfStores h
@@ -115,7 +115,7 @@ module _ (buffered : Bool) (h : List Deed) (told : AreTold buffered h) where
       let store = Did n k (Write c v) w.took w.other in
       (w.took, w.other, subst (In store) (sym s.there) (in_left store s.older (Drained n k c v ∷ s.newer) (subst (In store) (sym w.issued) (in_at w.before store w.after))))
 
-  -- a step that is no store that waits has no drain
+  -- a step that isn't a waiting store has no drain
   not_both : (n : Name) (k c : ℕ) (v : ℤ) (r : Request) (took : ℤ) (other : Option Name) (asked : EventKind) → In (Drained n k c v) h → In (Did n k r took other) h
       → kind_of r other ≡ Some asked → (buffered && is_store asked) ≡ false → ⊥
   not_both n k c v r took other asked i j asks kept =

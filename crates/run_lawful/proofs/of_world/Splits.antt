@@ -1,4 +1,4 @@
--- Two places of one list, and the first that passes a test.
+-- Two places of one list, and the first element that passes a test.
 use Rattle.std.proofs.Common.{◌≡◌, ◌∙◌, ℕ, ◌+◌, ◌<◌, ◌≤◌, Bool, true, false, not, cond, ◌||◌, List, [], ◌∷◌, ◌++◌, length, refl, sym, ap, arith}
 use Rattle.std.specs.List.{list_any, position_or_len}
 use Rattle.std.proofs.lemmas.Bool.{false≢true, true≢false}
@@ -24,7 +24,7 @@ two_places (z ∷ o) x n [] y m is =
 two_places (z ∷ o) x n (w ∷ p) y m is =
     let one : z ≡ w = cc in let rest : o ++ x ∷ n ≡ p ++ y ∷ m = cc in further z w o x n p y m one (two_places o x n p y m rest)
 
--- The place of the first that passes.
+-- The place of the first element that passes.
 module _ {A : Type 0} (p : A → Bool) where
   pub at_most : (o : List A) (x : A) (n : List A) → p x ≡ true → position_or_len p (o ++ x ∷ n) ≤ length o
   at_most [] x n hit = by (p x) hit
@@ -51,7 +51,7 @@ module _ {A : Type 0} (p : A → Bool) where
       by true e rest = absurd (true≢false e)
       by false e rest = let more = rest e in omega (arith, more)
 
-  -- a place where one passes, and none before it
+  -- a place with an element that passes, and with none before it
   pub record FoundAt (xs : List A) (k : ℕ) : Type 0 where
     pub older : List A
     pub it : A

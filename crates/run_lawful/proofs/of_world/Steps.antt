@@ -1,4 +1,4 @@
--- The steps of one thread stand in a history in the order of its path, and the drain of a store after the store.
+-- A history has the steps of a thread in the order of its path, and each drain after its store.
 use Rattle.std.proofs.Common.{◌≡◌, ◌∙◌, ℕ, ◌+◌, ◌<◌, ℤ, Bool, true, cond, ◌==◌, List, ◌∷◌, ◌++◌, Option, refl, sym, ap, ap₂, arith, append_assoc}
 use Rattle.std.proofs.lemmas.Bool.{false≢true, and_parts, eqb-true}
 use Rattle.tc_base.specs.Names.{Name}
@@ -41,7 +41,7 @@ drained_at h n k has =
     record { older = s.older; newer = s.newer; cell = d.0; value = d.1; there = s.there ∙ ap (λ x. s.older ++ x ∷ s.newer) d.2 }
 
 module _ (buffered : Bool) (bound : Binding) (code : Code) (h : List Deed) (follow : AllFollow buffered bound code h) where
-  -- a thread has done the steps before one
+  -- a thread has done the steps before this one
   pub steps_after : (o m : List Deed) (n : Name) (k : ℕ) (r : Request) (v : ℤ) (x : Option Name) → h ≡ o ++ Did n k r v x ∷ m → k ≡ steps_in o n
   steps_after o m n k r v x is = (follow o m (Did n k r v x) is).1.number
 
@@ -64,7 +64,7 @@ module _ (buffered : Bool) (bound : Binding) (code : Code) (h : List Deed) (foll
           let e = ap (λ g. steps_in g n) is in
           absurd (omega (arith, steps_after o m n k r v x one, steps_after p q n j s w y two, less, e, one_more p between n j s w y))
 
-  -- a step with a lesser number stands before a store's drain
+  -- a step with a lesser number comes before a store's drain
   pub step_before_drain : DrainsAreOfStores h → (n : Name) (k j : ℕ) (o m : List Deed) (r : Request) (v : ℤ) (x : Option Name) → h ≡ o ++ Did n k r v x ∷ m
       → (d : IsDrainedAt h n j) → k < j → (between : List Deed) × (d.older ≡ o ++ Did n k r v x ∷ between)
   step_before_drain stores n k j o m r v x one d less =

@@ -30,7 +30,7 @@ use Rattle.run_lawful.proofs.of_world.Loads.{many}
 use Rattle.run_lawful.proofs.of_world.Ordered.{AreSeen}
 use Rattle.run_lawful.proofs.of_world.Run.{seen}
 
--- the event of a number
+-- the event with this number
 pub record IsNumbered (paths : Paths) (g t : ℕ) (x : Event) : Type 0 where
   pub event : Of Event
   pub is : slice_get (all_events paths) g ≡ Some event
@@ -80,7 +80,7 @@ module _ {B : Type 0} (setting : Setting B) (nodes : List Node) (moves : List Mo
   pub is_world : IsWorld w
   is_world = record { distinct = ranks-differ (map (place_in ops.buffered paths h) (all_events paths)) }
 
-  -- what ends a sleep is a signal or a broadcast of its condition
+  -- a sleep's ender is a signal or a broadcast of its condition
   ends : (s g c : ℕ) (x : Of Sleep) → IsSleep paths w s x c → ender_of w s ≡ Some g → IsSignal paths w g c ⊎ IsBroadcast paths w g c
   ends s g c x sleep ender =
       let e = ended_told setting moves again symbolic s g x sleep.is ender in

@@ -28,7 +28,7 @@ behind (f ∷ front) (b ∷ bytes) = if f == b then behind front bytes else None
 abbrev pub with_child : ℕ → Option (Name × List ℕ) → Option (Name × List ℕ)
 with_child child others = others >>= λ x. Some (child ∷ x.0, x.1)
 
--- no children if there is no dot in front, else what `read` gives for the bytes behind the dot
+-- no children if there is no dot in front, else what `read` gives for the bytes after the dot
 abbrev pub where_dot : Option (List ℕ) → List ℕ → (List ℕ → Option (Name × List ℕ)) → Option (Name × List ℕ)
 where_dot None bytes read = Some ([], bytes)
 where_dot (Some number) bytes read = read number
@@ -42,7 +42,7 @@ children_at (suc room) bytes =
 unfoldable pub name_at : List ℕ → Option (Name × List ℕ)
 name_at bytes = behind (codes "0") bytes >>= children_at DEPTH
 
--- the cell that a drain's line names behind the thread, if the model's drains name one
+-- the cell that a drain's line names after the thread, if the model's drains name one
 unfoldable pub cell_at : Model → List ℕ → Option (Option ℕ × List ℕ)
 cell_at Sc bytes = None
 cell_at Tso bytes = Some (None, bytes)

@@ -51,7 +51,7 @@ waits_for_none bound (Bar ∷ ps) c none = waits_for_none bound ps c none
 pub store_there : (older : List Pending) (e : Entry) (newer : List Pending) → stores (older ++ Store e ∷ newer) ≡ [] → ⊥
 store_there older e newer none = not_nil (stores older) e (stores newer) (sym (stores-append older (Store e ∷ newer)) ∙ none)
 
--- after an issue, the buffer stands for its list with one more store
+-- after an issue, the buffer represents its list with one more store
 pub store_last : {B : Type 0} (ops : BufferOps B) (b : B) (ps : List Pending) (c : ℕ) (v : ℤ) → ops.buffered ≡ true → Stands ops b ps
     → Stands ops (ops.issue b c v) (ps ++ Store (record { cell = c; value = v }) ∷ [])
 store_last ops b ps c v buffered s = record {

@@ -117,7 +117,7 @@ made_of_segments : (qs : List Pending) → fold (put cell_buffer) (fin.empty ∷
 unfolding first rest
 made_of_segments qs = put_all [] qs
 
--- a buffer that stands for a list consists of the segments that the list makes
+-- a buffer that represents a list consists of the segments of that list
 are_segments : (b : List Segment) (ps : List Pending) → Stands cell_buffer b ps → b ≡ segments ps
 are_segments b ps s = s.made ∙ made_of_segments ps
 

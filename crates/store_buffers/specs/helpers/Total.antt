@@ -39,7 +39,7 @@ put_all b [] = sym (append-nil b)
 put_all b (Store e ∷ ps) = put_all (b ++ e ∷ []) ps ∙ append_assoc b (e ∷ []) (stores ps)
 put_all b (Bar ∷ ps) = put_all b ps
 
--- the queue is the stores of any list that it stands for
+-- the queue is the stores of any list that it represents
 queue : (b : List Entry) (ps : List Pending) → Stands fifo_buffer b ps → b ≡ stores ps
 queue b ps s = s.made ∙ put_all [] ps
 

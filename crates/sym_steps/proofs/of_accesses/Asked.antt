@@ -1,6 +1,6 @@
 -- What a thread's steps ask of cells is what its accesses ask.
-use Rattle.std.proofs.Common.{◌≡◌, ◌∙◌, inl, inr, ℕ, ◌<◌, ℤ, Bool, true, false, cond, List, [], ◌∷◌, ◌++◌, map, Option, Some, refl, ap, ap₂, sym, subst, arith}
-use Rattle.std.specs.Prelude.{slice_get, nat_lt}
+use Rattle.std.proofs.Common.{◌≡◌, ◌∙◌, inl, inr, ℕ, ◌<◌, ℤ, Bool, true, false, cond, List, [], ◌∷◌, ◌++◌, map, Option, refl, ap, ap₂, sym, subst, arith}
+use Rattle.std.specs.Prelude.{nat_lt}
 use Rattle.std.specs.List.{Contains, filter, flat_map}
 use Rattle.std.proofs.lemmas.Bool.{lt-ltb}
 use Rattle.tc_base.specs.Names.{Name}
@@ -10,25 +10,21 @@ use Rattle.run_laws.proofs.Names.{is_same, same_self}
 use Rattle.run_history.specs.History.{Deed, Did, Drained, same}
 use Rattle.run_history.specs.Told.{steps_in}
 use Rattle.run_history.proofs.of_pending.In.{In, in_at, in_split, in_filter, from_filter}
-use Rattle.path_walk.specs.Fits.{Fits}
-use Rattle.path_walk.specs.Paths.{Walk}
 use Rattle.path_laws.specs.Setting.{Setting}
-use Rattle.path_laws.specs.history.Along.{IsAlongPaths, IsThread}
-use Rattle.path_laws.proofs.of_history.Told.{RunOf, run_of, steps_of, local_is}
+use Rattle.path_laws.proofs.of_history.Told.{RunOf, steps_of, local_is, its_run}
 use Rattle.path_laws.proofs.of_events.Events.{there_by_step}
 use Rattle.path_laws.proofs.of_events.Lists.{in_map, from_map, in_contains, contains_in}
 use Rattle.path_laws.proofs.of_events.Steps.{step_is}
-use Rattle.sym_terms.specs.Terms.{AreTerms}
 use Rattle.sym_terms.specs.declared.node.Node.{Node}
 use Rattle.sym_exec.specs.Alone.{Asked, asked_by, asked_in}
-use Rattle.sym_exec.specs.Executed.{Course}
 use Rattle.sym_exec.specs.declared.symbolic.Access.{Access}
-use Rattle.sym_laws.specs.Valued.{AgreesWith, AskedAt, asked_of, asked_at, found}
+use Rattle.sym_laws.specs.Valued.{AskedAt, asked_of, asked_at, found}
 use Rattle.sym_steps.proofs.Told.{has_values}
 use Rattle.order_events.proofs.Lists.{in_front, in_flat_map, of_flat_map}
 use Rattle.sym_steps.specs.accesses.Asked.{IsAskedIn}
+use Rattle.sym_steps.specs.Valued.{ValuedHistory, ExecutedThread}
 
--- a request asks one thing of a cell at most
+-- a request is for at most one cell
 only_one : (y z : Asked) → In y (z ∷ []) → z ∷ [] ≡ y ∷ []
 only_one y z (inl e) = ap (λ x. x ∷ []) e
 only_one y z (inr i) = absurd i
@@ -41,7 +37,7 @@ asks_one took (CompareExchange c e v) y i = only_one y _ i
 asks_one took Silent y i = absurd i
 asks_one took r y i = absurd i
 
--- what a deed of a thread asks
+-- the request of a thread's deed
 record IsAskedBy (d : Deed) (n : Name) (y : AskedAt) : Type 0 where
   request : Request
   took : ℤ
@@ -65,25 +61,25 @@ deed_asks n (Did q k r took other) y i = by (same n q) refl i
         }
     by false e i = absurd i
 
-module _ {B : Type 0} (setting : Setting B) (fits : Fits setting.code setting.log) (nodes : List Node) (loads : List ℤ) (terms : AreTerms nodes)
-    (h : List Deed) (along : IsAlongPaths setting.ops.buffered setting.bound setting.code setting.log h)
-    (agrees : AgreesWith (found setting.code setting.log nodes).symbolic loads h) (j : ℕ) (w : Walk) (c : Course)
-    (there : IsThread setting.code setting.log j w) (course : slice_get (found setting.code setting.log nodes).symbolic.threads j ≡ Some c) where
+module _ {B : Type 0} (setting : Setting B) (nodes : List Node) (loads : List ℤ) (valued : ValuedHistory setting nodes loads)
+    (one : ExecutedThread setting.code setting.log nodes) where
   open setting use {machine, code, log}
+  open valued use {history, deeds as h}
+  open one use {thread, walk as w, course as c}
 
   abbrev r : RunOf machine log h
-  r = run_of machine log h along
+  r = its_run setting history
 
   abbrev at : Access → AskedAt
   at a = asked_at (found code log nodes).nodes loads a
 
-  -- what a thread that has done a step asked
+  -- the requests of a thread that has done a step
   asked_so : 0 < steps_in h w.name
       → flat_map (asked_of w.name) h ≡ map at (filter (λ (a : Access). nat_lt a.step (steps_in h w.name)) c.accesses)
   asked_so some =
-      let t = there_by_step setting fits h along j w there some in
+      let t = there_by_step setting history thread some in
       let local = local_is machine log h r w.name t.0 t.1 in
-      let v = has_values setting fits nodes loads terms h along agrees j w c t.0.local there course local in
+      let v = has_values setting nodes loads valued one t.0.local local in
       v.accesses
       ∙ ap (λ n. map at (filter (λ (a : Access). nat_lt a.step n) c.accesses)) (steps_of machine log h r w.name t.0 t.1)
 
@@ -108,7 +104,7 @@ module _ {B : Type 0} (setting : Setting B) (fits : Fits setting.code setting.lo
       → (a : Access) × In a c.accesses × (a.step ≡ k) × (asked_in (found code log nodes).nodes loads a ≡ y)
   asked_access k y d =
       let deed = Did w.name k d.request d.took d.other in
-      let step = step_is setting fits h along j w there d.older d.newer k d.request d.took d.other d.there in
+      let step = step_is setting history thread d.older d.newer k d.request d.took d.other d.there in
       let z : AskedAt = record { step = k; asked = y } in
       let mine : asked_of w.name deed ≡ z ∷ [] =
       ap (λ b. cond b (map (λ x. record { step = k; asked = x }) (asked_by d.took d.request)) []) (same_self w.name w.name refl)

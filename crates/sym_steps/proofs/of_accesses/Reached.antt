@@ -20,16 +20,15 @@ use Rattle.tc_code.specs.declared.instr.Instr.TheVariants.{Set, Load, LoadAt, St
 use Rattle.tc_code.proofs.Facts.{placed}
 use Rattle.run_laws.specs.Whole.{IndexIsWithin}
 use Rattle.run_laws.proofs.Guards.{index_is_within}
-use Rattle.run_history.specs.History.{Deed, Did, history}
+use Rattle.run_history.specs.History.{Did, history}
 use Rattle.run_history.specs.Told.{steps_in, failed_in}
 use Rattle.run_history.proofs.Ints.{models_pass_ints}
 use Rattle.run_history.proofs.of_pending.In.{In, in_append}
-use Rattle.path_walk.specs.Fits.{Fits}
 use Rattle.path_walk.specs.Paths.{Walk, walk_of, paths_of}
 use Rattle.path_laws.specs.Setting.{Setting}
-use Rattle.path_laws.specs.history.Along.{IsAlongPaths, IsThread}
+use Rattle.path_laws.specs.history.Along.{IsThread}
 use Rattle.path_laws.specs.history.Next.{IsNextOnPath}
-use Rattle.path_laws.proofs.of_history.Told.{RunOf, run_of}
+use Rattle.path_laws.proofs.of_history.Told.{RunOf, its_run, up_to}
 use Rattle.path_laws.proofs.of_history.Walks.{thread_path_at}
 use Rattle.path_laws.proofs.of_history.Next.{thread_next}
 use Rattle.path_laws.proofs.of_events.Lists.{each_in, in_contains}
@@ -57,8 +56,9 @@ use Rattle.order_formula.specs.Worlds.{World}
 use Rattle.lawful_order.specs.Cells.{is_same_cell, value_at_start}
 use Rattle.sym_steps.specs.accesses.Asked.{IsReachedIn}
 use Rattle.sym_steps.proofs.of_accesses.Sound.{IsSound, same_cell_is, begins_so}
+use Rattle.sym_steps.specs.Valued.{ValuedHistory, ExecutedThread}
 
--- what an instruction adds to an execution names cells as the code does
+-- an instruction adds accesses to cells that the code allows
 record AddsSound (arrays : List Array) (loads : List ℤ) (d e : Doing) : Type 0 where
   added : List Access
   accesses : e.accesses ≡ d.accesses ++ added
@@ -71,7 +71,7 @@ one_sound arrays loads d e a accesses sound = record { added = a ∷ []; accesse
 none_added : (arrays : List Array) (loads : List ℤ) (d e : Doing) → e.accesses ≡ d.accesses → AddsSound arrays loads d e
 none_added arrays loads d e same = record { added = []; accesses = same ∙ sym (append-nil d.accesses); sound = λ later g. tt }
 
--- an index that a thread finds inside an array is so by its term, in all later nodes
+-- an index that a thread finds inside an array is inside by its term, in all later nodes
 inside : (loads : List ℤ) (x : Made) (len : ℕ) (e : Expr) (t : Local) (d : Doing) (later : List Node) → HasValue loads x (expr_value_of e (slots_by loads d))
     → t.slots ≡ slots_by loads d → Grows x.nodes later → IsTrue (is_within len (value_in t e)) → IsTrue (is_within len (value_of later loads x.term))
 inside loads x len e t d later has slots g within =
@@ -107,16 +107,17 @@ adds_sound arrays loads line wanted d (Set k e) t are s named is apart within =
     none_added arrays loads d (after_instr line wanted d (Set k e)) refl
 adds_sound arrays loads line wanted d i t are s named is apart within = none_added arrays loads d (after_instr line wanted d i) refl
 
-module _ {B : Type 0} (setting : Setting B) (fits : Fits setting.code setting.log) (nodes : List Node) (loads : List ℤ) (terms : AreTerms nodes) where
+module _ {B : Type 0} (setting : Setting B) (nodes : List Node) (loads : List ℤ) (valued : ValuedHistory setting nodes loads) where
   open setting use {machine, ops, model, bound, laws, code, lawful, log, log_is as is}
+  open valued use {history as along, terms, agrees}
+  open along use {deeds as h, fits}
 
   abbrev Sound : Access → Type 0
   Sound a = IsSound lawful.arrays.arrays (found code log nodes).nodes loads a.cell
 
-  module _ (h : List Deed) (along : IsAlongPaths ops.buffered bound code log h) (agrees : AgreesWith (found code log nodes).symbolic loads h)
-      (going : failed_in h ≡ None) (j : ℕ) where
+  module _ (going : failed_in h ≡ None) (j : ℕ) where
     abbrev r : RunOf machine log h
-    r = run_of machine log h along
+    r = its_run setting along
 
     -- the next accesses of the thread under a path of the log
     module _ (p : ThreadPath) (at : slice_get log.threads j ≡ Some p) (there : IsThread code log j (walk_of code log p))
@@ -125,7 +126,7 @@ module _ {B : Type 0} (setting : Setting B) (fits : Fits setting.code setting.lo
       w = walk_of code log p
 
       abbrev y : (t : Thread B) × (fin.get r.state.threads w.name ≡ Some t) × (t.local ≡ x.local)
-      y = thread_next setting fits h j w there going r x
+      y = thread_next setting along (record { index = j; walk = w; there = there }) going x
 
       abbrev t : Local
       t = y.0.local
@@ -218,42 +219,47 @@ module _ {B : Type 0} (setting : Setting B) (fits : Fits setting.code setting.lo
         (λ there x now. step_sound p.0 p.1 there x a (subst (λ (z : Course). In a z.accesses) (sym same) one) now)
         there x now
 
-  module _ (h : List Deed) (along : IsAlongPaths ops.buffered bound code log h) (agrees : AgreesWith (found code log nodes).symbolic loads h) where
-    -- and so it was before each step that is done
-    done_sound : (j : ℕ) (w : Walk) (c : Course) → IsThread code log j w → slice_get (found code log nodes).symbolic.threads j ≡ Some c
-        → (a : Access) → In a c.accesses → a.step < steps_in h w.name → Sound a
-    done_sound j w c there course a one before =
-        let d = deed_of setting fits h along j w there a.step before in
-        let agreed = agree_first (found code log nodes).symbolic loads d.older (Did w.name a.step d.request d.took d.other ∷ d.newer)
-        (subst (AgreesWith (found code log nodes).symbolic loads) d.at agrees) in
-        next_sound d.older d.step.begins agreed d.step.going j w c there course d.step.next a one d.step.may.number
+-- and so it was before each step that is done
+module _ {B : Type 0} (setting : Setting B) (nodes : List Node) (loads : List ℤ) (valued : ValuedHistory setting nodes loads) where
+  open setting use {code, log}
+  open valued use {history as along, terms, agrees}
+  open along use {deeds as h}
 
-    pub reached_sound : (t : ℕ) (a : Access) → IsReachedIn code log nodes h t a → Sound a
-    reached_sound t a x = by x.reached
-      where
-        one : In a x.course.accesses
-        one = in_contains a x.course.accesses x.among
+  done_sound : (one : ExecutedThread code log nodes) (a : Access) → In a one.course.accesses → a.step < steps_in h one.name
+      → Sound setting nodes loads valued a
+  done_sound one a among before =
+      let d = deed_of setting along one.thread a.step before in
+      let rest = Did one.name a.step d.request d.took d.other ∷ d.newer in
+      let agreed = agree_first (found code log nodes).symbolic loads d.older rest (subst (AgreesWith (found code log nodes).symbolic loads) d.at agrees) in
+      next_sound setting nodes loads (record { history = up_to setting along d.older rest d.at; terms = terms; agrees = agreed })
+      d.step.going one.index one.walk one.course one.there one.executed d.step.next a among d.step.may.number
 
-        by : (a.step < steps_in h x.walk.name) ⊎ ((a.step ≡ steps_in h x.walk.name) × (failed_in h ≡ None) × IsNextOnPath code h x.walk) → Sound a
-        by (inl before) = done_sound t x.walk x.course x.thread x.there a one before
-        by (inr now) = next_sound h along agrees now.1 t x.walk x.course x.thread x.there now.2 a one now.0
+  pub reached_sound : (t : ℕ) (a : Access) → IsReachedIn code log nodes h t a → Sound setting nodes loads valued a
+  reached_sound t a x = by x.reached
+    where
+      one : In a x.course.accesses
+      one = in_contains a x.course.accesses x.among
+
+      by : (a.step < steps_in h x.walk.name) ⊎ ((a.step ≡ steps_in h x.walk.name) × (failed_in h ≡ None) × IsNextOnPath code h x.walk)
+          → Sound setting nodes loads valued a
+      by (inl before) =
+          done_sound (record { thread = record { index = t; walk = x.walk; there = x.thread }; course = x.course; executed = x.there }) a one before
+      by (inr now) = next_sound setting nodes loads valued now.1 t x.walk x.course x.thread x.there now.2 a one now.0
 
 -- so two of them are to one cell where their cells have one number
-pub same_cells : {B : Type 0} (setting : Setting B) (fits : Fits setting.code setting.log) (nodes : List Node) (w : World) (terms : AreTerms nodes) (h : List Deed)
-    (along : IsAlongPaths setting.ops.buffered setting.bound setting.code setting.log h) (agrees : AgreesWith (found setting.code setting.log nodes).symbolic w.loads h) (t u : ℕ) (a b : Access)
-    → IsReachedIn setting.code setting.log nodes h t a → IsReachedIn setting.code setting.log nodes h u b
+pub same_cells : {B : Type 0} (setting : Setting B) (nodes : List Node) (w : World) (valued : ValuedHistory setting nodes w.loads) (t u : ℕ) (a b : Access)
+    → IsReachedIn setting.code setting.log nodes valued.deeds t a → IsReachedIn setting.code setting.log nodes valued.deeds u b
     → is_same_cell (found setting.code setting.log nodes).nodes w a.cell b.cell
     ≡ (cell_by (found setting.code setting.log nodes).nodes w.loads a.cell == cell_by (found setting.code setting.log nodes).nodes w.loads b.cell)
-same_cells setting fits nodes w terms h along agrees t u a b first second =
+same_cells setting nodes w valued t u a b first second =
     same_cell_is setting.lawful.arrays.arrays setting.lawful.arrays.apart (found setting.code setting.log nodes).nodes w a.cell b.cell
-    (reached_sound setting fits nodes w.loads terms h along agrees t a first)
-    (reached_sound setting fits nodes w.loads terms h along agrees u b second)
+    (reached_sound setting nodes w.loads valued t a first)
+    (reached_sound setting nodes w.loads valued u b second)
 
 -- and the cell of each has at the start what the code gives it
-pub cell_begins : {B : Type 0} (setting : Setting B) (fits : Fits setting.code setting.log) (nodes : List Node) (loads : List ℤ) (terms : AreTerms nodes) (h : List Deed)
-    (along : IsAlongPaths setting.ops.buffered setting.bound setting.code setting.log h) (agrees : AgreesWith (found setting.code setting.log nodes).symbolic loads h) (t : ℕ) (a : Access)
-    → IsReachedIn setting.code setting.log nodes h t a
+pub cell_begins : {B : Type 0} (setting : Setting B) (nodes : List Node) (loads : List ℤ) (valued : ValuedHistory setting nodes loads) (t : ℕ) (a : Access)
+    → IsReachedIn setting.code setting.log nodes valued.deeds t a
     → value_at_start setting.code a.cell ≡ slice_index_or setting.code.memory (cell_by (found setting.code setting.log nodes).nodes loads a.cell) (pos 0)
-cell_begins setting fits nodes loads terms h along agrees t a at =
+cell_begins setting nodes loads valued t a at =
     begins_so setting.code setting.lawful.arrays (found setting.code setting.log nodes).nodes loads a.cell
-    (reached_sound setting fits nodes loads terms h along agrees t a at)
+    (reached_sound setting nodes loads valued t a at)

@@ -20,7 +20,7 @@ use Rattle.sym_exec.specs.declared.symbolic.Cell.TheVariants.{Fixed, Element}
 use Rattle.order_formula.specs.Worlds.{World}
 use Rattle.lawful_order.specs.Cells.{is_same_cell, value_at_start}
 
--- a cell that is told by number is no array's, and an element is inside an array of the code
+-- a fixed cell is in no array, and an element is inside an array of the code
 abbrev pub IsSound : List Array → List Node → List ℤ → Cell → Type 0
 IsSound arrays nodes loads (Fixed c) = IsTrue (list_all (is_outside c) arrays)
 IsSound arrays nodes loads (Element f m i) = IsTrue (is_array arrays f m) × IsTrue (is_within m (value_of nodes loads i))
@@ -58,7 +58,7 @@ outside_at (x ∷ xs) c zero a out at =
     subst (λ y. IsTrue (is_outside c y)) (same_Some x a at) (and_parts (is_outside c x) (list_all (is_outside c) xs) out).0
 outside_at (x ∷ xs) c (suc k) a out at = outside_at xs c k a (and_parts (is_outside c x) (list_all (is_outside c) xs) out).1 at
 
--- a cell of no array is none of its elements
+-- a cell outside all arrays isn't an element of one
 not_element : (arrays : List Array) (c f m n : ℕ) → IsTrue (list_all (is_outside c) arrays) → IsTrue (is_array arrays f m) → n < m → c ≡ f + n → ⊥
 not_element arrays c f m n out named below same =
     let a = array_of arrays f m named in
@@ -69,7 +69,7 @@ not_element arrays c f m n out named below same =
 
 module _ (arrays : List Array)
     (apart : (j k : ℕ) (a b : Array) → slice_get arrays j ≡ Some a → slice_get arrays k ≡ Some b → j < k → a.first + a.length ≤ b.first) where
-  -- of two arrays one lies before the other, or they have one name
+  -- of two arrays one lies before the other, or they begin at one cell
   abbrev LieSo : (f m g n : ℕ) → Type 0
   LieSo f m g n = (f ≡ g) ⊎ ((f + m ≤ g) ⊎ (g + n ≤ f))
 
@@ -132,7 +132,7 @@ module _ (arrays : List Array)
         ∙ elements_by f m g n v.0 u.0 v.2 u.2 (lie_so f m g n p.0 q.0)
         ∙ sym (ap₂ (λ x y. cell_at f x == cell_at g y) v.1 u.1)
 
--- what a cell has at the start
+-- the initial value of a cell
 pub begins_so : (code : Code) (has : HasArrays code) (nodes : List Node) (loads : List ℤ) (a : Cell) → IsSound has.arrays nodes loads a
     → value_at_start code a ≡ slice_index_or code.memory (cell_by nodes loads a) (pos 0)
 begins_so code has nodes loads (Fixed c) sound = refl

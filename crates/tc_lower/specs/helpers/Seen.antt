@@ -7,13 +7,13 @@ use Rattle.tc_tree.specs.declared.expression.Name.{Name}
 use Rattle.tc_lower.specs.declared.things.Scope.{Scope}
 use Rattle.tc_lower.specs.declared.things.Thing.{Thing}
 use Rattle.tc_lower.specs.declared.value.Writer.{Writer}
-use Rattle.tc_lower.specs.Things.{scope}
+use Rattle.tc_lower.specs.Things.{thing_in_scope}
 use Rattle.tc_lower.specs.Statements.{Written}
 use Rattle.tc_lower.specs.Values.{Evaluated, evaluated, Arguments, arguments}
 
--- what a name stands for
+-- the thing that a name denotes
 abbrev pub plain_scope : Scope → Name → Option Thing
-plain_scope s = scope s.source.now s.own.now s.all.now
+plain_scope s = thing_in_scope s.source.now s.own.now s.all.now
 
 -- the lowering of an expression that is written next
 abbrev pub evaluated_by : Scope → Writer → Expression → Evaluated

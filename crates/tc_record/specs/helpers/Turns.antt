@@ -8,7 +8,7 @@ use Rattle.tc_code.specs.Code.{Code}
 use Rattle.tc_code.specs.Run.{IsStuck}
 use Rattle.tc_record.specs.declared.end.End.{End}
 use Rattle.tc_record.specs.declared.end.End.TheVariants as end
-use Rattle.tc_record.specs.Seeded.{ended, behind, seeded_from}
+use Rattle.tc_record.specs.Seeded.{run_ended_at, with_moves_before, seeded_from}
 use Rattle.tc_record.specs.helpers.Paths.{IsWithin}
 
 module _ {B : Type 0} (ops : BufferOps B) (code : Code) where
@@ -21,5 +21,5 @@ module _ {B : Type 0} (ops : BufferOps B) (code : Code) where
 
   -- a turn with a word ends the run this way, or takes it from s to u, whatever words follow
   abbrev pub IsTurn : (s u : State B) (before after : List Move) → ℕ → Option End → Type 0
-  IsTurn s u before after word end = (words : List ℕ) → behind before (seeded_from ops code s (word ∷ words))
-      ≡ option_map_or (λ e. behind after (ended u e)) end (behind after (seeded_from ops code u words))
+  IsTurn s u before after word end = (words : List ℕ) → with_moves_before before (seeded_from ops code s (word ∷ words))
+      ≡ option_map_or (λ e. with_moves_before after (run_ended_at u e)) end (with_moves_before after (seeded_from ops code u words))

@@ -1,4 +1,4 @@
--- One way down from outcomes, step by step.
+-- One descent from given outcomes, step by step.
 use Rattle.std.specs.Prelude.{◌≡◌, ℕ, zero, suc, ◌+◌, ◌^◌, ◌<◌, ◌≤◌, ◌⊎◌, ◌==◌, List, [], ◌∷◌, ◌++◌, length, Bool, true, false, not, ◌&&◌, nat_le, if◌then◌else◌}
 use Rattle.std.specs.Prelude.{slice_index_or, Option, Some, None}
 use Rattle.std.specs.Option.{option_map_or}
@@ -8,7 +8,7 @@ use Rattle.tc_code.specs.declared.instr.Instr.{Instr}
 use Rattle.tc_code.specs.declared.instr.Instr.TheVariants.{Branch, Goto}
 use Rattle.list_laws.specs.Lists.{is_nil}
 use Rattle.path_walk.specs.Events.{excludes}
-use Rattle.path_walk.specs.Marks.{Marks, unmarked, marked}
+use Rattle.path_walk.specs.Marks.{Marks, marks_at_start, marks_after_instr}
 use Rattle.path_walk.specs.Steps.{Onward, onward, is_site, can_block}
 use Rattle.thread_marks.specs.Own.{Own, own_of}
 use Rattle.thread_paths.specs.Ends.{is_exit, is_used}
@@ -26,57 +26,57 @@ use Rattle.thread_paths.specs.declared.descent.Reason.{Reason}
 use Rattle.thread_paths.specs.declared.descent.Reason.TheVariants.{Dead, TooMany, TooLong}
 use Rattle.thread_paths.specs.declared.found.Cut.{Cut}
 
--- what the first so many outcomes are worth together as a number of bits, the highest first
+-- the first `n` outcomes as a number of bits, the highest bit first
 abbrev pub worth : ℕ → List Bool → ℕ
 worth zero o = 0
 worth (suc n) [] = 0
 worth (suc n) (b ∷ o) = (if b then 2 ^ n else 0) + worth n o
 
--- whether a thread goes two ways from an instruction
+-- whether an instruction has two ways to go on
 abbrev pub is_branch : Instr → Bool
 is_branch (Branch e to) = true
 is_branch _ = false
 
--- where a thread goes on after an instruction at a place, with this outcome where it is a branch
+-- the place after an instruction, given the outcome if it is a branch
 abbrev pub place_after : ℕ → Instr → Bool → ℕ
 place_after k (Branch e to) outcome = if outcome then k + 1 else to
 place_after k (Goto to) outcome = to
 place_after k _ outcome = k + 1
 
--- whether a path in which the thread doesn't fail may end with an instruction that leads to a place
+-- whether a path may end with this instruction, which leads to a place, if the thread doesn't fail
 abbrev pub ends_with : Code → ℕ → End → Instr → ℕ → Bool
 ends_with code f Exit i to = is_exit i
 ends_with code f Used i to = is_used i
 ends_with code f Open i to = is_used i
 ends_with code f Rest i to = option_map_or can_block (instr_at code f to) true
 
--- whether a path may end with an instruction that leads to a place
+-- whether a path may end with this instruction, which leads to a place
 abbrev pub is_last : Code → ℕ → Aim → Marks → Instr → ℕ → Bool
 is_last code f aim t i to = if aim.may_fail && is_site i then not (excludes t i true)
     else (not (excludes t i false) && ends_with code f aim.end i to)
 
--- whether a path may end after one step more from a place than these, with these outcomes
+-- whether a path may end `n + 1` steps after a place, with these outcomes
 abbrev pub goes : Code → ℕ → Aim → ℕ → Marks → ℕ → List Bool → Bool
 goes code f aim zero t k outcomes =
     option_map_or (λ i. option_map_or (λ (on : Onward). is_nil on.outcomes && is_last code f aim t i on.place) (onward k i outcomes) false)
     (instr_at code f k) false
 goes code f aim (suc n) t k outcomes =
     option_map_or
-    (λ i. option_map_or (λ (on : Onward). not (excludes t i false) && goes code f aim n (marked t i) on.place on.outcomes) (onward k i outcomes) false)
+    (λ i. option_map_or (λ (on : Onward). not (excludes t i false) && goes code f aim n (marks_after_instr t i) on.place on.outcomes) (onward k i outcomes) false)
     (instr_at code f k) false
 
--- whether a path may end before its first step
+-- whether the path of no steps may end this way
 abbrev pub stays : Code → ℕ → End → Bool
 stays code f Open = true
 stays code f Rest = option_map_or can_block (instr_at code f 0) true
 stays code f _ = false
 
--- whether a thread may take the path of these outcomes and steps
+-- whether a thread may take the path with these outcomes and this number of steps
 abbrev pub takes : Code → Scope → List Bool → ℕ → Bool
 takes code scope outcomes zero = is_nil outcomes && stays code scope.function scope.aim.end
-takes code scope outcomes (suc n) = goes code scope.function scope.aim n (unmarked code scope.function) 0 outcomes
+takes code scope outcomes (suc n) = goes code scope.function scope.aim n (marks_at_start code scope.function) 0 outcomes
 
--- whether some have an outcome true where these have false, after the same ones
+-- whether the outcomes differ, and the second ones are true where they first do
 abbrev pub leaves_behind : List Bool → List Bool → Bool
 leaves_behind [] outcomes = false
 leaves_behind (_ ∷ o) [] = false
@@ -84,7 +84,7 @@ leaves_behind (false ∷ o) (true ∷ outcomes) = true
 leaves_behind (true ∷ o) (false ∷ outcomes) = false
 leaves_behind (_ ∷ o) (_ ∷ outcomes) = leaves_behind o outcomes
 
--- the next outcomes after all that begin with these
+-- the least outcomes that come after all that begin with these
 pub record TurnsTo (before after : List Bool) : Type 0 where
   pub same : (q : List Bool) (s : ℕ) → leaves_behind before q ≡ is_from after 0 q s
   pub few : length after ≤ length before
@@ -94,7 +94,7 @@ abbrev pub IsTurned : List Bool → List Bool → Bool → Type 0
 IsTurned before after true = TurnsTo before after
 IsTurned before after false = (q : List Bool) → leaves_behind before q ≡ false
 
--- where a thread is after an instruction, on its way by these outcomes
+-- where a thread is after an instruction, given these outcomes
 abbrev pub at_after : At → Instr → List Bool → At
 at_after at i outcomes = record {
   place = place_after at.place i (slice_index_or outcomes at.used false);
@@ -102,7 +102,7 @@ at_after at i outcomes = record {
   least = at.least;
 }
 
--- behind all outcomes comes a false, for a branch
+-- a false is appended to the outcomes, for a branch
 pub record IsPushed (most : ℕ) (i : Instr) (at : At) (before after : List Bool) (to : At) : Type 0 where
   pub is : to ≡ record at { least = 0 }
   pub branch : is_branch i ≡ true
@@ -110,18 +110,18 @@ pub record IsPushed (most : ℕ) (i : Instr) (at : At) (before after : List Bool
   pub room : length before < most
   pub added : after ≡ before ++ false ∷ []
 
--- a thread has an outcome for an instruction, if it needs one: behind all of them comes a false; or has too many
+-- a branch has its outcome: given, or a false appended; or there are too many outcomes
 abbrev pub IsOpened : ℕ → Instr → At → List Bool → List Bool → Option At → Type 0
 IsOpened most i at before after (Some to) =
     ((to ≡ at) × (after ≡ before) × (is_branch i ≡ true → at.used < length before)) ⊎ IsPushed most i at before after to
 IsOpened most i at before after None = (is_branch i ≡ true) × (length before ≤ at.used) × (most ≤ length before) × (after ≡ before)
 
--- whether a path may end here
+-- whether a path may end after this instruction
 abbrev pub is_end : Code → Scope → ℕ → Marks → Instr → At → List Bool → Bool
 is_end code scope steps t i to outcomes =
     to.used == length outcomes && nat_le to.least steps && is_last code scope.function scope.aim t i to.place
 
--- the paths that a way down leaves out
+-- the paths that a descent leaves out
 abbrev pub IsExcused : Scope → Reason → List Bool → ℕ → Type 0
 IsExcused scope Dead q s = ⊥
 IsExcused scope TooMany q s = scope.most < length q
@@ -133,7 +133,7 @@ cut_by cut Dead = cut
 cut_by cut TooMany = record cut { outcomes = true }
 cut_by cut TooLong = record cut { steps = true }
 
--- a path goes on from a node of so many steps
+-- a path extends the outcomes done so far and has more than `n` steps
 pub record Passes (n : ℕ) (done rest : List Bool) (least : ℕ) (q : List Bool) (s : ℕ) : Type 0 where
   pub later : List Bool
   pub more : ℕ
@@ -142,7 +142,7 @@ pub record Passes (n : ℕ) (done rest : List Bool) (least : ℕ) (q : List Bool
   pub within : is_from rest least later s ≡ true
 
 module _ (code : Code) (scope : Scope) (start : List Bool) (first : ℕ) where
-  -- a place to which so many steps lead by the first of these outcomes
+  -- the place after `n` steps by the first of these outcomes
   pub record IsNode (n : ℕ) (at : At) (o : List Bool) (own : Own) : Type 0 where
     pub marks : Marks
     pub is : own ≡ own_of marks
@@ -153,14 +153,14 @@ module _ (code : Code) (scope : Scope) (start : List Bool) (first : ℕ) where
     pub few : length o ≤ scope.most
     pub value : worth scope.most o ≡ worth scope.most start
     pub same : (m : ℕ) (r : List Bool)
-        → goes code scope.function scope.aim (n + m) (unmarked code scope.function) 0 (done ++ r)
+        → goes code scope.function scope.aim (n + m) (marks_at_start code scope.function) 0 (done ++ r)
         ≡ goes code scope.function scope.aim m marks at.place r
     pub back : (r : List Bool) (s : ℕ) → is_from rest at.least r s ≡ true → is_from start first (done ++ r) s ≡ true
     pub behind : (q : List Bool) (s : ℕ) → leaves_behind o q ≡ true → is_from start first q s ≡ true
     pub left : (q : List Bool) (s : ℕ) → takes code scope q s ≡ true → is_from start first q s ≡ true
         → (leaves_behind o q ≡ true) ⊎ Passes n done rest at.least q s
 
-  -- a path was found, and it is the first
+  -- this path is the first that the thread may take
   pub record IsLowest (o : List Bool) (n : ℕ) : Type 0 where
     pub may : takes code scope o n ≡ true
     pub few : length o ≤ scope.most
@@ -168,7 +168,7 @@ module _ (code : Code) (scope : Scope) (start : List Bool) (first : ℕ) where
     pub within : is_from start first o n ≡ true
     pub others : (q : List Bool) (s : ℕ) → takes code scope q s ≡ true → is_from start first q s ≡ true → is_from o n q s ≡ true
 
-  -- none was found among those that begin so, but for those that have an excuse
+  -- the descent found no path: each one to find comes after these outcomes or has an excuse
   pub record IsSpent (o : List Bool) (Excused : List Bool → ℕ → Type 0) : Type 0 where
     pub few : length o ≤ scope.most
     pub value : worth scope.most o ≡ worth scope.most start
@@ -176,12 +176,12 @@ module _ (code : Code) (scope : Scope) (start : List Bool) (first : ℕ) where
     pub others : (q : List Bool) (s : ℕ) → takes code scope q s ≡ true → is_from start first q s ≡ true
         → (leaves_behind o q ≡ true) ⊎ Excused q s
 
-  -- how a way down ended
+  -- the result of a descent
   abbrev pub IsDescent : List Bool → Descent → Type 0
   IsDescent o (Found n) = IsLowest o n
   IsDescent o (Spent why) = IsSpent o (IsExcused scope why)
 
-  -- a step further, or an end
+  -- one step further, or the end of the descent
   abbrev pub IsAdvance : ℕ → List Bool → Own → Advance → Type 0
   IsAdvance n o own (On at) = IsNode (n + 1) at o own
   IsAdvance n o own (Ends d) = IsDescent o d

@@ -7,7 +7,7 @@ use Rattle.bit_order.specs.Layouts.{Layout}
 use Rattle.bit_terms.specs.Terms.{Words, term_words}
 use Rattle.order_formula.specs.Formulas.{IsOf}
 use Rattle.bit_blast.specs.Layered.{parts_of}
-use Rattle.bit_blast.specs.Roots.{blasted}
+use Rattle.bit_blast.specs.Roots.{with_root_clauses}
 use Rattle.bit_blast.specs.Whole.{load_words}
 use Rattle.bit_blast.proofs.Within.{base_within, loads_within, parts_within, words_count}
 use Rattle.bit_blast.proofs.whole.add_system.Goals as goal
@@ -44,8 +44,8 @@ returns-clause-formula c =
     let words : c.as_slice-2.result.now ≡ m.words =
     c.as_slice-2.ensures.value ∙ c.in_ok-words.ensures.words ∙ ap (λ (k : Words). k.words) made in
     let termed : c.term_words.new.circuit ≡ m.formula = c.in_ok-words.ensures.formula ∙ ap (λ (k : Words). k.formula) made in
-    c.in_ok-add_formula.ensures.formula ∙ ap (λ ws. blasted (parts_of y ws) c.term_words.new.circuit formula) words
-    ∙ ap (λ g. blasted (parts_of y m.words) g formula) termed
+    c.in_ok-add_formula.ensures.formula ∙ ap (λ ws. with_root_clauses (parts_of y ws) c.term_words.new.circuit formula) words
+    ∙ ap (λ g. with_root_clauses (parts_of y m.words) g formula) termed
 
 pub returns-clause-variables : goal.returns-clause-variables
 returns-clause-variables c =

@@ -1,6 +1,6 @@
 use Rattle.std.proofs.Common.{◌≡◌, ◌∙◌, subst, arith}
 use Rattle.cnf_core.specs.Clauses.{Formula}
-use Rattle.cdcl_core.specs.Searches.{Answers, added_in, IsSolution}
+use Rattle.cdcl_core.specs.Searches.{Answers, count_of_added, IsSolution}
 use Rattle.cdcl_core.specs.declared.progress.Progress.{Progress}
 use Rattle.cdcl_core.specs.declared.progress.Progress.TheVariants as answers
 use Rattle.cdcl_core.proofs.Searching.{open-searched, not-empty-searched}
@@ -28,7 +28,7 @@ returns-in-Paused c =
     let a : Answers c.in_ok-search.search s c.args.budget answers.Paused =
     subst (λ (p : Progress). Answers c.in_ok-search.search s c.args.budget p) c.in-Paused.is c.in_ok-assignment.ensures.answers in
     let e : s.formula ≡ c.args.cnf.now = c.run.ensures.goes_on.formula ∙ c.in_ok-search.ensures.formula in
-    let n : added_in s.lines ≡ c.args.budget = omega (arith, a.1, c.in_ok-search.ensures.none) in
+    let n : count_of_added s.lines ≡ c.args.budget = omega (arith, a.1, c.in_ok-search.ensures.none) in
     rw (c.into_derivation-in-Paused.ensures.lines, ← e) (
       open-searched s c.run.ensures.lawful a.0,
       c.run.ensures.lawful.fresh,

@@ -20,14 +20,14 @@ fails [] k bad (inl e) none = bad e
 fails [] k bad (inr h) none = h
 fails (x ∷ xs) k bad h none = cc
 
--- words at which the command has no fault give the call of its matches
+-- words without a fault give the call of their matches
 made : (a : App) (words : List Text) (rows : List Row) → a ≡ command_line → fault_of a words ≡ [] → rows ≡ matches_of a words
     → call_in rows ≡ call_of words
 made a words rows app quiet are =
     let free : fault_of command_line words ≡ [] = subst (λ x. fault_of x words ≡ []) app quiet in
     ap call_in (are ∙ ap (λ x. matches_of x words) app) ∙ sym (taken (fault_of command_line words) _ free)
 
--- words at which it has another fault than want of memory give none
+-- words with a fault other than lack of memory give no call
 no_call : (a : App) (words : List Text) (k : ErrorKind) → a ≡ command_line → (k ≡ OutOfMemory → ⊥)
     → (k ≡ OutOfMemory) ⊎ IsAmong k (fault_of a words) → None ≡ call_of words
 no_call a words k app bad has =

@@ -9,7 +9,7 @@ use Rattle.memory_order.specs.Own.{two_tests, two_formula}
 use Rattle.memory_order.specs.Twos.{twos_with}
 use Rattle.memory_order.proofs.own.push_after.Given as goal
 
--- what was pushed and made, with what those from the place on give, is what all give
+-- the results so far together with those from the place on are all results
 abbrev pub invariant-loop-place : goal.invariant-loop-place
 invariant-loop-place g l =
     let formula = two_formula g.M.MemoryModel.BUFFERED g.M.MemoryModel.bound l.events l.thread.symbolic.now in

@@ -8,7 +8,7 @@ use Rattle.memory_order.specs.helpers.Twos.{plain}
 use Rattle.memory_order.specs.Own.{fails, in_order, kept_test}
 use Rattle.memory_order.proofs.own.push_tested.Goals as goal
 
--- what is made of the test's name
+-- a function of the test's id
 of_name : {X : Type 0} (f : ℕ → X) (later : List Node) (o : Option Node) (id : ℕ) → option_map (id_of later) o ≡ Some id
     → f id ∷ [] ≡ map (λ test. f (id_of later test)) (option_to_list o)
 of_name f later None id is = absurd (none-some id is)

@@ -9,7 +9,7 @@ use Rattle.memory_order.specs.Own.{two_tests, two_formula}
 use Rattle.memory_order.specs.Twos.{twos}
 use Rattle.memory_order.proofs.own.push_thread.Given as goal
 
--- what was pushed and made, with what the rest gives, is what all give
+-- the results so far together with those of the rest are all results
 abbrev pub invariant-loop-rest : goal.invariant-loop-rest
 invariant-loop-rest g l =
     let formula = two_formula g.M.MemoryModel.BUFFERED g.M.MemoryModel.bound l.events l.thread.symbolic.now in

@@ -3,7 +3,7 @@ use Rattle.next_tokens.specs.Next.{GoesOnWith, all_kinds}
 use Rattle.next_tokens.proofs.Picks.{IsSoFar}
 use Rattle.next_tokens.proofs.stuck.kinds_after.Given as goal
 
--- what is picked of the rest completes what was found
+-- the kinds found so far, together with those of the rest, are all kinds
 abbrev pub invariant-loop-kind : goal.invariant-loop-kind
 invariant-loop-kind l = IsSoFar (GoesOnWith l.before) all_kinds l.found.items l.rest
 

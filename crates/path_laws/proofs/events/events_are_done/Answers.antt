@@ -3,14 +3,12 @@ use Rattle.path_laws.proofs.of_events.Events.{event_done, done_event, whole_even
 use Rattle.path_laws.proofs.events.events_are_done.Goals as goal
 
 pub returns-clause-done : goal.returns-clause-done
-returns-clause-done g c = λ setting h j w x fits along there i.
-    event_done setting fits h along j w there x (in_contains x w.events i)
+returns-clause-done g c = λ setting h t x i. event_done setting h t x (in_contains x t.events i)
 
 pub returns-clause-events : goal.returns-clause-events
-returns-clause-events g c = λ setting h j w k asked fits along there done.
-    let x = done_event setting fits h along j w there k asked done in
-    (x.0, contains_in x.0 w.events x.1, x.2, x.3, x.4)
+returns-clause-events g c = λ setting h t k asked done.
+    let x = done_event setting h t k asked done in
+    (x.0, contains_in x.0 t.events x.1, x.2, x.3, x.4)
 
 pub returns-clause-whole : goal.returns-clause-whole
-returns-clause-whole g c = λ setting h j w fits along there.
-    whole_events setting fits h along j w there
+returns-clause-whole g c = λ setting h t. whole_events setting h t

@@ -4,9 +4,9 @@ use Rattle.path_laws.proofs.of_events.Sleeps.{walk_wakes}
 use Rattle.path_laws.proofs.events.wakes_come_next.Goals as goal
 
 pub returns-clause-wake : goal.returns-clause-wake
-returns-clause-wake c = λ code log j k w s lawful is fits there i.
-    (walk_wakes code lawful log w (walk_is code log is fits j w there) s (in_contains s w.sleeps i)).next k
+returns-clause-wake c = λ code log t k s lawful is fits i.
+    (walk_wakes code lawful log t.walk (walk_is code log is fits t) s (in_contains s t.sleeps i)).next k
 
 pub returns-clause-last : goal.returns-clause-last
-returns-clause-last c = λ code log j w s lawful is fits there i.
-    (walk_wakes code lawful log w (walk_is code log is fits j w there) s (in_contains s w.sleeps i)).last
+returns-clause-last c = λ code log t s lawful is fits i.
+    (walk_wakes code lawful log t.walk (walk_is code log is fits t) s (in_contains s t.sleeps i)).last

@@ -1,6 +1,6 @@
 use Rattle.std.proofs.Common.{◌≡◌, ◌∙◌, ◌+◌, ◌-◌, ◌∷◌, ap, ap₂, sym, arith, drop, length}
 use Rattle.std.specs.List.{cons_option}
-use Rattle.path_walk.specs.Events.{left_at, regions_of}
+use Rattle.path_walk.specs.Events.{release_step, regions_of}
 use Rattle.path_walk.proofs.parts.regions.Goals as goal
 
 pub loop-later-preserved : goal.loop-later-preserved
@@ -17,5 +17,5 @@ loop-later-preserved c =
           ∙ ap regions_of (sym now);
       left = λ m.
           c.in_ok-note_left.ensures (drop (length es - c.loop-later.later) es) c.loop-later.invariant.left m
-          ∙ ap (left_at m) (sym now);
+          ∙ ap (release_step m) (sym now);
     }

@@ -1,7 +1,7 @@
 use Rattle.std.proofs.Common.{◌≡◌, ◌++◌, ◌≤◌, ◌||◌, drop}
 use Rattle.std.specs.List.{list_any}
 use Rattle.path_walk.specs.Steps.{steps_at}
-use Rattle.path_walk.specs.Marks.{unmarked, marks_after, marked_from, marked_steps}
+use Rattle.path_walk.specs.Marks.{marks_at_start, marks_after, marked_from, marked_steps}
 use Rattle.path_walk.specs.Events.{events_of, is_impossible}
 use Rattle.path_walk.proofs.tell.tell.Given as goal
 
@@ -13,7 +13,7 @@ invariant-loop-step l =
       events : l.events.items ++ events_of l.code l.function rest ≡ events_of l.code l.function all;
       dead : (l.dead || list_any is_impossible rest) ≡ list_any is_impossible all;
       marks : marks_after l.marks (steps_at l.code l.function (drop l.step l.places))
-          ≡ marks_after (unmarked l.code l.function) (steps_at l.code l.function l.places);
+          ≡ marks_after (marks_at_start l.code l.function) (steps_at l.code l.function l.places);
       children : l.marks.children ≤ l.step;
       bars : l.marks.bars ≤ l.step;
     }

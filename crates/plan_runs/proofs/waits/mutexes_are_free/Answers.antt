@@ -2,5 +2,4 @@ use Rattle.plan_runs.proofs.of_waits.Free.{is_free}
 use Rattle.plan_runs.proofs.waits.mutexes_are_free.Goals as goal
 
 pub returns : goal.returns
-returns g c = λ setting nodes w p h t q x m lawful at takes_it.
-    is_free setting nodes w lawful p h t q x at m takes_it
+returns g c = λ setting nodes w e m lawful takes_it. is_free setting nodes w lawful e m takes_it

@@ -6,18 +6,20 @@ use Rattle.plan_runs.proofs.of_waits.Asleep.{event_until, step_until, drain_unti
 use Rattle.plan_runs.proofs.waits.sleeps_go_on.Goals as goal
 
 pub returns-clause-quiet : goal.returns-clause-quiet
-returns-clause-quiet g c = λ setting nodes w p h t q k r took other lawful gone.
-    step_until setting nodes w lawful p h gone t q k r took other
+returns-clause-quiet g c = λ setting nodes w p h t k r took other lawful gone.
+    step_until setting nodes w lawful p h gone t.index t.walk k r took other t.there
 
 pub returns-clause-event : goal.returns-clause-event
-returns-clause-event g c = λ setting nodes w p h t q x k r took lawful at along.
-    let other = other_of (paths_of setting.code setting.log) w h t q.name r in
-    event_until setting nodes w lawful p h at.gone (Did q.name k r took other) along t q x at k r took other refl refl
+returns-clause-event g c = λ setting nodes w e k r took lawful along.
+    let q = e.thread.walk in
+    let other = other_of (paths_of setting.code setting.log) w e.deeds e.thread.index q.name r in
+    event_until setting nodes w lawful e.position e.deeds e.gone (Did q.name k r took other) along e.thread.index q e.event e.thread.there e.among e.at e.steps
+    k r took other refl refl
 
 pub returns-clause-drain : goal.returns-clause-drain
 returns-clause-drain g c = λ setting nodes w p h n k cell v lawful gone.
     drain_until setting nodes w lawful p h gone n k cell v
 
 pub returns-clause-drained : goal.returns-clause-drained
-returns-clause-drained g c = λ setting nodes w p h t q x n k cell v lawful gone.
-    drained_until setting nodes w lawful p h gone t q x n k cell v
+returns-clause-drained g c = λ setting nodes w e n k cell v lawful pending.
+    drained_until setting nodes w lawful e.position e.deeds e.gone e.thread.index e.thread.walk e.event n k cell v e.thread.there e.among pending e.at

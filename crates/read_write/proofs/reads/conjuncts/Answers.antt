@@ -20,7 +20,7 @@ use Rattle.read_write.proofs.Steps.{block_on, nodes_on}
 use Rattle.read_write.proofs.reads.conjuncts.Goals as goal
 use Rattle.read_write.proofs.reads.conjuncts.Goals.{in-Some+in_ok-conjunct+in_ok-push, in_default}
 
--- what stands after so many loads
+-- the conjuncts and the nodes after `k` loads
 record Stand (code : Code) (events : List (Of Event)) (accesses : List (Of Access)) (first : List Node) (k : ℕ) (last : List Node) (made : List Conjunct)
     : Type 0 where
   conjuncts : (later : List Node) → Grows last later
@@ -31,7 +31,7 @@ record Stand (code : Code) (events : List (Of Event)) (accesses : List (Of Acces
 module _ (code : Code) (events : List (Of Event)) (accesses : List (Of Access)) (first : List Node)
     (have : (a : Of Access) → Contains accesses a → AccessIsOf (length first) a.it) (k : ℕ) (x : Of Access) (within : k < length accesses)
     (is : get_or accesses k x ≡ x) (mid : List Node) (before : List Conjunct) (stand : Stand code events accesses first k mid before) where
-  -- after a load more, and after what isn't one
+  -- after one more load, and after an access that isn't a load
   load_on : (number : ℕ) (last : List Node) (conjunct : Conjunct) (after : List Conjunct) → x.it.takes ≡ Some number → after ≡ before ++ conjunct ∷ []
       → ((later : List Node) → Grows last later → conjunct ≡ conjunct_of code events accesses later x number)
       → last ≡ fold with_node mid (needs_of code accesses mid x number) → Grows mid last → Stand code events accesses first (k + 1) last after

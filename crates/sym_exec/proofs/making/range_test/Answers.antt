@@ -1,7 +1,7 @@
 use Rattle.std.proofs.Common.{◌≡◌, ◌∙◌, IfOk, subst, ap, w32, FitsSigned, rules}
 use Rattle.std.proofs.lemmas.Int.{to_z-of_z}
 use Rattle.sym_terms.specs.declared.node.Node.TheVariants.{Constant}
-use Rattle.sym_exec.specs.Making.{Made, made}
+use Rattle.sym_exec.specs.Making.{Made, term_of_node}
 use Rattle.sym_exec.proofs.Grown.{grows_both}
 use Rattle.sym_exec.proofs.Steps.{range_is}
 use Rattle.sym_exec.proofs.making.range_test.Goals as goal
@@ -16,7 +16,7 @@ returns-clause-term c =
     let fits : FitsSigned w32 c.args.last = search rules in
     subst (λ (m : Made). IfOk c.binary-3.result (λ term. ◌≡◌ {A = Made} (record { term = term; nodes = c.binary-3.new.terms }) m))
     (range_is x zero low top high c.args.last c.in_ok-zero.ensures.made c.in_ok-low.ensures.made
-    (c.in_ok-top.ensures.made ∙ ap (λ n. made low.nodes (Constant n)) (to_z-of_z w32 c.args.last fits)) c.in_ok-high.ensures.made)
+    (c.in_ok-top.ensures.made ∙ ap (λ n. term_of_node low.nodes (Constant n)) (to_z-of_z w32 c.args.last fits)) c.in_ok-high.ensures.made)
     c.binary-3.ensures.made
 
 pub returns-clause-grown : goal.returns-clause-grown

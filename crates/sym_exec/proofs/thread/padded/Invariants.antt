@@ -1,7 +1,7 @@
 use Rattle.std.proofs.Common.{◌≡◌, ◌-◌, ◌++◌, length, replicate}
 use Rattle.sym_exec.proofs.thread.padded.Given as goal
 
--- the terms so far and those that are missing are all
+-- the terms so far and the missing ones are all terms
 abbrev pub invariant-loop-other : goal.invariant-loop-other
 invariant-loop-other l = l.all.items ++ replicate (l.count - length l.all.items) l.other ≡ l.terms ++ replicate (l.count - length l.terms) l.other
 

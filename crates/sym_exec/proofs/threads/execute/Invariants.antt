@@ -4,7 +4,7 @@ use Rattle.sym_exec.specs.Making.{Grows}
 use Rattle.sym_exec.specs.Executed.{with_thread, executed}
 use Rattle.sym_exec.proofs.threads.execute.Given as goal
 
--- what is done so far and the threads that are left are all
+-- the threads done so far and the threads left are all threads
 abbrev pub invariant-loop-walk : goal.invariant-loop-walk
 invariant-loop-walk l = record {
   all : fold (with_thread l.code l.paths) (record { symbolic = l.symbolic; nodes = l.terms }) (drop l.walk-index l.paths.threads)

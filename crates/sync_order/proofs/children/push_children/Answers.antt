@@ -1,7 +1,7 @@
 use Rattle.std.proofs.Common.{◌∙◌, ◌++◌, ap, append_assoc, arith}
 use Rattle.std.specs.List.{flat_map}
 use Rattle.order_events.proofs.Loops.{each_more}
-use Rattle.sync_order.specs.Children.{created, joined, links_formula}
+use Rattle.sync_order.specs.Children.{create_conjuncts, join_conjuncts, links_formula}
 use Rattle.sync_order.proofs.children.push_children.Goals as goal
 
 pub loop-place-preserved : goal.loop-place-preserved
@@ -14,5 +14,5 @@ loop-place-preserved c =
     each_more threads place walk (omega (arith, c.loop-place-test.true)) c.index-threads-place.is c.args.conjuncts.now.items mid
     c.push_joins.new.conjuncts.items (links_formula events threads) c.loop-place.invariant
     (c.in_ok-push_joins.ensures
-    ∙ ap (λ zs. zs ++ flat_map (joined events threads place walk) walk.joins) c.in_ok-push_creates.ensures
-    ∙ append_assoc mid (flat_map (created events threads place walk) walk.creates) (flat_map (joined events threads place walk) walk.joins))
+    ∙ ap (λ zs. zs ++ flat_map (join_conjuncts events threads place walk) walk.joins) c.in_ok-push_creates.ensures
+    ∙ append_assoc mid (flat_map (create_conjuncts events threads place walk) walk.creates) (flat_map (join_conjuncts events threads place walk) walk.joins))

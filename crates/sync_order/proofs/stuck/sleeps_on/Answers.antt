@@ -1,7 +1,7 @@
 use Rattle.std.proofs.Common.{◌≡◌, ◌∙◌, ◌++◌, ◌&&◌, ◌==◌, [], true, false, cond, length, get_or, map, ap, sym, append-nil, eq-eqb, ne_eqb, arith}
 use Rattle.std.proofs.lemmas.Bool.{and_from, and_left, and_right}
 use Rattle.order_events.proofs.Loops.{each_more}
-use Rattle.sync_order.specs.Stuck.{sleeping, unended, unended_by}
+use Rattle.sync_order.specs.Stuck.{sleeping, unended, not_ended_literal}
 use Rattle.sync_order.proofs.stuck.sleeps_on.Goals as goal
 use Rattle.sync_order.proofs.stuck.sleeps_on.Goals.{
   then-placed-thread+then-placed-step+in_ok-enders+in_ok-push_unended,
@@ -30,8 +30,8 @@ loop-number-preserved c =
           let is : (x.thread == t && x.it.step == k) ≡ true =
           and_from (x.thread == t) (x.it.step == k) (eq-eqb x.thread t (sym thread ∙ w.if-placed-thread.true))
           (eq-eqb x.it.step k (sym (ap (λ s. s.step) sleep) ∙ w.if-placed-step.true)) in
-          let whole : map (unended_by number) w.as_slice.result.now ≡ own =
-          ap (map (unended_by number)) (w.as_slice.ensures.value ∙ w.in_ok-enders.ensures) ∙ ap (λ s. unended events number s.condition) sleep in
+          let whole : map (not_ended_literal number) w.as_slice.result.now ≡ own =
+          ap (map (not_ended_literal number)) (w.as_slice.ensures.value ∙ w.in_ok-enders.ensures) ∙ ap (λ s. unended events number s.condition) sleep in
           let same = ap (λ zs. mid ++ zs) whole ∙ ap (λ b. mid ++ cond b own []) (sym is) in
           let pushed = w.in_ok-push_unended.ensures in cc
       | else-placed-thread w ↦

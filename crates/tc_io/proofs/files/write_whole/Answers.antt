@@ -7,7 +7,7 @@ loop-rest-preserved g c =
     let done = c.loop-rest.invariant in
     appends_more _ _ _ c.args.bytes.now done.0 c.loop-rest.rest.now c.in-Ok.n done.1 done.2 c.in-Ok.ensures.bytes
 
--- the write took none
+-- the write took no byte
 pub returns-in_default-clause-part : goal.returns-in_default-clause-part
 returns-in_default-clause-part g c _ =
     let done = c.loop-rest.invariant in

@@ -2,7 +2,7 @@ use Rattle.std.proofs.Common.{length}
 use Rattle.tc_lower.proofs.Memory.{FunctionsSoFar}
 use Rattle.tc_lower.proofs.program.functions_of.Given as goal
 
--- the functions so far and those that are left make up all
+-- the functions so far and the remaining ones are all functions
 abbrev pub invariant-loop-rest : goal.invariant-loop-rest
 invariant-loop-rest l = FunctionsSoFar l.source l.all l.fn.program.threads.items l.functions.items l.rest
 

@@ -4,7 +4,7 @@ use Rattle.std.specs.FinMap as fin
 use Rattle.tc_machine.specs.Moves.{move_of, moves_of, enabled_moves}
 use Rattle.tc_machine.proofs.listed.choices.Given as goal
 
--- what was found, and then what the threads to come may do, is all; and these are threads
+-- the moves found so far and those of the threads to come are all moves, and these are threads
 abbrev pub invariant-loop-name : goal.invariant-loop-name
 invariant-loop-name g l = record {
   found : map move_of l.found.items ++ flat_map (moves_of g.M.MemoryModel.ops l.code l.state) (map (λ e. e.0) l.name-iterator)

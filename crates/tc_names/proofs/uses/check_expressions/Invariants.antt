@@ -3,7 +3,7 @@ use Rattle.tc_names.specs.Names.{expressions_fault}
 use Rattle.tc_names.specs.helpers.Answers.{plain_scope}
 use Rattle.tc_names.proofs.uses.check_expressions.Given as goal
 
--- the fault is that of the expressions that are left
+-- the fault is that of the remaining expressions
 abbrev pub invariant-loop-expression : goal.invariant-loop-expression
 invariant-loop-expression l =
     expressions_fault (plain_scope l.scope) l.expressions

@@ -2,6 +2,6 @@ use Rattle.std.proofs.Common.{◌≡◌, ◌+◌, ◌≤◌, drop}
 use Rattle.tc_tree.specs.Counts as count
 use Rattle.tc_parser.proofs.counts.conditions.Given as goal
 
--- those so far and those that are left
+-- the count so far and that of the remaining globals
 abbrev pub invariant-loop-global : goal.invariant-loop-global
 invariant-loop-global l = (count.conditions l.globals ≡ l.found + count.conditions (drop l.global-index l.globals)) × (l.found ≤ l.global-index)

@@ -7,7 +7,7 @@ use Rattle.path_walk.specs.Fits.{Fits}
 use Rattle.path_laws.proofs.Logs.{reproduced_fits}
 use Rattle.tc_code.specs.Run.{Reproduces, run}
 use Rattle.tc_record.specs.Logged.{is_small}
-use Rattle.tc_record.specs.Seeded.{behind, seeded_from, seeded_run, IsRecordOf}
+use Rattle.tc_record.specs.Seeded.{with_moves_before, seeded_from, seeded_run, IsRecordOf}
 use Rattle.tc_record.specs.helpers.Turns.{IsTurn}
 use Rattle.tc_record.proofs.Ended.{ends_as_told, log_is_of_format, log_is_small, run_reproduces}
 use Rattle.tc_record.proofs.Fitting.{on_log}
@@ -22,7 +22,7 @@ loop-init g c =
     record {
       leads = ap (run ops code) c.new-made.ensures.items ∙ ap Some (sym c.in_ok-state.ensures);
       few = omega (arith, ap length c.new-made.ensures.items);
-      so_far = ap (λ moves. behind moves from) c.new-made.ensures.items
+      so_far = ap (λ moves. with_moves_before moves from) c.new-made.ensures.items
           ∙ begins ops code c.in_ok-state.state c.seed_from_u64-rng.result c.args.seed c.args.steps c.in_ok-state.ensures c.seed_from_u64-rng.ensures.same;
     }
 
@@ -94,5 +94,6 @@ returns-in-Some-clause-fits g c =
     let laws = g.met.M.MemoryModel.laws in
     let lawful = c.functions.ensures.lawful in
     on_log g.M.MemoryModel.MODEL code (seeded_run ops code c.args.seed c.args.steps) (λ x moves. Fits code x.log)
-    (λ x has is. reproduced_fits code ops _ _ laws lawful x.log (seeded_run ops code c.args.seed c.args.steps).moves
+    (λ x has is. reproduced_fits (record { ops = ops; model = _; bound = _; laws = laws; code = code; lawful = lawful }) x.log
+    (seeded_run ops code c.args.seed c.args.steps).moves
     (run_reproduces ops _ _ laws code lawful c.args.seed c.args.steps x has is)) c.answer.result (returns-in-Some-clause-answer g c)

@@ -20,7 +20,7 @@ decreases-read_paren l = 4 * length l.words.now + 3
 abbrev pub decreases-read_unary : goal.decreases-read_unary
 decreases-read_unary l = 4 * length l.words.now + 3
 
--- an expression so far and the words that are left
+-- the expression read so far and the remaining words
 abbrev pub invariant-read_tight-loop-operator : goal.invariant-read_tight-loop-operator
 invariant-read_tight-loop-operator l = IsSoFar l.least l.words l.left l.rest
 

@@ -2,7 +2,7 @@ use Rattle.std.proofs.Common.{length}
 use Rattle.tc_syntax.proofs.Chains.{AreSome}
 use Rattle.tc_syntax.proofs.expressions.read_arguments.Given as goal
 
--- the arguments so far and the words that are left
+-- the arguments read so far and the remaining words
 abbrev pub invariant-loop-start : goal.invariant-loop-start
 invariant-loop-start l = AreSome l.words l.found.items l.rest
 

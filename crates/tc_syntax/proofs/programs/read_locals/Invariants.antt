@@ -4,7 +4,7 @@ use Rattle.tc_syntax.specs.helpers.Reading.{Locals}
 use Rattle.tc_syntax.specs.helpers.Read.{IsPassed, IsAny}
 use Rattle.tc_syntax.proofs.programs.read_locals.Given as goal
 
--- the declarations so far and the words that are left
+-- the declarations read so far and the remaining words
 abbrev pub invariant-loop-rest : goal.invariant-loop-rest
 invariant-loop-rest l = IsPassed locals_then IsAny Locals Locals l.words l.found.items l.rest
 

@@ -5,7 +5,7 @@ use Rattle.tc_syntax.specs.helpers.Reading.{Threads}
 use Rattle.tc_syntax.specs.helpers.Read.{IsPassed}
 use Rattle.tc_syntax.proofs.programs.read_threads.Given as goal
 
--- the threads so far and the words that are left
+-- the threads read so far and the remaining words
 abbrev pub invariant-loop-start : goal.invariant-loop-start
 invariant-loop-start l = IsPassed threads_then AreWellThreads Threads Threads l.words (map thread_of l.found.items) l.rest
 

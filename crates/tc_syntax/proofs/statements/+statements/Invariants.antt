@@ -28,14 +28,14 @@ decreases-read_branch l = 4 * length l.words.now + 2
 abbrev pub decreases-read_block : goal.decreases-read_block
 decreases-read_block l = 4 * length l.words.now + 2
 
--- the statements so far and the words that are left
+-- the statements read so far and the remaining words
 abbrev pub invariant-read_statements-loop-alloc : goal.invariant-read_statements-loop-alloc
 invariant-read_statements-loop-alloc l = IsPassed statements_then AreWell Statements Statements l.words (statements_seen l.found.items) l.rest
 
 abbrev pub decreases-read_statements-loop-alloc : goal.decreases-read_statements-loop-alloc
 decreases-read_statements-loop-alloc l = length l.rest
 
--- the branches so far and the words that are left
+-- the branches read so far and the remaining words
 abbrev pub invariant-read_otherwise-loop-after : goal.invariant-read_otherwise-loop-after
 invariant-read_otherwise-loop-after l = IsPassed chain_then AreWellBranches Alternative Alternative l.words (map branch_of l.others.items) l.rest
 

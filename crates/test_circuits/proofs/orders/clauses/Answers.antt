@@ -9,17 +9,17 @@ use Rattle.order_formula.specs.declared.literal.Atom.{Atom}
 use Rattle.order_formula.specs.declared.literal.Atom.TheVariants.{Before, Ends, Test}
 use Rattle.order_formula.specs.declared.literal.Literal.{Literal}
 use Rattle.order_formula.specs.Formulas.{LiteralIsOf, BodyIsOf, ConjunctIsOf}
-use Rattle.order_formula.specs.Orders.{Order, LiteralIsIn, BodyIsIn, ConjunctIsIn, unasked}
+use Rattle.order_formula.specs.Orders.{Order, LiteralIsIn, BodyIsIn, ConjunctIsIn, order_without_questions}
 use Rattle.bit_terms.specs.Sizes.{terms_size}
 use Rattle.bit_blast.specs.Sizes.{atom_size, literal_size, case_size, body_size, size_of}
 use Rattle.bit_blast.proofs.Completed.{same_size}
 use Rattle.test_circuits.proofs.orders.clauses.Goals as goal
 
--- what all of a list with one element are
+-- a property of one element holds for all of a list with only this element
 one_element : {X : Type 0} (P : X → Type 0) (x : X) (none all : List X) → none ≡ [] → all ≡ none ++ x ∷ [] → P x → All P all
 one_element P x none all empty is p = subst (All P) (sym (is ∙ ap (λ xs. xs ++ x ∷ []) empty)) (All-cons P x [] p (All-nil P))
 
--- a conjunct of one case
+-- a conjunct with one case
 in_order : (o : Order) (b : Body) (ls : List Literal) → b ≡ body.Any (ls ∷ []) → All (LiteralIsIn o) ls → BodyIsIn o b
 in_order o b ls is all =
     subst (BodyIsIn o) (sym is) (All-cons (All (LiteralIsIn o)) ls [] all (All-nil (All (LiteralIsIn o))))
@@ -66,7 +66,7 @@ blast-requires-clause-room c =
     let whole : formula ≡ k ∷ [] = c.in_ok-push.ensures.added ∙ ap (λ (cs : List Conjunct). cs ++ k ∷ []) c.empty-formula.ensures in
     omega (
       arith,
-      same_size (unasked 3 0) o 0 c.new.result formula events sleeps,
+      same_size (order_without_questions 3 0) o 0 c.new.result formula events sleeps,
       ap terms_size c.new.ensures,
       ap size_of whole,
       sum_by-cons (λ (d : Conjunct). body_size d.body + 1) k [],

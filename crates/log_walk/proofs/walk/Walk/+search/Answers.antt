@@ -4,6 +4,7 @@ use Rattle.thread_paths.specs.Search.{Found, IsFirst}
 use Rattle.thread_paths.specs.declared.aim.Scope.{Scope}
 use Rattle.log_walk.specs.helpers.Searches.{with_cut, IsEnd, IsKept, CanFollow, begin_from}
 use Rattle.log_walk.specs.Order.{are_to_come}
+use Rattle.log_walk.specs.Rest.{is_whole}
 use Rattle.log_walk.proofs.Finds.{at_end, closed, never, below_found, below_none, taken_last, taken_found, some_taken, follow_on, same_found, later_found, first_found}
 use Rattle.log_walk.proofs.Finds.{no_more, found_here, still, go_on, kept_over, fewer, no_path, ok_both, end_from}
 use Rattle.log_walk.proofs.Orders.{after}
@@ -83,14 +84,14 @@ first_from-paths-preserved t c =
 
 pub search-returns-then-is_none-clause-end : goal.search-returns-then-is_none-clause-end
 search-returns-then-is_none-clause-end t c =
-    at_end c.args.code.now c.args.bounds c.args.rest.now _ c.args.room _ _ (sym c.in_default.ensures) c.ends.result c.ends.ensures true
+    at_end c.args.code.now c.args.bounds c.args.rest.now _ c.args.room _ _ (sym c.in_default.ensures) c.is_whole.result c.is_whole.ensures true
     c.if-is_none.ensures
 
 pub search-returns-else-is_none-clause-end : goal.search-returns-else-is_none-clause-end
 search-returns-else-is_none-clause-end t c =
     subst (λ (v : Bool). IsEnd c.args.code.now c.args.bounds c.args.rest.now (are_to_come (option_map (λ r. r.now) c.args.last)) c.args.room
     c.args.self.now.threads.items c.args.self.now.threads.items c.args.self.now.out v) (sym c.if-is_none.false)
-    (at_end c.args.code.now c.args.bounds c.args.rest.now _ c.args.room _ _ (sym c.in_default.ensures) c.args.rest.now.ends refl false
+    (at_end c.args.code.now c.args.bounds c.args.rest.now _ c.args.room _ _ (sym c.in_default.ensures) (is_whole c.args.rest.now) refl false
     c.if-is_none.ensures)
 
 pub search-returns-then-not-is_open-clause-end : goal.search-returns-then-not-is_open-clause-end

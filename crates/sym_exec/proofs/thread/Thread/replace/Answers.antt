@@ -3,15 +3,15 @@ use Rattle.tc_code.specs.Expr.{Expr}
 use Rattle.sym_terms.specs.declared.node.Node.TheVariants.{Symbol}
 use Rattle.sym_exec.specs.declared.symbolic.Cell.{Cell}
 use Rattle.sym_exec.specs.helpers.Threads.{seen}
-use Rattle.sym_exec.specs.Making.{Made, made, replaced_term}
-use Rattle.sym_exec.specs.Thread.{Doing, term_in, making, loading, replacing}
+use Rattle.sym_exec.specs.Making.{Made, term_of_node, replaced_term}
+use Rattle.sym_exec.specs.Thread.{Doing, term_in, with_term, with_load, with_compare_exchange}
 use Rattle.sym_exec.proofs.Grown.{grows_both}
 use Rattle.sym_exec.proofs.thread.Thread.replace.Goals as goal
 
--- a load of which the terms were made step by step
-replace_is : (d : Doing) (k : ℕ) (cell : Cell) (expected new : Expr) (e f v w : Made) → e ≡ term_in d expected → f ≡ term_in (making d e) new
-    → v ≡ made f.nodes (Symbol d.loads) → w ≡ replaced_term v.nodes v.term e.term f.term
-    → loading (making d w) k cell v.term (Some w.term) ≡ replacing d k cell expected new
+-- a compare-and-exchange whose terms were made step by step
+replace_is : (d : Doing) (k : ℕ) (cell : Cell) (expected new : Expr) (e f v w : Made) → e ≡ term_in d expected → f ≡ term_in (with_term d e) new
+    → v ≡ term_of_node f.nodes (Symbol d.loads) → w ≡ replaced_term v.nodes v.term e.term f.term
+    → with_load (with_term d w) k cell v.term (Some w.term) ≡ with_compare_exchange d k cell expected new
 replace_is d k cell expected new e f v w ee ef ev ew = rw (ew, ev, ef, ee) refl
 
 pub returns-clause-replaced : goal.returns-clause-replaced

@@ -6,7 +6,7 @@ use Rattle.sym_exec.specs.Making.{Grows}
 use Rattle.sym_exec.specs.Thread.{after_all}
 use Rattle.sym_exec.proofs.thread.Thread.run.Given as goal
 
--- what is done so far and the steps that are left are all
+-- the steps done so far and the steps left are all steps
 abbrev pub invariant-loop-place : goal.invariant-loop-place
 invariant-loop-place l =
     let w = l.fn.walk in

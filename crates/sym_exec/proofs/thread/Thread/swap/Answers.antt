@@ -2,13 +2,13 @@ use Rattle.std.proofs.Common.{◌≡◌, OnOk, subst, Some, ℕ, refl}
 use Rattle.sym_terms.specs.declared.node.Node.TheVariants.{Symbol}
 use Rattle.sym_exec.specs.declared.symbolic.Cell.{Cell}
 use Rattle.sym_exec.specs.helpers.Threads.{seen}
-use Rattle.sym_exec.specs.Making.{Made, made}
-use Rattle.sym_exec.specs.Thread.{Doing, making, loading, swapping}
+use Rattle.sym_exec.specs.Making.{Made, term_of_node}
+use Rattle.sym_exec.specs.Thread.{Doing, with_term, with_load, with_exchange}
 use Rattle.sym_exec.proofs.thread.Thread.swap.Goals as goal
 
--- a load of which the terms were made step by step
-swap_is : (d : Doing) (k : ℕ) (cell : Cell) (x y v : Made) → x ≡ y → v ≡ made x.nodes (Symbol d.loads)
-    → loading (making d v) k cell v.term (Some x.term) ≡ swapping d k cell y
+-- an exchange whose terms were made step by step
+swap_is : (d : Doing) (k : ℕ) (cell : Cell) (x y v : Made) → x ≡ y → v ≡ term_of_node x.nodes (Symbol d.loads)
+    → with_load (with_term d v) k cell v.term (Some x.term) ≡ with_exchange d k cell y
 swap_is d k cell x y v ex ev = rw (ev, ex) refl
 
 pub returns-clause-swapped : goal.returns-clause-swapped

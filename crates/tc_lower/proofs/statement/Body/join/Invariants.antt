@@ -2,7 +2,7 @@ use Rattle.std.proofs.Common.{◌≡◌, drop, length}
 use Rattle.tc_lower.specs.helpers.Bodies.{filled}
 use Rattle.tc_lower.proofs.statement.Body.join.Given as goal
 
--- the jumps that are left are still to be written
+-- the remaining jumps aren't written yet
 abbrev pub invariant-loop-jump : goal.invariant-loop-jump
 invariant-loop-jump l = record {
   target : l.target ≡ length l.fn.self.code.draft;

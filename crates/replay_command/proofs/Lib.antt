@@ -1,0 +1,3 @@
+pub mod OneReplay
+pub mod ByFiles
+pub mod Refused

@@ -1,0 +1,24 @@
+-- Histories along the paths with the values of their loads, and executed threads.
+use Rattle.std.specs.Prelude.{◌≡◌, ℤ, List, Some, slice_get}
+use Rattle.run_log.specs.Logs.{Log}
+use Rattle.tc_code.specs.Code.{Code}
+use Rattle.path_laws.specs.Setting.{Setting}
+use Rattle.path_laws.specs.history.Along.{HistoryAlong, PathThread}
+use Rattle.sym_terms.specs.Terms.{AreTerms}
+use Rattle.sym_terms.specs.declared.node.Node.{Node}
+use Rattle.sym_exec.specs.Executed.{Course}
+use Rattle.sym_laws.specs.Valued.{AgreesWith, found}
+
+-- a history along the paths in which the loads took these values
+pub record ValuedHistory {B : Type 0} (s : Setting B) (nodes : List Node) (loads : List ℤ) : Type 0 where
+  pub history : HistoryAlong s
+  pub open history use *
+  pub terms : AreTerms nodes
+  pub agrees : AgreesWith (found s.code s.log nodes).symbolic loads history.deeds
+
+-- a thread of the paths, and the course of its symbolic execution
+pub record ExecutedThread (code : Code) (log : Log) (nodes : List Node) : Type 0 where
+  pub thread : PathThread code log
+  pub open thread use *
+  pub course : Course
+  pub executed : slice_get (found code log nodes).symbolic.threads thread.index ≡ Some course

@@ -1,0 +1,5 @@
+//! Rows of the commands, each over its own crate.
+#![tactic(auto)]
+
+#[cfg(test)]
+mod tests;

@@ -1,0 +1,11 @@
+pub mod Told
+pub mod Names
+pub mod Children
+pub mod Ends
+pub mod Takes
+pub mod Logs
+pub mod Failures
+pub mod Stands
+pub mod Deadlocks
+pub mod Rising
+pub mod Runs
