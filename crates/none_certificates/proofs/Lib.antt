@@ -1,0 +1,3 @@
+pub mod Headers
+pub mod LogLines
+pub mod Wholes

@@ -1,0 +1,2 @@
+-- No promise uses the definitions in this folder.
+pub mod Guess
