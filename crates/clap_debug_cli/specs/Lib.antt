@@ -1,14 +1,1 @@
-pub mod Files
-pub mod Inputs
-pub mod Recorded
-pub mod Migrated
-pub mod Solved
-pub mod Worked
-pub mod Solvers
-pub mod Fewest
-pub mod Checked
-pub mod Explained
-pub mod Answers
-pub mod Causes
 pub mod Call
-pub mod helpers

@@ -8,7 +8,7 @@ use Rattle.clap.specs.declared.builder.value_parser.ValueParser.TheVariants as p
 use Rattle.memory_models.specs.Models.{model_name}
 use Rattle.tc_limits.specs.declared.limits.TheConstants.{BUDGET, MOVES}
 use Rattle.memory_models.specs.declared.model.Model.TheVariants.{Sc, Tso, Pso}
-use Rattle.clap_debug_words.specs.declared.workers.TheConstants.{WORKERS}
+use Rattle.workload_command.specs.declared.workers.TheConstants.{WORKERS}
 
 -- a required positional
 abbrev pub positional : Text → Rule

@@ -4,7 +4,7 @@ use Rattle.clap.specs.Words.{Row, Text, first_of, one_of}
 use Rattle.clap.specs.ValueTests.{accepts, is_unsigned_in}
 use Rattle.clap.specs.declared.builder.value_parser.ValueParser.TheVariants as parser
 use Rattle.tc_limits.specs.declared.limits.TheConstants.{BUDGET, MOVES}
-use Rattle.clap_debug_words.specs.declared.workers.TheConstants.{WORKERS}
+use Rattle.workload_command.specs.declared.workers.TheConstants.{WORKERS}
 use Rattle.clap_debug_words.specs.CommandLine.{last_seed, lent_texts, model_names}
 
 -- the positional has a text

@@ -7,9 +7,10 @@ use Rattle.memory_models.specs.declared.model.Model.{Model}
 use Rattle.memory_models.specs.Models.{model_name}
 use Rattle.tc_limits.specs.declared.limits.TheConstants.{BUDGET, MOVES}
 use Rattle.memory_models.specs.declared.model.Model.TheVariants.{Sc}
-use Rattle.clap_debug_words.specs.declared.workers.TheConstants.{WORKERS}
+use Rattle.workload_command.specs.declared.workers.TheConstants.{WORKERS}
+use Rattle.solve_command.specs.Calls.{Solve}
 use Rattle.clap_debug_words.specs.CommandLine.{last_seed}
-use Rattle.clap_debug_words.specs.Calls.{Called, usual_budget}
+use Rattle.clap_debug_words.specs.Calls.{Called, least_of, usual_budget}
 use Rattle.clap_debug_words.specs.Calls as calls
 
 -- a command with its files or numbers, and the options that are written
@@ -75,16 +76,32 @@ is_plain (Exports program log out model) = is_name program && (is_name log && is
 is_plain (Imports program log answer out model) = is_name program && (is_name log && (is_name answer && is_name out))
 is_plain (Explains program log refutation) = is_name program && (is_name log && is_name refutation)
 
+-- `solve`, with the default budget if none is written
+abbrev pub solved : (program log out : Text) → Option Model → Option ℕ → Solve
+solved program log out model budget = record {
+  program = program;
+  log = log;
+  out = out;
+  model = model;
+  budget = unwrap_or budget usual_budget;
+}
+
 -- the call that the words ask for, with defaults for the options that aren't written
 abbrev pub asked : Written → Called
 asked (Lists program) = calls.Lists program
 asked (Replays program log schedule) = calls.Replays program log schedule
-asked (Records program log model seed steps) = calls.Records program log (unwrap_or model Sc) (unwrap_or seed 0) (unwrap_or steps MOVES)
-asked (Migrates program log out) = calls.Migrates program log out
-asked (Solves program log out model budget) = calls.Solves program log out model (unwrap_or budget usual_budget)
-asked (Minimizes program log out model budget refutation) = calls.Minimizes program log out model (unwrap_or budget usual_budget) refutation
-asked (Checks program log refutation) = calls.Checks program log refutation
-asked (Workloads workers seed) = calls.Workloads workers seed
-asked (Exports program log out model) = calls.Exports program log out model
-asked (Imports program log answer out model) = calls.Imports program log answer out model
-asked (Explains program log refutation) = calls.Explains program log refutation
+asked (Records program log model seed steps) = calls.Records (record {
+  program = program;
+  log = log;
+  model = unwrap_or model Sc;
+  seed = unwrap_or seed 0;
+  steps = unwrap_or steps MOVES;
+})
+asked (Migrates program log out) = calls.Migrates (record { program = program; log = log; out = out })
+asked (Solves program log out model budget) = calls.Solves (solved program log out model budget)
+asked (Minimizes program log out model budget refutation) = calls.Minimizes (least_of (solved program log out model budget) refutation)
+asked (Checks program log refutation) = calls.Checks (record { program = program; log = log; refutation = refutation })
+asked (Workloads workers seed) = calls.Workloads (record { workers = workers; seed = seed })
+asked (Exports program log out model) = calls.Exports (record { program = program; log = log; out = out; model = model })
+asked (Imports program log answer out model) = calls.Imports (record { program = program; log = log; answer = answer; out = out; model = model })
+asked (Explains program log refutation) = calls.Explains (record { program = program; log = log; refutation = refutation })

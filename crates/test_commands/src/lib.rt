@@ -2,4 +2,8 @@
 #![tactic(auto)]
 
 #[cfg(test)]
+mod refutations;
+#[cfg(test)]
+mod runs;
+#[cfg(test)]
 mod tests;

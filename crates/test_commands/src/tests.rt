@@ -1,6 +1,7 @@
 //! What the commands answer.
-use list_command::list;
-use replay_command::replay_files;
+use command_inputs::{LogFile, ProgramFile, ScheduleFile};
+use list_command::{List, list};
+use replay_command::{Replay, replay_files};
 use std::process::Abort;
 use std::test;
 use test_shelves::mem::{MemShelf, MemSink};
@@ -16,7 +17,10 @@ fn lists(
     let mut shelf = MemShelf::new(rt.alloc());
     shelf.hold(rt.alloc(), "p", program.as_bytes())?;
     let mut sink = MemSink::new(rt.alloc());
-    let given = list(rt.alloc(), name, &mut shelf, &mut sink);
+    let call = List {
+        program: ProgramFile { name },
+    };
+    let given = list(rt.alloc(), &call, &mut shelf, &mut sink);
     assert!(rt; given == status, "{given}");
     assert!(rt; sink.written() == said.as_bytes(), "{said}");
     Ok(())
@@ -44,7 +48,11 @@ fn replays(
     shelf.hold(rt.alloc(), "l", log.as_bytes())?;
     shelf.hold(rt.alloc(), "o", schedule.as_bytes())?;
     let mut sink = MemSink::new(rt.alloc());
-    let given = replay_files(rt.alloc(), "p", "l", "o", &mut shelf, &mut sink);
+    let both = (ProgramFile { name: "p" }, LogFile { name: "l" });
+    let call = Replay {
+        inputs: (both, ScheduleFile { name: "o" }),
+    };
+    let given = replay_files(rt.alloc(), &call, &mut shelf, &mut sink);
     assert!(rt; given == status, "{given}");
     assert!(rt; sink.written() == said.as_bytes(), "{said}");
     Ok(())

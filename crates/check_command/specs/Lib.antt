@@ -1,0 +1,4 @@
+pub mod Meanings
+pub mod Answers
+pub mod Laws
+pub mod helpers

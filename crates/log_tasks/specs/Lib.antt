@@ -1,0 +1,4 @@
+pub mod Tasks
+pub mod Texts
+pub mod Lines
+pub mod Refused

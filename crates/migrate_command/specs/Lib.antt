@@ -1,0 +1,4 @@
+pub mod Migrated
+pub mod Meanings
+pub mod Answers
+pub mod helpers
