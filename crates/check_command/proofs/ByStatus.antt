@@ -1,7 +1,7 @@
 -- From a run of `check` over known files to its answers by status.
 use Rattle.std.proofs.Common.{◌≡◌, ◌∙◌, ◌⊎◌, inl, inr, ap, subst, ℕ, List, Option, Some}
-use Rattle.refute_check.specs.Refutations.{IsClosed, IsOpen, check}
-use Rattle.tc_base.specs.declared.moves.Move.{Move}
+use Rattle.refutation_verdicts.specs.refute_check.Refutations.{IsClosed, IsOpen, check}
+use Rattle.command_inputs.specs.tc_base.declared.moves.Move.{Move}
 use Rattle.tc_io.specs.Outside.{Files, ShelfTells, SinkTells, Wrote, bytes_at}
 use Rattle.command_frame.specs.Answers.{number_of}
 use Rattle.command_frame.specs.ByStatus.{IsStatus}
@@ -9,9 +9,9 @@ use Rattle.command_frame.specs.End.{End, LeavesNothing}
 use Rattle.command_frame.specs.Run.{Runs}
 use Rattle.command_frame.specs.declared.status.Status.{Status}
 use Rattle.command_frame.specs.declared.status.Status.TheVariants as status
-use Rattle.command_ends.proofs.Ended.{IsOfResults, Reports, declines, reported, reported_or_declined, result_at}
-use Rattle.command_ends.specs.Ends.{AreShort, HasDeclined}
-use Rattle.log_tasks.specs.Tasks.{Reproduces}
+use Rattle.refutation_verdicts.proofs.command_ends.Ended.{IsOfResults, Reports, declines, reported, reported_or_declined, result_at}
+use Rattle.refutation_verdicts.specs.command_ends.Ends.{AreShort, HasDeclined}
+use Rattle.refutation_verdicts.specs.log_tasks.Tasks.{Reproduces}
 use Rattle.check_command.proofs.Excluded.{excluded}
 use Rattle.refutation_verdicts.proofs.Judged.{form_or_break, judged_or_refused, one_break, one_unjudged, same_found}
 use Rattle.refutation_verdicts.proofs.Verdicts.{any_status, status_found}
@@ -22,7 +22,7 @@ use Rattle.refutation_verdicts.specs.Refutations.{IsMoreThan, Names, clauses_und
 use Rattle.refutation_verdicts.specs.Verdicts.{IsRefusedAt, closed_line, found_status, open_line, refused_line, verdict_report, verdict_status}
 use Rattle.refutation_verdicts.specs.declared.verdict.Verdict.{Verdict}
 use Rattle.refutation_verdicts.specs.declared.verdict.Verdict.TheVariants.{Closed, Open, LineRefused}
-use Rattle.refute_check.specs.Broken.{BreaksAt}
+use Rattle.refutation_verdicts.specs.refute_check.Broken.{BreaksAt}
 
 module _ (call : Names) (files : Files) (old new : ShelfTells) (number : ℕ) (before after : SinkTells) (told : old.held ≡ Some files)
     (runs : Runs (check_of call) old new number before after) where

@@ -1,25 +1,25 @@
 -- The meaning of a closed refutation of a log.
 use Rattle.std.proofs.Common.{ℕ, List, Option, Some, None, sym, subst}
-use Rattle.clap_solve.proofs.Meaning.{closed_is_impossible}
-use Rattle.clap_solve.specs.Clauses.{bound_of}
-use Rattle.memory_models.specs.declared.model.Model.{Model}
-use Rattle.memory_models.specs.declared.model.Model.TheVariants.{Sc, Tso, Pso}
-use Rattle.refute_check.specs.Refutations.{IsClosed}
-use Rattle.store_buffers.specs.Buffers.{buffer_of}
-use Rattle.store_buffers.specs.Laws.{Laws}
-use Rattle.store_buffers.specs.helpers.Partial.{pso_laws}
-use Rattle.store_buffers.specs.helpers.Sequential.{sc_laws}
-use Rattle.store_buffers.specs.helpers.Total.{tso_laws}
-use Rattle.switch_clauses.proofs.Meaning.{closed_is_more}
-use Rattle.switch_runs.specs.Switches.{switches}
-use Rattle.tc_base.specs.declared.moves.Move.{Move}
-use Rattle.tc_code.specs.Code.{Code}
-use Rattle.tc_code.specs.Lawful.{IsLawful}
-use Rattle.tc_compile.specs.Programs.{IsCodeOf, language}
-use Rattle.tc_lower.proofs.Ints.{program_ints}
-use Rattle.tc_lower.proofs.Programs.{program_is_lawful}
-use Rattle.tc_parser.proofs.Words.{has_ints}
-use Rattle.log_tasks.specs.Tasks.{Reproduces, Task}
+use Rattle.refutation_input.proofs.clap_solve.Meaning.{closed_is_impossible}
+use Rattle.refutation_input.specs.clap_solve.Clauses.{bound_of}
+use Rattle.refutation_input.specs.memory_models.declared.model.Model.{Model}
+use Rattle.refutation_input.specs.memory_models.declared.model.Model.TheVariants.{Sc, Tso, Pso}
+use Rattle.refutation_verdicts.specs.refute_check.Refutations.{IsClosed}
+use Rattle.refutation_input.specs.store_buffers.Buffers.{buffer_of}
+use Rattle.refutation_input.specs.store_buffers.Laws.{Laws}
+use Rattle.refutation_input.specs.store_buffers.helpers.Partial.{pso_laws}
+use Rattle.refutation_input.specs.store_buffers.helpers.Sequential.{sc_laws}
+use Rattle.refutation_input.specs.store_buffers.helpers.Total.{tso_laws}
+use Rattle.refutation_verdicts.proofs.switch_clauses.Meaning.{closed_is_more}
+use Rattle.refutation_verdicts.specs.switch_runs.Switches.{switches}
+use Rattle.command_inputs.specs.tc_base.declared.moves.Move.{Move}
+use Rattle.command_inputs.specs.tc_code.Code.{Code}
+use Rattle.command_inputs.specs.tc_code.Lawful.{IsLawful}
+use Rattle.command_inputs.specs.tc_compile.Programs.{IsCodeOf, language}
+use Rattle.command_inputs.proofs.tc_lower.Ints.{program_ints}
+use Rattle.command_inputs.proofs.tc_lower.Programs.{program_is_lawful}
+use Rattle.command_inputs.proofs.tc_parser.Words.{has_ints}
+use Rattle.refutation_verdicts.specs.log_tasks.Tasks.{Reproduces, Task}
 use Rattle.refutation_verdicts.specs.Refutations.{IsMoreThan, Refutation, clauses_under, clauses_up_to, switches_of}
 
 -- the code of a program is lawful

@@ -1,6 +1,6 @@
 -- From what is known while a refutation is read to what comes of it.
 use Rattle.std.proofs.Common.{ℕ, List, [], ◌∷◌, ◌++◌, Option, Result, Ok, Err}
-use Rattle.refute_check.specs.Broken.{BreaksAt}
+use Rattle.refutation_verdicts.specs.refute_check.Broken.{BreaksAt}
 use Rattle.command_frame.specs.Inputs.{Texts}
 use Rattle.command_inputs.specs.declared.refusal.Refusal.{Refusal}
 use Rattle.refutation_verdicts.proofs.Judged.{unread_unjudged}

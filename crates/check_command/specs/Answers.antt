@@ -1,15 +1,15 @@
 -- The headline: what `check` answers to files that are known.
 use Rattle.std.specs.Prelude.{◌≡◌, ◌⊎◌, ℕ, List, Some}
-use Rattle.refute_check.specs.Broken.{BreaksAt}
-use Rattle.refute_check.specs.Refutations.{IsClosed, IsOpen, check}
-use Rattle.tc_base.specs.declared.moves.Move.{Move}
+use Rattle.refutation_verdicts.specs.refute_check.Broken.{BreaksAt}
+use Rattle.refutation_verdicts.specs.refute_check.Refutations.{IsClosed, IsOpen, check}
+use Rattle.command_inputs.specs.tc_base.declared.moves.Move.{Move}
 use Rattle.tc_io.specs.Outside.{Files, bytes_at}
 use Rattle.command_frame.specs.Answers.{number_of}
 use Rattle.command_frame.specs.ByStatus.{IsStatus}
 use Rattle.command_frame.specs.End.{End, LeavesNothing}
 use Rattle.command_inputs.specs.declared.refusal.Refusal.{Refusal}
-use Rattle.command_ends.specs.Ends.{AreShort, Declines, HasDeclined}
-use Rattle.log_tasks.specs.Tasks.{Reproduces, Task}
+use Rattle.refutation_verdicts.specs.command_ends.Ends.{AreShort, Declines, HasDeclined}
+use Rattle.refutation_verdicts.specs.log_tasks.Tasks.{Reproduces, Task}
 use Rattle.refutation_verdicts.specs.Causes.{IsUnjudged}
 use Rattle.check_command.specs.Meanings.{inputs_of}
 use Rattle.refutation_verdicts.specs.Refutations.{IsMoreThan, Names, Refutation, clauses_under, switches_of}

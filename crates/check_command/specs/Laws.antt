@@ -1,11 +1,11 @@
 -- Which refutations `check` accepts.
 use Rattle.std.specs.Prelude.{List, ℕ, Ok}
-use Rattle.refute_check.specs.Laws.{IsWhole}
-use Rattle.refute_check.specs.Refutations.{IsClosed, IsOpen}
-use Rattle.refute_check.specs.Texts.{refutation_text}
-use Rattle.refute_check.specs.declared.head.Head.{Head}
-use Rattle.refute_check.specs.declared.line.Line.{Line}
-use Rattle.log_tasks.specs.Tasks.{Task}
+use Rattle.refutation_verdicts.specs.refute_check.Laws.{IsWhole}
+use Rattle.refutation_verdicts.specs.refute_check.Refutations.{IsClosed, IsOpen}
+use Rattle.refutation_verdicts.specs.refute_check.Texts.{refutation_text}
+use Rattle.refutation_verdicts.specs.refute_check.declared.head.Head.{Head}
+use Rattle.refutation_verdicts.specs.refute_check.declared.line.Line.{Line}
+use Rattle.refutation_verdicts.specs.log_tasks.Tasks.{Task}
 use Rattle.refutation_input.specs.Checked.{IsChecked}
 use Rattle.refutation_verdicts.specs.Refutations.{head_clauses}
 use Rattle.refutation_verdicts.specs.declared.verdict.Verdict.TheVariants.{Closed, Open}

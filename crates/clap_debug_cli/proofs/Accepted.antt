@@ -1,16 +1,16 @@
 -- A schedule that reproduces a log is accepted.
 use Rattle.std.proofs.Common.{◌≤◌, ℕ, List, length, subst, sym, Option}
-use Rattle.clap_solve.specs.Clauses.{bound_of}
-use Rattle.memory_models.specs.declared.model.Model.{Model}
+use Rattle.cnf_command.specs.clap_solve.Clauses.{bound_of}
+use Rattle.replay_command.specs.memory_models.declared.model.Model.{Model}
 use Rattle.replay_command.specs.Causes.{IsReplayed}
 use Rattle.schedule_length.specs.Lengths.{IsSmall}
 use Rattle.schedule_length.proofs.Laws.{short_enough, steps_of_text}
-use Rattle.schedule_replay.specs.declared.verdict.Verdict.TheVariants as verdict
-use Rattle.store_buffers.specs.Buffers.{buffer_of}
-use Rattle.tc_base.specs.declared.moves.Move.{Move}
-use Rattle.tc_limits.specs.declared.limits.TheConstants.{SCHEDULE_BYTES}
-use Rattle.command_inputs.specs.Forms.{IsSchedule}
-use Rattle.log_tasks.specs.Tasks.{Reproduces, Task, model_of}
+use Rattle.replay_command.specs.schedule_replay.declared.verdict.Verdict.TheVariants as verdict
+use Rattle.replay_command.specs.store_buffers.Buffers.{buffer_of}
+use Rattle.record_command.specs.tc_base.declared.moves.Move.{Move}
+use Rattle.migrate_command.specs.tc_limits.declared.limits.TheConstants.{SCHEDULE_BYTES}
+use Rattle.list_command.specs.command_inputs.Forms.{IsSchedule}
+use Rattle.cnf_command.specs.log_tasks.Tasks.{Reproduces, Task, model_of}
 use Rattle.check_command.proofs.Excluded.{code_is_lawful, model_laws}
 
 pub schedule_accepted : {program log : List ℕ} (task : Task program log) (asked : Option Model) (moves : List Move) (text : List ℕ)

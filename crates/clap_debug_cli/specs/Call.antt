@@ -43,7 +43,8 @@ usage_text =
     ++ codes "usage: clap_debug why PROGRAM LOG REFUTATION\n"
 
 -- the command of a call ran
-abbrev pub RunsCall : Called → ShelfTells → ShelfTells → (status : ℕ) → SinkTells → SinkTells → Type 0
+abbrev pub RunsCall : Called → ShelfTells → ShelfTells → (status : ℕ) → SinkTells → SinkTells
+    → Type 0
 RunsCall (Lists program) = Runs (list_of program)
 RunsCall (Replays program log schedule) = Runs (replay_of program log schedule)
 RunsCall (Records call) = Runs (record_of call)
@@ -57,7 +58,8 @@ RunsCall (Imports call) = Runs (import_of call)
 RunsCall (Explains call) = Runs (why_of call)
 
 -- the command ran that words ask for; if they ask for none, the usage was put, and nothing else
-abbrev pub Does : Option Called → ShelfTells → ShelfTells → (status : ℕ) → SinkTells → SinkTells → Type 0
+abbrev pub Does : Option Called → ShelfTells → ShelfTells → (status : ℕ) → SinkTells → SinkTells
+    → Type 0
 Does (Some call) old new status before after = RunsCall call old new status before after
 Does None old new status before after = (new ≡ old) × SaysLine usage_text Usage status before after
 
@@ -65,7 +67,8 @@ Does None old new status before after = (new ≡ old) × SaysLine usage_text Usa
 abbrev pub Answers : Called → Files → End → Type 0
 Answers (Lists program) files e = ListAnswers (bytes_at files program) e.status e.before e.after
 Answers (Replays program log schedule) files e =
-    ReplayAnswers (bytes_at files program) (bytes_at files log) (bytes_at files schedule) e.status e.before e.after
+    ReplayAnswers (bytes_at files program) (bytes_at files log)
+    (bytes_at files schedule) e.status e.before e.after
 Answers (Records call) files e = RecordAnswers call files e
 Answers (Migrates call) files e = MigrateAnswers call files e
 Answers (Solves call) files e = SolveAnswers call files e

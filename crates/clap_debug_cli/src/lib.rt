@@ -4,13 +4,13 @@
 ghost use Rattle.std.specs.Prelude.{◌≤◌, List, ℕ, Option, length, map, string_bytes};
 ghost use Rattle.command_frame.specs.Answers.{SaysLine};
 ghost use Rattle.command_frame.specs.declared.status.Status.TheVariants.{Usage};
-ghost use Rattle.command_inputs.specs.Forms.{IsSchedule};
-ghost use Rattle.log_tasks.specs.Tasks.{Reproduces, Task, model_of};
-ghost use Rattle.memory_models.specs.declared.model.Model.{Model};
+ghost use Rattle.list_command.specs.command_inputs.Forms.{IsSchedule};
+ghost use Rattle.cnf_command.specs.log_tasks.Tasks.{Reproduces, Task, model_of};
+ghost use Rattle.replay_command.specs.memory_models.declared.model.Model.{Model};
 ghost use Rattle.replay_command.specs.Causes.{IsReplayed};
-ghost use Rattle.schedule_replay.specs.declared.verdict.Verdict.TheVariants as verdict;
-ghost use Rattle.tc_base.specs.declared.moves.Move.{Move};
-ghost use Rattle.tc_limits.specs.declared.limits.TheConstants.{SCHEDULE_BYTES};
+ghost use Rattle.replay_command.specs.schedule_replay.declared.verdict.Verdict.TheVariants as verdict;
+ghost use Rattle.record_command.specs.tc_base.declared.moves.Move.{Move};
+ghost use Rattle.migrate_command.specs.tc_limits.declared.limits.TheConstants.{SCHEDULE_BYTES};
 ghost use Rattle.clap_debug_words.specs.Calls.{call_of, plain_call};
 ghost use Rattle.clap_debug_cli.specs.Call.{Answers, Does, IfTold, RunsCall, usage_text};
 

@@ -19,7 +19,7 @@ use Rattle.migrate_command.specs.Meanings.{Migrate}
 use Rattle.migrate_command.specs.helpers.Asked.{plain_migrate}
 use Rattle.record_command.specs.Runs.{Record}
 use Rattle.record_command.specs.helpers.Asked.{plain_record}
-use Rattle.refutation_verdicts.specs.Refutations.{Names}
+use Rattle.check_command.specs.refutation_verdicts.Refutations.{Names}
 use Rattle.solve_command.specs.Calls.{Solve}
 use Rattle.solve_command.specs.helpers.Asked.{plain_solve}
 use Rattle.why_command.specs.Meanings as explained
@@ -48,11 +48,13 @@ text_of id rows = unwrap_or (first_of id rows) []
 
 -- the number that a text is, if it is one in the range, else the default
 abbrev pub number_in : (low high default : ℕ) → Text → ℕ
-number_in low high default text = if is_unsigned_in low high text then digits_value 10 (without_leading_plus text) else default
+number_in low high default text =
+    if is_unsigned_in low high text then digits_value 10 (without_leading_plus text) else default
 
 -- the number of an option or a positional
 abbrev pub number_of : (low high default : ℕ) → Text → List Row → ℕ
-number_of low high default id rows = option_map_or (number_in low high default) (one_of id rows) default
+number_of low high default id rows =
+    option_map_or (number_in low high default) (one_of id rows) default
 
 -- the number, if there is one in the range, else the default
 abbrev pub within : (low high default : ℕ) → Option ℕ → ℕ
@@ -61,7 +63,9 @@ within low high default (Some n) = if nat_le low n && nat_le n high then n else 
 
 -- the memory model with this name
 abbrev pub model_in : Text → Model
-model_in name = if bytes_eq name (model_name Tso) then Tso else if bytes_eq name (model_name Pso) then Pso else Sc
+model_in name =
+    if bytes_eq name (model_name Tso) then Tso else if bytes_eq name (model_name Pso) then Pso
+    else Sc
 
 abbrev pub model_of : List Row → Model
 model_of rows = model_in (text_of (codes "model") rows)
@@ -98,7 +102,13 @@ record_in rows = record {
 }
 
 abbrev pub migrate_in : List Row → Migrate
-migrate_in rows = record { program = text_of (codes "program") rows; log = text_of (codes "log") rows; out = text_of (codes "out") rows }
+migrate_in rows =
+    record {
+      program = text_of (codes "program") rows;
+      log = text_of
+          (codes "log") rows;
+      out = text_of (codes "out") rows;
+    }
 
 -- without a model, the log's is meant
 abbrev pub solve_in : List Row → Solve
@@ -123,7 +133,12 @@ least_of call refutation = record {
 
 abbrev pub names_in : List Row → Names
 names_in rows =
-    record { program = text_of (codes "program") rows; log = text_of (codes "log") rows; refutation = text_of (codes "refutation") rows }
+    record {
+      program = text_of (codes "program") rows;
+      log = text_of
+          (codes "log") rows;
+      refutation = text_of (codes "refutation") rows;
+    }
 
 abbrev pub workload_in : List Row → Workload
 workload_in rows = record { workers = workers_of rows; seed = seed_of rows }
@@ -156,7 +171,9 @@ searched rows = searched_as (first_of (codes "least") rows) (solve_in rows)
 -- the call of a subcommand's name and matches
 abbrev pub called : Text × List Row → Called
 called p = if bytes_eq p.0 (codes "list") then Lists (text_of (codes "program") p.1)
-    else if bytes_eq p.0 (codes "replay") then Replays (text_of (codes "program") p.1) (text_of (codes "log") p.1) (text_of (codes "schedule") p.1)
+    else if bytes_eq p.0 (codes "replay")
+    then Replays (text_of (codes "program") p.1) (text_of (codes "log") p.1)
+    (text_of (codes "schedule") p.1)
     else if bytes_eq p.0 (codes "migrate") then Migrates (migrate_in p.1)
     else if bytes_eq p.0 (codes "solve") then searched p.1
     else if bytes_eq p.0 (codes "check") then Checks (names_in p.1)
@@ -168,12 +185,14 @@ called p = if bytes_eq p.0 (codes "list") then Lists (text_of (codes "program") 
 
 -- the call that the words ask for, if they are accepted
 abbrev pub call_of : List Text → Option Called
-call_of words = if words_taken words then option_map called (subcommand_of command_line words) else None
+call_of words =
+    if words_taken words then option_map called (subcommand_of command_line words) else None
 
 -- a call as plain data
 abbrev pub plain_call : Call → Called
 plain_call (call.List list) = Lists list.program.name.now
-plain_call (call.Replay replay) = Replays replay.inputs.0.0.name.now replay.inputs.0.1.name.now replay.inputs.1.name.now
+plain_call (call.Replay replay) =
+    Replays replay.inputs.0.0.name.now replay.inputs.0.1.name.now replay.inputs.1.name.now
 plain_call (call.Record recording) = Records (plain_record recording)
 plain_call (call.Migrate migrate) = Migrates (plain_migrate migrate)
 plain_call (call.Solve solve) = Solves (plain_solve solve)

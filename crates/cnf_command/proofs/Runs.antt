@@ -10,13 +10,13 @@ use Rattle.store_buffers.specs.Laws.{Laws}
 use Rattle.store_buffers.specs.helpers.Partial.{pso_laws}
 use Rattle.store_buffers.specs.helpers.Sequential.{sc_laws}
 use Rattle.store_buffers.specs.helpers.Total.{tso_laws}
-use Rattle.tc_base.specs.declared.moves.Move.{Move}
+use Rattle.run_log.specs.tc_base.declared.moves.Move.{Move}
 use Rattle.tc_code.specs.Code.{Code}
 use Rattle.tc_code.specs.Lawful.{IsLawful}
-use Rattle.tc_compile.specs.Programs.{IsCodeOf, language}
-use Rattle.tc_lower.proofs.Ints.{program_ints}
-use Rattle.tc_lower.proofs.Programs.{program_is_lawful}
-use Rattle.tc_parser.proofs.Words.{has_ints}
+use Rattle.command_inputs.specs.tc_compile.Programs.{IsCodeOf, language}
+use Rattle.command_inputs.proofs.tc_lower.Ints.{program_ints}
+use Rattle.command_inputs.proofs.tc_lower.Programs.{program_is_lawful}
+use Rattle.command_inputs.proofs.tc_parser.Words.{has_ints}
 use Rattle.log_tasks.specs.Tasks.{Reproduces, Task, clauses_of, model_of}
 use Rattle.cnf_command.specs.Answers.{IsSatisfiable}
 

@@ -5,4 +5,7 @@ use Rattle.cnf_core.specs.Clauses.{Formula}
 
 -- the line with the number of variables and clauses
 abbrev pub clauses_line : Formula → List ℕ
-clauses_line f = codes "cnf " ++ (decimal f.vars ++ (codes " variables, " ++ (decimal (length f.clauses) ++ codes " clauses\n")))
+clauses_line f =
+    codes "cnf "
+    ++ (decimal f.vars
+    ++ (codes " variables, " ++ (decimal (length f.clauses) ++ codes " clauses\n")))

@@ -22,7 +22,8 @@ pub record AreClauses (code : Code) (log : Log) (model : Model) (x : Exported) :
   pub text : x.text.items ≡ cnf_text x.clauses
 
 -- the clauses of a task under the memory model that is meant
-abbrev pub IsExported : (asked : Option Model) → {program log : List ℕ} → Task program log → Exported → Type 0
+abbrev pub IsExported : (asked : Option Model) → {program log : List ℕ} → Task program log
+    → Exported → Type 0
 IsExported asked t x = AreClauses t.pair.code t.pair.run.log (model_of asked t.pair) x
 
 -- what comes of the bytes of the files: the clauses of their task, or why there are none

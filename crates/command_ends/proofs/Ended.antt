@@ -1,17 +1,17 @@
 -- From a run over known files to how it ended: with a result, a refusal, a limit or a fault.
 use Rattle.std.proofs.Common.{arith, ◌≡◌, ◌⊎◌, inl, inr, ap, refl, sym, subst, ◌∙◌, ℕ, ◌≤◌, List, Option, Some, Result, Ok, Err}
-use Rattle.tc_io.specs.Outside.{Files, ShelfTells, SinkTells, Wrote}
-use Rattle.command_frame.specs.Answers.{Answer, Gives, ReadFault, TooLong, WriteFault, NoMemory, IsFaultStatus, Puts, number_of}
-use Rattle.command_frame.specs.Causes.{IsAnswerTo}
-use Rattle.command_frame.specs.End.{End, TellsLimit}
-use Rattle.command_frame.specs.Inputs.{IsTooLong, Limit, Texts, Wanted, texts_under}
-use Rattle.command_frame.specs.Keeps.{put_all}
-use Rattle.command_frame.specs.Meaning.{Meaning}
-use Rattle.command_frame.specs.Run.{Runs, kept_by}
-use Rattle.command_frame.specs.declared.status.Status.{Status}
-use Rattle.command_frame.specs.declared.status.Status.TheVariants as statuses
-use Rattle.command_frame.proofs.ReadAll.{long_or_within, one_too_long}
-use Rattle.command_frame.proofs.Statuses.{fault_or_not, kept_whole, same_status}
+use Rattle.command_inputs.specs.tc_io.Outside.{Files, ShelfTells, SinkTells, Wrote}
+use Rattle.command_inputs.specs.command_frame.Answers.{Answer, Gives, ReadFault, TooLong, WriteFault, NoMemory, IsFaultStatus, Puts, number_of}
+use Rattle.command_inputs.specs.command_frame.Causes.{IsAnswerTo}
+use Rattle.command_inputs.specs.command_frame.End.{End, TellsLimit}
+use Rattle.command_inputs.specs.command_frame.Inputs.{IsTooLong, Limit, Texts, Wanted, texts_under}
+use Rattle.command_inputs.specs.command_frame.Keeps.{put_all}
+use Rattle.command_inputs.specs.command_frame.Meaning.{Meaning}
+use Rattle.command_inputs.specs.command_frame.Run.{Runs, kept_by}
+use Rattle.command_inputs.specs.command_frame.declared.status.Status.{Status}
+use Rattle.command_inputs.specs.command_frame.declared.status.Status.TheVariants as statuses
+use Rattle.command_inputs.proofs.command_frame.ReadAll.{long_or_within, one_too_long}
+use Rattle.command_inputs.proofs.command_frame.Statuses.{fault_or_not, kept_whole, same_status}
 use Rattle.command_inputs.specs.Refusals.{refusal_status}
 use Rattle.command_inputs.specs.declared.refusal.Refusal.{Refusal}
 use Rattle.command_inputs.specs.declared.refusal.Refusal.TheVariants as refusal

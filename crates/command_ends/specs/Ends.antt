@@ -1,9 +1,9 @@
 -- How a call over known files ends that has no result.
 use Rattle.std.specs.Prelude.{◌≡◌, ◌⊎◌, List}
-use Rattle.tc_io.specs.Outside.{Files}
-use Rattle.command_frame.specs.Answers.{IsFaultStatus, number_of}
-use Rattle.command_frame.specs.End.{End, LeavesNothing, TellsLimit}
-use Rattle.command_frame.specs.Inputs.{AreWithin, IsTooLong, Limit, Wanted, texts_under}
+use Rattle.command_inputs.specs.tc_io.Outside.{Files}
+use Rattle.command_inputs.specs.command_frame.Answers.{IsFaultStatus, number_of}
+use Rattle.command_inputs.specs.command_frame.End.{End, LeavesNothing, TellsLimit}
+use Rattle.command_inputs.specs.command_frame.Inputs.{AreWithin, IsTooLong, Limit, Wanted, texts_under}
 use Rattle.command_inputs.specs.Refusals.{refusal_line, refusal_status}
 use Rattle.command_inputs.specs.declared.refusal.Refusal.{Refusal}
 

@@ -1,9 +1,9 @@
 -- Commands that come to a result or refuse an input.
 use Rattle.std.specs.Prelude.{◌≡◌, ℕ, List, [], Result, Ok, Err}
-use Rattle.command_frame.specs.Inputs.{Texts, Wanted}
-use Rattle.command_frame.specs.Keeps.{Keep}
-use Rattle.command_frame.specs.Meaning.{Meaning}
-use Rattle.command_frame.specs.declared.status.Status.{Status}
+use Rattle.command_inputs.specs.command_frame.Inputs.{Texts, Wanted}
+use Rattle.command_inputs.specs.command_frame.Keeps.{Keep}
+use Rattle.command_inputs.specs.command_frame.Meaning.{Meaning}
+use Rattle.command_inputs.specs.command_frame.declared.status.Status.{Status}
 use Rattle.command_inputs.specs.Outcomes.{outcome_status, outcome_text}
 use Rattle.command_inputs.specs.declared.refusal.Refusal.{Refusal}
 

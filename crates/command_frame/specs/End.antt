@@ -13,7 +13,8 @@ pub record End : Type 0 where
 
 -- the file of this name holds this text, all else is as before, and this line was put
 abbrev pub Leaves : Files → End → (name text line : List ℕ) → Type 0
-Leaves files e name text line = (e.held ≡ put_under name text (Some files)) × Wrote e.before e.after line
+Leaves files e name text line =
+    (e.held ≡ put_under name text (Some files)) × Wrote e.before e.after line
 
 -- all is as before, and this line was put
 abbrev pub LeavesNothing : Files → End → (line : List ℕ) → Type 0

@@ -7,7 +7,7 @@ use Rattle.std.proofs.lemmas.List.Elements.{All-weaker, All-head, All-tail, All-
 use Rattle.std.proofs.lemmas.List.Folds.{list_any_none}
 use Rattle.tc_base.specs.Paths.{ThreadPath}
 use Rattle.tc_code.specs.Code.{Code}
-use Rattle.tc_limits.specs.declared.limits.TheConstants.{DEPTH, STEPS, THREADS}
+use Rattle.tc_code.specs.tc_limits.declared.limits.TheConstants.{DEPTH, STEPS, THREADS}
 use Rattle.log_walk.specs.Given.{IsLeftOut, IsOne, IsWithin, has_many_outcomes, has_many_steps, is_deep}
 use Rattle.log_walk.specs.Given.IsLeftOut.{Outcomes, Steps, Depth, Threads}
 use Rattle.log_walk.specs.declared.bounds.Bounds.{Bounds}

@@ -13,17 +13,17 @@ use Rattle.tc_base.specs.Paths.{Path, ThreadPath, path_under}
 use Rattle.tc_base.specs.declared.failing.Failing.TheVariants as failing
 use Rattle.tc_code.specs.Code.{Code}
 use Rattle.tc_code.specs.Run.{IsStuck}
-use Rattle.tc_limits.specs.declared.limits.TheConstants.{THREADS}
-use Rattle.run_follows.specs.Machine.{Machine}
-use Rattle.path_laws.proofs.Prefixes.{own_under}
+use Rattle.tc_code.specs.tc_limits.declared.limits.TheConstants.{THREADS}
+use Rattle.walked_logs.specs.run_follows.Machine.{Machine}
+use Rattle.walked_logs.proofs.path_laws.Prefixes.{own_under}
 use Rattle.log_walk.specs.Given.{IsLeftOut, has_many_outcomes}
 use Rattle.log_walk.specs.Given.IsLeftOut.{Outcomes, Steps, Depth, Threads}
 use Rattle.log_walk.specs.Rest.{all, MakeUp}
 use Rattle.log_walk.specs.declared.bounds.Kind.{Kind}
 use Rattle.log_walk.specs.declared.bounds.Kind.TheVariants.{Failure, Deadlock}
 use Rattle.log_walk.specs.declared.bounds.LeftOut.{LeftOut}
-use Rattle.normal_logs.specs.Within.{Allowed, at_most, HasBeginnings, ComesTo}
-use Rattle.normal_logs.proofs.Logs.{few_begin}
+use Rattle.walked_logs.specs.normal_logs.Within.{Allowed, at_most, HasBeginnings, ComesTo}
+use Rattle.walked_logs.proofs.normal_logs.Logs.{few_begin}
 use Rattle.walked_logs.proofs.Runs.{fails_walked, stuck_walked}
 use Rattle.find_failures.specs.Found.{IsFound, IsUnknown}
 use Rattle.find_failures.specs.Runs.{AreImpossible, EndsIn, NoneEnds, NoneEndsWithin}

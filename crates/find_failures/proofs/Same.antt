@@ -4,7 +4,7 @@ use Rattle.std.proofs.lemmas.Bool.{false≢true, and_parts}
 use Rattle.std.proofs.lemmas.Option.{same_Some}
 use Rattle.tc_base.specs.Paths.{ThreadPath}
 use Rattle.tc_code.specs.Code.{Code}
-use Rattle.thread_paths.specs.Order.{comes_from}
+use Rattle.log_walk.specs.thread_paths.Order.{comes_from}
 use Rattle.log_walk.specs.Order.{are_from}
 use Rattle.log_walk.specs.Rest.{Rest, MakeUp, leave}
 use Rattle.log_walk.specs.declared.bounds.Kind.{Kind}

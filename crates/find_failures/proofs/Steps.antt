@@ -6,7 +6,7 @@ use Rattle.memory_models.specs.declared.model.Model.{Model}
 use Rattle.tc_base.specs.Buffers.{BufferOps}
 use Rattle.tc_base.specs.Paths.{ThreadPath}
 use Rattle.tc_code.specs.Code.{Code}
-use Rattle.tc_limits.specs.declared.limits.TheConstants.{THREADS}
+use Rattle.tc_code.specs.tc_limits.declared.limits.TheConstants.{THREADS}
 use Rattle.store_buffers.specs.Pending.{Binding}
 use Rattle.log_walk.specs.Given.{Given, IsFirst, IsLeftOut, IsOne, AreNotAfter}
 use Rattle.log_walk.specs.Order.{are_from, are_to_come}

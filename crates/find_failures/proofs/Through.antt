@@ -4,7 +4,7 @@ use Rattle.std.specs.Prelude.{◌⊎◌}
 use Rattle.std.proofs.lemmas.Bool.{false≢true}
 use Rattle.tc_base.specs.Paths.{ThreadPath}
 use Rattle.tc_code.specs.Code.{Code}
-use Rattle.tc_limits.specs.declared.limits.TheConstants.{THREADS}
+use Rattle.tc_code.specs.tc_limits.declared.limits.TheConstants.{THREADS}
 use Rattle.log_walk.specs.Given.{Given, IsFirst, IsLeftOut, AreNotAfter}
 use Rattle.log_walk.specs.Order.{are_from, are_to_come}
 use Rattle.log_walk.specs.Rest.{all, MakeUp}

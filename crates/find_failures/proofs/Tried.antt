@@ -13,15 +13,15 @@ use Rattle.tc_base.specs.declared.failing.Failing.TheVariants as failing
 use Rattle.run_log.specs.Logs.{Log, StoredLog, failing_of, is_log, is_there, rises_from}
 use Rattle.tc_code.specs.Code.{Code}
 use Rattle.store_buffers.specs.Pending.{Binding}
-use Rattle.run_follows.specs.Machine.{Machine}
-use Rattle.path_walk.specs.Fits.{IsFirst}
-use Rattle.path_walk.specs.declared.fault.Misfit.{Misfit}
-use Rattle.path_walk.specs.declared.fault.WalkFault.{WalkFault}
-use Rattle.path_walk.specs.declared.fault.WalkFault.TheVariants as walk
+use Rattle.walked_logs.specs.run_follows.Machine.{Machine}
+use Rattle.clap_system.specs.path_walk.Fits.{IsFirst}
+use Rattle.clap_system.specs.path_walk.declared.fault.Misfit.{Misfit}
+use Rattle.clap_system.specs.path_walk.declared.fault.WalkFault.{WalkFault}
+use Rattle.clap_system.specs.path_walk.declared.fault.WalkFault.TheVariants as walk
 use Rattle.clap_system.specs.Faults.{IsBuildFault}
 use Rattle.clap_system.specs.declared.fault.BuildFault.TheVariants as build
 use Rattle.tc_base.specs.Names.{Name}
-use Rattle.path_laws.proofs.Logs.{reproduced_fits}
+use Rattle.walked_logs.proofs.path_laws.Logs.{reproduced_fits}
 use Rattle.log_walk.specs.Given.{IsOne}
 use Rattle.log_walk.specs.Rest.{all, MakeUp}
 use Rattle.log_walk.specs.declared.bounds.Kind.{Kind}

@@ -11,8 +11,8 @@ use Rattle.log_walk.specs.Given.{IsOne}
 use Rattle.log_walk.specs.Order.{are_to_come}
 use Rattle.refute_check.specs.Refutations.{IsClosed}
 use Rattle.refute_check.specs.declared.line.Line.{Line}
-use Rattle.cdcl_core.specs.Solving.{Solves}
-use Rattle.cdcl_core.specs.declared.progress.Solved.TheVariants as solved
+use Rattle.clap_solve.specs.cdcl_core.Solving.{Solves}
+use Rattle.clap_solve.specs.cdcl_core.declared.progress.Solved.TheVariants as solved
 use Rattle.clap_system.specs.Faults.{IsBuildFault}
 use Rattle.clap_system.specs.declared.fault.BuildFault.TheVariants as build
 use Rattle.clap_solve.specs.Clauses.{clauses_of}
@@ -48,7 +48,9 @@ module _ {B : Type 0} (ops : BufferOps B) (bound : Binding) (code : Code) where
 
   -- the search for a schedule learnt as many clauses as the budget says, or a limit is exceeded
   abbrev pub IsReason : ℕ → Log → Reason → Type 0
-  IsReason budget log Spent = (lines : List Line) × Solves (clauses_of ops.buffered bound code log) budget (solved.Spent lines)
+  IsReason budget log Spent =
+      (lines : List Line)
+      × Solves (clauses_of ops.buffered bound code log) budget (solved.Spent lines)
   IsReason budget log (Limit which n limit) = IsBuildFault code log (build.Limit which n limit)
 
   module _ (model : Model) (asked : Asked) where
@@ -65,7 +67,8 @@ module _ {B : Type 0} (ops : BufferOps B) (bound : Binding) (code : Code) where
 
     -- the result of a search
     abbrev pub IsFound : Found → Type 0
-    IsFound (Possible log) = IsNeeded model code asked.kind asked.outcomes log.log × IsPossible ops code log.log
+    IsFound (Possible log) =
+        IsNeeded model code asked.kind asked.outcomes log.log × IsPossible ops code log.log
     IsFound (Never reach refuted) = NoneReached reach × All IsRefuted refuted.items
     IsFound (Unknown unknown) = IsUnknown unknown
     IsFound TooMany = AreMany code asked (asked.logs + 1)

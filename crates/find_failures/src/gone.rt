@@ -1,6 +1,6 @@
 //! The logs gone through.
 ghost use Rattle.std.specs.Prelude.{◌≡◌, ◌≤◌, ◌++◌, ◌∷◌, [], None, Some, is_some, if◌then◌else◌, IfOk};
-ghost use Rattle.tc_limits.specs.declared.limits.TheConstants.{BUDGET};
+ghost use Rattle.tc_code.specs.tc_limits.declared.limits.TheConstants.{BUDGET};
 ghost use Rattle.log_walk.specs.Given.{IsOne};
 ghost use Rattle.log_walk.specs.declared.bounds.Kind.TheVariants.{Failure};
 ghost use Rattle.clap_solve.specs.Solved.{IsImpossible};

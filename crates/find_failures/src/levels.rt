@@ -1,6 +1,6 @@
 //! The search: with more and more outcomes, up to the bound, or until none are left out.
 ghost use Rattle.std.specs.Prelude.{◌≡◌, ◌≤◌, IfOk};
-ghost use Rattle.tc_limits.specs.declared.limits.TheConstants.{BUDGET};
+ghost use Rattle.tc_code.specs.tc_limits.declared.limits.TheConstants.{BUDGET};
 ghost use Rattle.find_failures.specs.Found.{IsFound};
 ghost use Rattle.find_failures.specs.helpers.Gone.{AreGone, IsEnded, after_all, is_last};
 

@@ -1,7 +1,7 @@
 //! The logs in which each thread has at most a given number of outcomes, one after another.
 ghost use Rattle.std.specs.Prelude.{◌≡◌, ◌≤◌, ◌==◌, ◌||◌, nat_le, length, option_map, IfOk, IfSome};
 ghost use Rattle.std.specs.List.{list_any};
-ghost use Rattle.tc_limits.specs.declared.limits.TheConstants.{BUDGET};
+ghost use Rattle.tc_code.specs.tc_limits.declared.limits.TheConstants.{BUDGET};
 ghost use Rattle.log_walk.specs.Given.{IsOne, IsFirst};
 ghost use Rattle.find_failures.specs.Runs.{AreImpossible};
 ghost use Rattle.find_failures.specs.helpers.Gone.{both, AreGone, AreReached, AreSettled, IsEnded, IsTried};

@@ -1,6 +1,6 @@
 //! What is known of one log.
 ghost use Rattle.std.specs.Prelude.{◌≤◌, IfOk};
-ghost use Rattle.tc_limits.specs.declared.limits.TheConstants.{BUDGET};
+ghost use Rattle.tc_code.specs.tc_limits.declared.limits.TheConstants.{BUDGET};
 ghost use Rattle.find_failures.specs.helpers.Verdicts.{IsVerdict};
 
 use crate::found::Reason;

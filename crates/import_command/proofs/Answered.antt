@@ -3,7 +3,7 @@ use Rattle.std.proofs.Common.{◌≡◌, ◌⊎◌, inl, inr, subst, ℕ, List, 
 use Rattle.clap_solve.specs.Clauses.{model_clauses}
 use Rattle.clap_solve.specs.Imported.{IsFalseOf, values_of}
 use Rattle.dimacs_text.proofs.FirstFalse.{false_or_satisfied}
-use Rattle.tc_base.specs.declared.moves.Move.{Move}
+use Rattle.run_log.specs.tc_base.declared.moves.Move.{Move}
 use Rattle.tc_io.specs.Outside.{Files, ShelfTells, SinkTells, bytes_at}
 use Rattle.command_frame.specs.End.{End, LeavesNothing}
 use Rattle.command_frame.specs.Run.{Runs}

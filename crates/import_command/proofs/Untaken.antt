@@ -4,11 +4,11 @@ use Rattle.clap_solve.specs.Solved.{IsWithin}
 use Rattle.dimacs_text.proofs.Breaks.{answer_or_break, one_answer, one_break}
 use Rattle.dimacs_text.specs.Answers.{IsAnswerWith}
 use Rattle.memory_models.specs.declared.model.Model.{Model}
-use Rattle.path_log.proofs.Logs.{log_or_fault}
-use Rattle.path_log.specs.Texts.{IsOfOther}
+use Rattle.command_inputs.proofs.path_log.Logs.{log_or_fault}
+use Rattle.command_inputs.specs.path_log.Texts.{IsOfOther}
 use Rattle.run_log.specs.Logs.{StoredLog}
 use Rattle.tc_code.specs.Code.{Code}
-use Rattle.tc_compile.proofs.OnePrograms.{refused_no_code}
+use Rattle.command_inputs.proofs.tc_compile.OnePrograms.{refused_no_code}
 use Rattle.command_inputs.specs.Forms.{IsOther, IsUnread, IsWhy}
 use Rattle.command_inputs.specs.declared.refusal.Fault.{Fault}
 use Rattle.command_inputs.specs.declared.refusal.Fault.TheVariants as fault

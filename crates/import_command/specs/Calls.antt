@@ -37,7 +37,9 @@ answer_limit = record { kind = codes "answer"; most = ANSWER_BYTES }
 
 -- the files that it reads
 abbrev pub inputs_of : Import → List Wanted
-inputs_of call = Whole program_limit call.program ∷ Whole log_limit call.log ∷ Whole answer_limit call.answer ∷ []
+inputs_of call =
+    Whole program_limit call.program ∷ Whole log_limit call.log ∷ Whole answer_limit call.answer
+    ∷ []
 
 -- a program and a log that has clauses, and the literals that an answer makes true
 pub record Answered (program log answer : List ℕ) : Type 0 where
@@ -51,13 +53,17 @@ abbrev pub IsUntaken : (program log answer : List ℕ) → Refusal → Type 0
 IsUntaken program log answer (Program fault) = IsUnread program log (Program fault)
 IsUntaken program log answer (Log (Form offset)) = IsUnread program log (Log (Form offset))
 IsUntaken program log answer (Answer line) = Pair program log × BreaksAt answer line
-IsUntaken program log answer why = ((literals : List ℤ) × IsAnswerWith answer literals) × IsUnsearched program log why
+IsUntaken program log answer why =
+    ((literals : List ℤ) × IsAnswerWith answer literals) × IsUnsearched program log why
 
 module _ (call : Import) (files : Files) where
   -- they are a program, a log that has clauses, and an answer
   abbrev pub AnsweredIn : Type 0
-  AnsweredIn = Answered (bytes_at files call.program) (bytes_at files call.log) (bytes_at files call.answer)
+  AnsweredIn =
+      Answered (bytes_at files call.program) (bytes_at files call.log) (bytes_at files call.answer)
 
   -- they are refused for this reason
   abbrev pub IsRefused : Refusal → Type 0
-  IsRefused why = IsUntaken (bytes_at files call.program) (bytes_at files call.log) (bytes_at files call.answer) why
+  IsRefused why =
+      IsUntaken (bytes_at files call.program) (bytes_at files call.log)
+      (bytes_at files call.answer) why

@@ -1,6 +1,6 @@
 //! What is made of an answer: a schedule and its text, or a clause that is false.
 ghost use Rattle.std.specs.Prelude.{◌≡◌, ◌≤◌, length, IfErr, IfOk, OnOk};
-ghost use Rattle.tc_limits.specs.declared.limits.TheConstants.{PROGRAM_BYTES};
+ghost use Rattle.schedule_file.specs.tc_limits.declared.limits.TheConstants.{PROGRAM_BYTES};
 ghost use Rattle.dimacs_text.specs.Answers.{IsAnswerWith};
 ghost use Rattle.clap_solve.specs.Solved.{IsWithin};
 ghost use Rattle.clap_system.specs.Faults.{IsBuildFault};

@@ -1,6 +1,6 @@
 -- From a run of `solve --least` over known files to its answers.
 use Rattle.std.proofs.Common.{arith, ◌≡◌, ◌⊎◌, inl, inr, refl, subst, ℕ, zero, suc, ◌-◌, List, Option, Some, None}
-use Rattle.clap_solve.specs.Clauses.{bound_of}
+use Rattle.least_switch.specs.clap_solve.Clauses.{bound_of}
 use Rattle.least_switch.specs.Least.{HasSwitches, IsLeastAnswer, IsShown, IsSpentBelow}
 use Rattle.least_switch.specs.declared.answer.Least.{Least as Minimum}
 use Rattle.least_switch.specs.declared.answer.Least.TheVariants.{Found, Impossible, Spent, SpentAt}

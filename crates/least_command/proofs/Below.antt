@@ -1,6 +1,6 @@
 -- The number of switches that a refutation names: one fewer than found.
 use Rattle.std.proofs.Common.{◌≤◌, ℕ, zero, suc, arith, Some, None, List}
-use Rattle.tc_base.specs.Buffers.{BufferOps}
+use Rattle.run_log.specs.tc_base.Buffers.{BufferOps}
 use Rattle.run_log.specs.Logs.{Log}
 use Rattle.memory_models.specs.declared.model.Model.{Model}
 use Rattle.tc_code.specs.Code.{Code}

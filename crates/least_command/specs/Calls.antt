@@ -1,12 +1,12 @@
 -- What `solve --least` is asked, and what it looks for.
 use Rattle.std.specs.Prelude.{ℕ, List, [], ◌∷◌, Option, Some, None}
-use Rattle.clap_solve.specs.Clauses.{bound_of}
-use Rattle.cnf_core.specs.Clauses.{Formula}
+use Rattle.least_switch.specs.clap_solve.Clauses.{bound_of}
+use Rattle.refute_check.specs.cnf_core.Clauses.{Formula}
 use Rattle.memory_models.specs.declared.model.Model.{Model}
 use Rattle.store_buffers.specs.Buffers.{buffer_of}
-use Rattle.switch_clauses.specs.Clauses.{switch_clauses}
-use Rattle.switch_runs.specs.Switches.{switches}
-use Rattle.tc_base.specs.declared.moves.Move.{Move}
+use Rattle.least_switch.specs.switch_clauses.Clauses.{switch_clauses}
+use Rattle.least_switch.specs.switch_runs.Switches.{switches}
+use Rattle.run_log.specs.tc_base.declared.moves.Move.{Move}
 use Rattle.tc_io.specs.Outside.{Files, bytes_at}
 use Rattle.command_frame.specs.Inputs.{Wanted}
 use Rattle.command_frame.specs.Keeps.{Keep}

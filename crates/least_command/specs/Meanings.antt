@@ -1,9 +1,9 @@
 -- What `solve --least` means.
 use Rattle.std.specs.Prelude.{ℕ, ◌-◌, List, [], ◌∷◌, ◌++◌, length, codes, Option, Some, None, option_map, Result, Ok, Err}
 use Rattle.std.specs.Fmt.{decimal}
-use Rattle.clap_solve.specs.Clauses.{bound_of}
-use Rattle.clap_solve.specs.declared.answer.Answer.{Answer}
-use Rattle.clap_solve.specs.declared.answer.Answer.TheVariants as answer
+use Rattle.least_switch.specs.clap_solve.Clauses.{bound_of}
+use Rattle.least_switch.specs.clap_solve.declared.answer.Answer.{Answer}
+use Rattle.least_switch.specs.clap_solve.declared.answer.Answer.TheVariants as answer
 use Rattle.least_switch.specs.Least.{IsLeastAnswer}
 use Rattle.least_switch.specs.declared.answer.Least.{Least as Minimum}
 use Rattle.least_switch.specs.declared.answer.Least.TheVariants.{Found, Impossible, Spent, SpentAt}
@@ -11,7 +11,7 @@ use Rattle.memory_models.specs.declared.model.Model.{Model}
 use Rattle.refute_check.specs.declared.head.Head.{Head}
 use Rattle.run_log.specs.Logs.{Log}
 use Rattle.store_buffers.specs.Buffers.{buffer_of}
-use Rattle.tc_base.specs.declared.moves.Move.{Move}
+use Rattle.run_log.specs.tc_base.declared.moves.Move.{Move}
 use Rattle.tc_code.specs.Code.{Code}
 use Rattle.command_frame.specs.Inputs.{Texts}
 use Rattle.command_frame.specs.Meaning.{Meaning}

@@ -1,8 +1,8 @@
 //! The searches, under the memory model that is meant.
 ghost use Rattle.std.specs.Prelude.{◌≤◌, length, IfErr, IfOk, OnOk};
-ghost use Rattle.tc_limits.specs.declared.limits.TheConstants.{PROGRAM_BYTES};
-ghost use Rattle.clap_solve.specs.Clauses.{bound_of};
-ghost use Rattle.clap_solve.specs.Solved.{IsWithin};
+ghost use Rattle.schedule_file.specs.tc_limits.declared.limits.TheConstants.{PROGRAM_BYTES};
+ghost use Rattle.least_switch.specs.clap_solve.Clauses.{bound_of};
+ghost use Rattle.least_switch.specs.clap_solve.Solved.{IsWithin};
 ghost use Rattle.clap_system.specs.Faults.{IsBuildFault};
 ghost use Rattle.least_switch.specs.Least.{IsLeast};
 ghost use Rattle.store_buffers.specs.Buffers.{buffer_of};

@@ -5,11 +5,11 @@ use Rattle.clap_solve.specs.Solved.{IsWithin}
 use Rattle.clap_system.specs.Faults.{IsOver, IsShallow, limit_of}
 use Rattle.clap_system.specs.declared.fault.Which.{Which}
 use Rattle.clap_system.specs.declared.fault.Which.TheVariants.{Threads, Depth, Events, Operators}
-use Rattle.path_walk.proofs.Faults.{one_first}
-use Rattle.path_walk.specs.Fits.{IsFirst}
-use Rattle.path_walk.specs.declared.fault.Misfit.{Misfit}
+use Rattle.clap_system.proofs.path_walk.Faults.{one_first}
+use Rattle.clap_system.specs.path_walk.Fits.{IsFirst}
+use Rattle.clap_system.specs.path_walk.declared.fault.Misfit.{Misfit}
 use Rattle.run_log.specs.Logs.{Log as RunLog}
-use Rattle.tc_base.specs.Names.{Name}
+use Rattle.run_log.specs.tc_base.Names.{Name}
 use Rattle.tc_code.specs.Code.{Code}
 use Rattle.command_inputs.specs.declared.refusal.LogRefusal.TheVariants.{Form, OtherProgram, Unfit}
 use Rattle.command_inputs.specs.declared.refusal.Refusal.{Refusal}

@@ -1,7 +1,7 @@
 -- From a test that fails to why a program and a log aren't searched.
 use Rattle.std.proofs.Common.{ℕ, List, Result, Ok, Err, IfOk, IfErr, OnOk}
 use Rattle.clap_solve.specs.Solved.{IsWithin}
-use Rattle.path_log.specs.Texts.{IsOfOther}
+use Rattle.command_inputs.specs.path_log.Texts.{IsOfOther}
 use Rattle.command_inputs.specs.Forms.{IsOther, IsUnread, IsWhy}
 use Rattle.command_inputs.specs.declared.refusal.Fault.{Fault}
 use Rattle.command_inputs.specs.declared.refusal.Fault.TheVariants as fault

@@ -1,14 +1,14 @@
 -- A program and a log are searched, or there is one reason why they aren't.
 use Rattle.std.proofs.Common.{◌≡◌, ℕ, List, ap, refl, subst, Option, unwrap_or}
 use Rattle.clap_solve.specs.Solved.{IsImpossible}
-use Rattle.memory_models.specs.declared.model.Model.{Model}
-use Rattle.path_log.proofs.Logs.{log_or_fault, one_fault, one_log}
-use Rattle.path_log.specs.Texts.{IsOfOther}
+use Rattle.run_log.specs.memory_models.declared.model.Model.{Model}
+use Rattle.command_inputs.proofs.path_log.Logs.{log_or_fault, one_fault, one_log}
+use Rattle.command_inputs.specs.path_log.Texts.{IsOfOther}
 use Rattle.run_log.specs.Logs.{StoredLog}
-use Rattle.store_buffers.specs.Buffers.{buffer_of}
+use Rattle.clap_system.specs.store_buffers.Buffers.{buffer_of}
 use Rattle.tc_code.specs.Code.{Code}
 use Rattle.tc_code.specs.Run.{Reproduces as ReproducesIn}
-use Rattle.tc_compile.proofs.OnePrograms.{one_code, one_refusal, refused_no_code}
+use Rattle.command_inputs.proofs.tc_compile.OnePrograms.{one_code, one_refusal, refused_no_code}
 use Rattle.command_inputs.specs.declared.refusal.LogRefusal.TheVariants.{Form, OtherProgram, Unfit}
 use Rattle.command_inputs.specs.declared.refusal.Refusal.{Refusal}
 use Rattle.command_inputs.specs.declared.refusal.Refusal.TheVariants as refusal

@@ -2,7 +2,7 @@
 use Rattle.std.specs.Prelude.{ℕ, List, ◌++◌, length, codes}
 use Rattle.std.specs.Fmt.{decimal}
 use Rattle.refute_check.specs.declared.line.Line.{Line}
-use Rattle.tc_base.specs.declared.moves.Move.{Move}
+use Rattle.run_log.specs.tc_base.declared.moves.Move.{Move}
 
 abbrev pub moves_line : List Move → List ℕ
 moves_line moves = codes "schedule " ++ (decimal (length moves) ++ codes " moves\n")

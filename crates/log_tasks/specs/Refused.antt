@@ -3,11 +3,11 @@ use Rattle.std.specs.Prelude.{◌≡◌, ℕ, ◌<◌, List, [], ◌∷◌}
 use Rattle.clap_system.specs.Faults.{IsOver, IsShallow, limit_of}
 use Rattle.clap_system.specs.declared.fault.Which.{Which}
 use Rattle.clap_system.specs.declared.fault.Which.TheVariants as which
-use Rattle.path_log.specs.Texts.{IsOfOther}
-use Rattle.path_walk.specs.Fits.{IsFirst}
+use Rattle.command_inputs.specs.path_log.Texts.{IsOfOther}
+use Rattle.clap_system.specs.path_walk.Fits.{IsFirst}
 use Rattle.run_log.specs.Logs.{Log as RunLog}
 use Rattle.tc_code.specs.Code.{Code}
-use Rattle.command_frame.specs.Inputs.{Wanted, Whole}
+use Rattle.command_inputs.specs.command_frame.Inputs.{Wanted, Whole}
 use Rattle.command_inputs.specs.Forms.{IsUnread}
 use Rattle.command_inputs.specs.Limits.{log_limit, program_limit}
 use Rattle.command_inputs.specs.declared.limits.LogPart.{LogPart}

@@ -2,15 +2,15 @@
 use Rattle.std.specs.Prelude.{ℕ, List, Option, unwrap_or}
 use Rattle.clap_solve.specs.Clauses.{model_clauses}
 use Rattle.clap_solve.specs.Solved.{IsWithin}
-use Rattle.cnf_core.specs.Clauses.{Formula}
-use Rattle.memory_models.specs.declared.model.Model.{Model}
-use Rattle.path_log.specs.Texts.{IsLog, IsOfOther}
+use Rattle.refute_check.specs.cnf_core.Clauses.{Formula}
+use Rattle.run_log.specs.memory_models.declared.model.Model.{Model}
+use Rattle.command_inputs.specs.path_log.Texts.{IsLog, IsOfOther}
 use Rattle.run_log.specs.Logs.{StoredLog}
-use Rattle.store_buffers.specs.Buffers.{buffer_of}
-use Rattle.tc_base.specs.declared.moves.Move.{Move}
+use Rattle.clap_system.specs.store_buffers.Buffers.{buffer_of}
+use Rattle.run_log.specs.tc_base.declared.moves.Move.{Move}
 use Rattle.tc_code.specs.Code.{Code}
 use Rattle.tc_code.specs.Run.{Reproduces as ReproducesIn}
-use Rattle.tc_compile.specs.Programs.{IsCodeOf}
+use Rattle.command_inputs.specs.tc_compile.Programs.{IsCodeOf}
 
 -- the bytes of two files are a program, which has this code, and a log
 pub record Pair (program log : List ℕ) : Type 0 where

@@ -2,7 +2,7 @@
 use Rattle.std.specs.Prelude.{◌≡◌, ℕ, List, None}
 use Rattle.clap_solve.specs.declared.answer.Answer.{Answer}
 use Rattle.clap_solve.specs.declared.answer.Answer.TheVariants.{Found, Impossible, Spent}
-use Rattle.memory_models.specs.declared.model.Model.{Model}
+use Rattle.run_log.specs.memory_models.declared.model.Model.{Model}
 use Rattle.refute_check.specs.Laws.{IsWhole}
 use Rattle.refute_check.specs.Texts.{refutation_text}
 use Rattle.refute_check.specs.declared.head.Head.{Head}

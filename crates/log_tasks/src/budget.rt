@@ -1,6 +1,6 @@
 //! The budget of a search.
 ghost use Rattle.std.specs.Prelude.{◌≤◌};
-ghost use Rattle.tc_limits.specs.declared.limits.TheConstants.{BUDGET};
+ghost use Rattle.schedule_file.specs.tc_limits.declared.limits.TheConstants.{BUDGET};
 
 /// The default number of conflicts of a search.
 pub const USUAL_BUDGET: u32 = 1_000_000;

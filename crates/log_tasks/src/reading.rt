@@ -1,8 +1,8 @@
 //! Reading a program and a log of it.
 ghost use Rattle.std.specs.Prelude.{◌≤◌, length, IfErr, IfOk};
-ghost use Rattle.tc_limits.specs.declared.limits.TheConstants.{PROGRAM_BYTES};
-ghost use Rattle.path_log.specs.Texts.{IsLog, IsOfOther};
-ghost use Rattle.tc_compile.specs.Programs.{IsCodeOf};
+ghost use Rattle.schedule_file.specs.tc_limits.declared.limits.TheConstants.{PROGRAM_BYTES};
+ghost use Rattle.command_inputs.specs.path_log.Texts.{IsLog, IsOfOther};
+ghost use Rattle.command_inputs.specs.tc_compile.Programs.{IsCodeOf};
 ghost use Rattle.command_inputs.specs.Forms.{IsWhy};
 ghost use Rattle.log_tasks.specs.Refused.{IsUnsearched};
 

@@ -1,18 +1,18 @@
 -- From a run of `migrate` over known files to its answers.
 use Rattle.std.proofs.Common.{◌≡◌, ◌∙◌, inl, inr, ap, ap₂, refl, sym, subst, ℕ, List, Some, None, IfSome}
 use Rattle.std.proofs.lemmas.Option.{same_Some}
-use Rattle.path_log.proofs.Logs.{log_or_fault, one_fault, one_log}
-use Rattle.path_log.specs.Texts.{IsLog, IsOfOther}
+use Rattle.kept_logs.proofs.path_log.Logs.{log_or_fault, one_fault, one_log}
+use Rattle.kept_logs.specs.path_log.Texts.{IsLog, IsOfOther}
 use Rattle.path_walk.proofs.Faults.{one_first}
 use Rattle.path_walk.specs.Fits.{Fits, IsFirst}
 use Rattle.path_walk.specs.declared.fault.Misfit.{Misfit}
 use Rattle.run_log.specs.Logs.{StoredLog}
-use Rattle.tc_base.specs.Names.{Name}
-use Rattle.tc_code.specs.Code.{Code}
-use Rattle.tc_compile.specs.Programs.{IsCodeOf}
-use Rattle.tc_compile.proofs.OnePrograms.{one_code, one_refusal, refused_no_code}
+use Rattle.run_log.specs.tc_base.Names.{Name}
+use Rattle.path_walk.specs.tc_code.Code.{Code}
+use Rattle.command_inputs.specs.tc_compile.Programs.{IsCodeOf}
+use Rattle.command_inputs.proofs.tc_compile.OnePrograms.{one_code, one_refusal, refused_no_code}
 use Rattle.tc_io.specs.Outside.{Files, ShelfTells, SinkTells, bytes_at}
-use Rattle.tc_parser.specs.declared.fault.TextFault.{TextFault}
+use Rattle.command_inputs.specs.tc_parser.declared.fault.TextFault.{TextFault}
 use Rattle.command_ends.specs.Ends.{AreShort}
 use Rattle.command_ends.proofs.Ended.{declines, reported, reported_or_declined, result_at}
 use Rattle.command_frame.specs.ByStatus.{IsStatus}

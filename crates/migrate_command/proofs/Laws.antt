@@ -5,10 +5,10 @@ use Rattle.std.specs.List.{list_all}
 use Rattle.sha2.specs.Sha256.{sha256}
 use Rattle.kept_logs.specs.Digests.{with_digest}
 use Rattle.kept_logs.proofs.Digests.{sha256_is}
-use Rattle.path_log.specs.Texts.{IsLog, log_text}
-use Rattle.path_log.proofs.Logs.{one_log}
+use Rattle.kept_logs.specs.path_log.Texts.{IsLog, log_text}
+use Rattle.kept_logs.proofs.path_log.Logs.{one_log}
 use Rattle.run_log.specs.Logs.{Log, StoredLog}
-use Rattle.tc_base.specs.Paths.{ThreadPath}
+use Rattle.run_log.specs.tc_base.Paths.{ThreadPath}
 use Rattle.tc_record.specs.Logged.{is_small, most_log_bytes}
 use Rattle.tc_record.proofs.Sizes.{recorded_size}
 use Rattle.command_inputs.specs.declared.limits.LogPart.TheVariants.{Threads, Depth}

@@ -1,12 +1,12 @@
 -- From a test that fails to why a log isn't migrated.
 use Rattle.std.proofs.Common.{◌≡◌, ℕ, List, None}
-use Rattle.path_log.specs.Texts.{IsLog, IsOfOther}
+use Rattle.kept_logs.specs.path_log.Texts.{IsLog, IsOfOther}
 use Rattle.path_walk.specs.Fits.{IsFault}
 use Rattle.path_walk.specs.declared.fault.WalkFault.{WalkFault}
 use Rattle.path_walk.specs.declared.fault.WalkFault.TheVariants as walk
 use Rattle.run_log.specs.Logs.{StoredLog}
-use Rattle.tc_code.specs.Code.{Code}
-use Rattle.tc_compile.specs.Programs.{IsCodeOf}
+use Rattle.path_walk.specs.tc_code.Code.{Code}
+use Rattle.command_inputs.specs.tc_compile.Programs.{IsCodeOf}
 use Rattle.command_inputs.specs.Forms.{IsOther, IsUnread, IsWhy}
 use Rattle.command_inputs.specs.helpers.Faults.{walk_fault}
 use Rattle.command_inputs.specs.declared.refusal.Fault.{Fault}

@@ -2,12 +2,12 @@
 use Rattle.std.specs.Prelude.{◌≡◌, ℕ, List, length, map, nat_lt, Option, Some, None, option_map, if◌then◌else◌}
 use Rattle.std.specs.List.{find}
 use Rattle.kept_logs.specs.Digests.{with_digest}
-use Rattle.path_log.specs.Texts.{IsLog, IsOfOther, log_text}
+use Rattle.kept_logs.specs.path_log.Texts.{IsLog, IsOfOther, log_text}
 use Rattle.path_walk.specs.Fits.{Fits, IsFirst}
 use Rattle.run_log.specs.Logs.{Log as RunLog, StoredLog}
-use Rattle.tc_base.specs.Paths.{ThreadPath}
-use Rattle.tc_code.specs.Code.{Code}
-use Rattle.tc_compile.specs.Programs.{IsCodeOf}
+use Rattle.run_log.specs.tc_base.Paths.{ThreadPath}
+use Rattle.path_walk.specs.tc_code.Code.{Code}
+use Rattle.command_inputs.specs.tc_compile.Programs.{IsCodeOf}
 use Rattle.command_inputs.specs.Forms.{IsUnread}
 use Rattle.command_inputs.specs.Limits.{limit_of}
 use Rattle.command_inputs.specs.declared.limits.LogPart.{LogPart}

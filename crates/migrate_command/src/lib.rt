@@ -4,7 +4,7 @@
 ghost use Rattle.std.specs.Prelude.{◌≡◌, ◌≤◌, ℕ, List, Some, IfSome, length};
 ghost use Rattle.sha2.specs.Sha256.{sha256};
 ghost use Rattle.run_log.specs.Logs.{StoredLog};
-ghost use Rattle.path_log.specs.Texts.{IsLog};
+ghost use Rattle.kept_logs.specs.path_log.Texts.{IsLog};
 ghost use Rattle.tc_record.specs.Logged.{most_log_bytes};
 ghost use Rattle.kept_logs.specs.Digests.{with_digest};
 ghost use Rattle.command_frame.specs.Run.{Runs};

@@ -5,7 +5,7 @@ use Rattle.tc_code.specs.Code.{Code}
 use Rattle.tc_compile.specs.Programs.{IsCodeOf}
 use Rattle.tc_compile.proofs.OnePrograms.{one_code, one_refusal, refused_no_code}
 use Rattle.tc_io.specs.Outside.{Files, ShelfTells, SinkTells, bytes_at}
-use Rattle.tc_limits.specs.declared.limits.TheConstants.{PROGRAM_BYTES}
+use Rattle.tc_code.specs.tc_limits.declared.limits.TheConstants.{PROGRAM_BYTES}
 use Rattle.tc_record.specs.Seeded.{Ended}
 use Rattle.tc_record.specs.declared.end.Which.{Which}
 use Rattle.command_ends.specs.Ends.{Declines, HasDeclined}

@@ -4,7 +4,7 @@ use Rattle.sha2.specs.Sha256.{sha256}
 use Rattle.kept_logs.proofs.Digests.{sha256_is}
 use Rattle.memory_models.specs.declared.model.Model.{Model}
 use Rattle.memory_models.specs.declared.model.Model.TheVariants.{Sc, Tso, Pso}
-use Rattle.run_log.specs.Logs.{Log, StoredLog}
+use Rattle.kept_logs.specs.run_log.Logs.{Log, StoredLog}
 use Rattle.run_models.specs.Models.{moves_as}
 use Rattle.run_models.proofs.Simulation.{reproduces_under_more}
 use Rattle.store_buffers.specs.Buffers.{buffer_of, no_buffer, fifo_buffer, cell_buffer}
@@ -18,9 +18,9 @@ use Rattle.tc_code.specs.Code.{Code}
 use Rattle.tc_code.specs.Lawful.{IsLawful}
 use Rattle.tc_code.specs.Run.{Reproduces}
 use Rattle.tc_compile.specs.Programs.{IsCodeOf, language}
-use Rattle.tc_lower.proofs.Ints.{program_ints}
-use Rattle.tc_lower.proofs.Programs.{program_is_lawful}
-use Rattle.tc_parser.proofs.Words.{has_ints}
+use Rattle.tc_compile.proofs.tc_lower.Ints.{program_ints}
+use Rattle.tc_compile.proofs.tc_lower.Programs.{program_is_lawful}
+use Rattle.tc_compile.proofs.tc_parser.Words.{has_ints}
 use Rattle.tc_record.proofs.Ended.{log_has_text, log_is_short, run_is_told, run_reproduces}
 use Rattle.tc_record.specs.Seeded.{Ended, HasLog}
 use Rattle.record_command.specs.Logs.{IsRecorded, IsReproduced, allows}

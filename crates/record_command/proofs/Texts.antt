@@ -2,8 +2,8 @@
 use Rattle.std.proofs.Common.{◌≡◌, refl, ℕ, List}
 use Rattle.kept_logs.specs.Digests.{with_digest}
 use Rattle.memory_models.specs.declared.model.Model.{Model}
-use Rattle.path_log.specs.Texts.{log_text}
-use Rattle.run_log.specs.Logs.{StoredLog}
+use Rattle.kept_logs.specs.path_log.Texts.{log_text}
+use Rattle.kept_logs.specs.run_log.Logs.{StoredLog}
 use Rattle.tc_record.specs.Logged.{IsLogOf}
 use Rattle.tc_record.specs.Seeded.{Ended}
 use Rattle.record_command.specs.Logs.{IsLogText}

@@ -1,3 +1,4 @@
+pub use Rattle.tc_base.specs as tc_base
 pub mod Runs
 pub mod Logs
 pub mod Lines

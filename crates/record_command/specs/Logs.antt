@@ -3,8 +3,8 @@ use Rattle.std.specs.Prelude.{◌≡◌, ℕ, ◌≤◌, Bool, true, false, List
 use Rattle.kept_logs.specs.Digests.{with_digest}
 use Rattle.memory_models.specs.declared.model.Model.{Model}
 use Rattle.memory_models.specs.declared.model.Model.TheVariants.{Sc, Tso, Pso}
-use Rattle.path_log.specs.Texts.{IsLog, log_text}
-use Rattle.run_log.specs.Logs.{Log}
+use Rattle.kept_logs.specs.path_log.Texts.{IsLog, log_text}
+use Rattle.kept_logs.specs.run_log.Logs.{Log}
 use Rattle.store_buffers.specs.Buffers.{buffer_of}
 use Rattle.tc_code.specs.Code.{Code}
 use Rattle.tc_code.specs.Run.{Reproduces}

@@ -1,6 +1,6 @@
 //! The run, under the memory model that is asked for.
 ghost use Rattle.std.specs.Prelude.{◌≤◌, length, IfErr, IfOk};
-ghost use Rattle.tc_limits.specs.declared.limits.TheConstants.{PROGRAM_BYTES};
+ghost use Rattle.tc_code.specs.tc_limits.declared.limits.TheConstants.{PROGRAM_BYTES};
 ghost use Rattle.tc_record.specs.Seeded.{seeded_run};
 ghost use Rattle.command_inputs.specs.Forms.{IsWhy};
 ghost use Rattle.record_command.specs.Meanings.{IsRanAs, IsRanOf, IsUnread};

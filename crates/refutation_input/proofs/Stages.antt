@@ -5,8 +5,8 @@ use Rattle.std.proofs.lemmas.List.{take_all}
 use Rattle.std.proofs.lemmas.Bool.{false≢true}
 use Rattle.std.specs.Prelude.{fold, is_some, nat_eq, not, ◌||◌, if◌then◌else◌}
 use Rattle.std.specs.Option.{option_map_or}
-use Rattle.list_laws.specs.Lists.{is_nil}
-use Rattle.path_log.specs.Texts.{IsLog, IsOfOther}
+use Rattle.refute_check.specs.list_laws.Lists.{is_nil}
+use Rattle.command_inputs.specs.path_log.Texts.{IsLog, IsOfOther}
 use Rattle.refute_check.specs.Broken.{BreaksAt}
 use Rattle.refute_check.specs.Laws.{IsWhole, whole_lines}
 use Rattle.refute_check.specs.Reading.{Reading, Reads, beginning, bodies, fault_of, first_breach, lines_of}
@@ -25,7 +25,7 @@ use Rattle.refute_check.proofs.ReadTexts.{read-is-text}
 use Rattle.refute_check.proofs.Wholes.{whole-one}
 use Rattle.run_log.specs.Logs.{StoredLog}
 use Rattle.tc_code.specs.Code.{Code}
-use Rattle.tc_compile.specs.Programs.{IsCodeOf}
+use Rattle.command_inputs.specs.tc_compile.Programs.{IsCodeOf}
 use Rattle.command_inputs.specs.declared.refusal.Fault.TheVariants as fault
 use Rattle.command_inputs.specs.declared.refusal.Refusal.{Refusal}
 use Rattle.command_inputs.specs.declared.refusal.Refusal.TheVariants as refusal

@@ -1,8 +1,8 @@
 //! A refutation while it is read: only the unfinished line and the clauses still in use are kept.
 ghost use Rattle.std.specs.Prelude.{◌≡◌, ◌<◌, ◌≤◌, ◌++◌, ℕ, List, [], length, take, IfOk, OnOk};
-ghost use Rattle.path_log.specs.Texts.{IsLog, IsOfOther};
+ghost use Rattle.command_inputs.specs.path_log.Texts.{IsLog, IsOfOther};
 ghost use Rattle.refute_check.specs.Refutations.{verdict};
-ghost use Rattle.tc_compile.specs.Programs.{IsCodeOf};
+ghost use Rattle.command_inputs.specs.tc_compile.Programs.{IsCodeOf};
 ghost use Rattle.refutation_input.specs.Checked.{IsChecked};
 ghost use Rattle.refutation_verdicts.specs.Verdicts.{IsVerdict};
 ghost use Rattle.refutation_input.specs.helpers.Incoming.{HasRoom, IsBegun, IsEndOf, IsFirst, IsRead, begins, stage_after};

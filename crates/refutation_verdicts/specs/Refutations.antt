@@ -1,16 +1,16 @@
 -- Refutations of a log, and the clauses that they are about.
 use Rattle.std.specs.Prelude.{ℕ, ◌<◌, List, Option, Some, None}
-use Rattle.clap_solve.specs.Clauses.{bound_of, model_clauses}
-use Rattle.cnf_core.specs.Clauses.{Formula}
-use Rattle.memory_models.specs.declared.model.Model.{Model}
+use Rattle.switch_clauses.specs.clap_solve.Clauses.{bound_of, model_clauses}
+use Rattle.refute_check.specs.cnf_core.Clauses.{Formula}
+use Rattle.refute_check.specs.memory_models.declared.model.Model.{Model}
 use Rattle.refute_check.specs.declared.head.Head.{Head}
 use Rattle.refute_check.specs.declared.line.Line.{Line}
-use Rattle.run_log.specs.Logs.{Log}
-use Rattle.store_buffers.specs.Buffers.{buffer_of}
+use Rattle.log_tasks.specs.run_log.Logs.{Log}
+use Rattle.switch_clauses.specs.store_buffers.Buffers.{buffer_of}
 use Rattle.switch_clauses.specs.Clauses.{switch_clauses}
-use Rattle.switch_runs.specs.Switches.{switches}
-use Rattle.tc_base.specs.declared.moves.Move.{Move}
-use Rattle.tc_code.specs.Code.{Code}
+use Rattle.switch_clauses.specs.switch_runs.Switches.{switches}
+use Rattle.command_ends.specs.tc_base.declared.moves.Move.{Move}
+use Rattle.log_tasks.specs.tc_code.Code.{Code}
 use Rattle.log_tasks.specs.Tasks.{Task}
 use Rattle.log_tasks.specs.Texts.{IsRefutation}
 

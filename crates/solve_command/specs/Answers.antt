@@ -1,10 +1,10 @@
 -- The headline: what `solve` answers to files that are known.
 use Rattle.std.specs.Prelude.{◌≡◌, ◌⊎◌, ℕ, List}
-use Rattle.cdcl_core.specs.Solving.{Solves}
-use Rattle.cdcl_core.specs.declared.progress.Solved.TheVariants.{Spent}
+use Rattle.clap_solve.specs.cdcl_core.Solving.{Solves}
+use Rattle.clap_solve.specs.cdcl_core.declared.progress.Solved.TheVariants.{Spent}
 use Rattle.refute_check.specs.Refutations.{IsClosed}
 use Rattle.refute_check.specs.declared.line.Line.{Line}
-use Rattle.tc_base.specs.declared.moves.Move.{Move}
+use Rattle.run_log.specs.tc_base.declared.moves.Move.{Move}
 use Rattle.tc_io.specs.Outside.{Files}
 use Rattle.command_frame.specs.ByStatus.{IsStatus}
 use Rattle.command_frame.specs.End.{End, Leaves}

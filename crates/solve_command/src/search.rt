@@ -1,6 +1,6 @@
 //! The search, under the memory model that is meant.
 ghost use Rattle.std.specs.Prelude.{◌≤◌, length, IfErr, IfOk, OnOk};
-ghost use Rattle.tc_limits.specs.declared.limits.TheConstants.{PROGRAM_BYTES};
+ghost use Rattle.schedule_file.specs.tc_limits.declared.limits.TheConstants.{PROGRAM_BYTES};
 ghost use Rattle.clap_solve.specs.Clauses.{bound_of};
 ghost use Rattle.clap_solve.specs.Solved.{IsSolved, IsWithin};
 ghost use Rattle.clap_system.specs.Faults.{IsBuildFault};

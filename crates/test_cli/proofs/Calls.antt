@@ -2,28 +2,28 @@
 use Rattle.std.proofs.Common.{◌≡◌, ◌≤◌, arith, inl, inr, ℕ, Option, Some, None}
 use Rattle.std.specs.Option.{IsSomeAnd}
 use Rattle.tc_io.specs.Outside.{ShelfTells, SinkTells}
-use Rattle.command_frame.specs.Answers.{SaysLine}
-use Rattle.command_frame.specs.Inputs.{no_limit}
-use Rattle.command_frame.specs.Meaning.{Meaning}
-use Rattle.command_frame.specs.Run.{Runs}
-use Rattle.command_frame.specs.declared.status.Status.TheVariants.{Done, Usage}
-use Rattle.check_command.specs.Meanings.{check_of}
-use Rattle.refutation_verdicts.specs.Verdicts.{verdict_status}
-use Rattle.cnf_command.specs.Meanings.{cnf_of}
-use Rattle.import_command.specs.Lines.{imported_status}
-use Rattle.import_command.specs.Meanings.{import_of}
-use Rattle.least_command.specs.Meanings.{least_of, least_status}
-use Rattle.list_command.specs.Listing.{list_of}
-use Rattle.migrate_command.specs.Meanings.{migrate_of}
-use Rattle.record_command.specs.Lines.{ran_status}
-use Rattle.record_command.specs.Meanings.{record_of}
-use Rattle.replay_command.specs.Lines.{verdict_status as replayed_status}
-use Rattle.replay_command.specs.Meanings.{replay_of}
-use Rattle.solve_command.specs.Meanings.{answer_status, solve_of}
-use Rattle.why_command.specs.Meanings.{why_of}
-use Rattle.workload_command.specs.Lines.{has_spent, work_status}
-use Rattle.workload_command.specs.Meanings.{workload_of}
-use Rattle.clap_debug_words.specs.Calls.{Called, Lists, Replays, Records, Migrates, Solves, Minimizes, Checks, Workloads, Exports, Imports, Explains}
+use Rattle.clap_debug_cli.specs.command_frame.Answers.{SaysLine}
+use Rattle.clap_debug_cli.specs.command_frame.Inputs.{no_limit}
+use Rattle.clap_debug_cli.specs.command_frame.Meaning.{Meaning}
+use Rattle.clap_debug_cli.specs.command_frame.Run.{Runs}
+use Rattle.clap_debug_cli.specs.command_frame.declared.status.Status.TheVariants.{Done, Usage}
+use Rattle.clap_debug_cli.specs.check_command.Meanings.{check_of}
+use Rattle.clap_debug_cli.specs.refutation_verdicts.Verdicts.{verdict_status}
+use Rattle.clap_debug_cli.specs.cnf_command.Meanings.{cnf_of}
+use Rattle.clap_debug_cli.specs.import_command.Lines.{imported_status}
+use Rattle.clap_debug_cli.specs.import_command.Meanings.{import_of}
+use Rattle.clap_debug_cli.specs.least_command.Meanings.{least_of, least_status}
+use Rattle.clap_debug_cli.specs.list_command.Listing.{list_of}
+use Rattle.clap_debug_cli.specs.migrate_command.Meanings.{migrate_of}
+use Rattle.clap_debug_cli.specs.record_command.Lines.{ran_status}
+use Rattle.clap_debug_cli.specs.record_command.Meanings.{record_of}
+use Rattle.clap_debug_cli.specs.replay_command.Lines.{verdict_status as replayed_status}
+use Rattle.clap_debug_cli.specs.replay_command.Meanings.{replay_of}
+use Rattle.clap_debug_cli.specs.solve_command.Meanings.{answer_status, solve_of}
+use Rattle.clap_debug_cli.specs.why_command.Meanings.{why_of}
+use Rattle.clap_debug_cli.specs.workload_command.Lines.{has_spent, work_status}
+use Rattle.clap_debug_cli.specs.workload_command.Meanings.{workload_of}
+use Rattle.clap_debug_cli.specs.clap_debug_words.Calls.{Called, Lists, Replays, Records, Migrates, Solves, Minimizes, Checks, Workloads, Exports, Imports, Explains}
 use Rattle.clap_debug_cli.specs.Call.{Does, RunsCall, usage_text}
 use Rattle.test_cli.specs.Reads.{ReadsEntire}
 use Rattle.test_cli.proofs.Surely.{HasEntire, IsSound, never_eight, never_fails_to_put, seven_is_entire}

@@ -1,31 +1,31 @@
 -- No outcome has the status of a fault.
 use Rattle.std.proofs.Common.{Result, Ok, Err, Bool, true, false}
 use Rattle.std.specs.Prelude.{if◌then◌else◌}
-use Rattle.clap_solve.specs.declared.answer.Answer.{Answer}
-use Rattle.clap_solve.specs.declared.answer.Answer.TheVariants as answer
-use Rattle.least_switch.specs.declared.answer.Least.{Least}
-use Rattle.least_switch.specs.declared.answer.Least.TheVariants as least
-use Rattle.schedule_replay.specs.declared.verdict.Verdict.{Verdict as Replayed}
-use Rattle.schedule_replay.specs.declared.verdict.Verdict.TheVariants as replayed
-use Rattle.command_frame.specs.declared.status.Status.{Status}
-use Rattle.command_frame.specs.declared.status.Status.TheVariants.{Done, Open}
-use Rattle.command_inputs.specs.Outcomes.{outcome_status}
-use Rattle.command_inputs.specs.declared.refusal.Refusal.{Refusal}
-use Rattle.command_inputs.specs.declared.refusal.Refusal.TheVariants as refusal
-use Rattle.refutation_verdicts.specs.Verdicts.{verdict_status}
-use Rattle.refutation_verdicts.specs.declared.verdict.Verdict.{Verdict}
-use Rattle.refutation_verdicts.specs.declared.verdict.Verdict.TheVariants as verdict
-use Rattle.import_command.specs.Lines.{imported_status}
-use Rattle.import_command.specs.declared.imported.Imported.{Imported}
-use Rattle.import_command.specs.declared.imported.Imported.TheVariants as imported
-use Rattle.least_command.specs.Meanings.{least_status}
-use Rattle.record_command.specs.Lines.{ending_status, ran_status}
-use Rattle.record_command.specs.declared.ending.Ending.{Ending}
-use Rattle.record_command.specs.declared.ending.Ending.TheVariants as ending
-use Rattle.record_command.specs.declared.ending.Ran.{Ran}
-use Rattle.record_command.specs.declared.ending.Ran.TheVariants as ran
-use Rattle.replay_command.specs.Lines.{verdict_status as replayed_status}
-use Rattle.solve_command.specs.Meanings.{answer_status}
+use Rattle.clap_debug_cli.specs.clap_solve.declared.answer.Answer.{Answer}
+use Rattle.clap_debug_cli.specs.clap_solve.declared.answer.Answer.TheVariants as answer
+use Rattle.clap_debug_cli.specs.least_switch.declared.answer.Least.{Least}
+use Rattle.clap_debug_cli.specs.least_switch.declared.answer.Least.TheVariants as least
+use Rattle.clap_debug_cli.specs.schedule_replay.declared.verdict.Verdict.{Verdict as Replayed}
+use Rattle.clap_debug_cli.specs.schedule_replay.declared.verdict.Verdict.TheVariants as replayed
+use Rattle.clap_debug_cli.specs.command_frame.declared.status.Status.{Status}
+use Rattle.clap_debug_cli.specs.command_frame.declared.status.Status.TheVariants.{Done, Open}
+use Rattle.clap_debug_cli.specs.command_inputs.Outcomes.{outcome_status}
+use Rattle.clap_debug_cli.specs.command_inputs.declared.refusal.Refusal.{Refusal}
+use Rattle.clap_debug_cli.specs.command_inputs.declared.refusal.Refusal.TheVariants as refusal
+use Rattle.clap_debug_cli.specs.refutation_verdicts.Verdicts.{verdict_status}
+use Rattle.clap_debug_cli.specs.refutation_verdicts.declared.verdict.Verdict.{Verdict}
+use Rattle.clap_debug_cli.specs.refutation_verdicts.declared.verdict.Verdict.TheVariants as verdict
+use Rattle.clap_debug_cli.specs.import_command.Lines.{imported_status}
+use Rattle.clap_debug_cli.specs.import_command.declared.imported.Imported.{Imported}
+use Rattle.clap_debug_cli.specs.import_command.declared.imported.Imported.TheVariants as imported
+use Rattle.clap_debug_cli.specs.least_command.Meanings.{least_status}
+use Rattle.clap_debug_cli.specs.record_command.Lines.{ending_status, ran_status}
+use Rattle.clap_debug_cli.specs.record_command.declared.ending.Ending.{Ending}
+use Rattle.clap_debug_cli.specs.record_command.declared.ending.Ending.TheVariants as ending
+use Rattle.clap_debug_cli.specs.record_command.declared.ending.Ran.{Ran}
+use Rattle.clap_debug_cli.specs.record_command.declared.ending.Ran.TheVariants as ran
+use Rattle.clap_debug_cli.specs.replay_command.Lines.{verdict_status as replayed_status}
+use Rattle.clap_debug_cli.specs.solve_command.Meanings.{answer_status}
 use Rattle.test_cli.proofs.Surely.{IsSound}
 
 pub sound_outcome : {R : Type 0} (status_of : R → Status) → ((x : R) → IsSound (status_of x)) → (x : Result R Refusal) → IsSound (outcome_status status_of x)

@@ -1,14 +1,14 @@
 -- A run over a shelf and a sink whose counts of faults stay 0.
 use Rattle.std.proofs.Common.{◌≡◌, ◌≤◌, ◌+◌, ◌∙◌, ap, arith, inl, inr, sym, ℕ, List, [], ◌∷◌}
 use Rattle.tc_io.specs.Outside.{ShelfTells, SinkTells, WrotePart, capped_sum}
-use Rattle.command_frame.specs.Answers.{Answer, Gives, ReadFault, TooLong, WriteFault, NoMemory, Puts, Says, SaysNoMemory, number_of}
-use Rattle.command_frame.specs.Causes.{IsCause, LosesOne}
-use Rattle.command_frame.specs.Inputs.{FailedInput, FailsToRead, Wanted, Whole, Entire, InPieces, no_limit}
-use Rattle.command_frame.specs.Keeps.{FailsToKeep, Keep}
-use Rattle.command_frame.specs.Meaning.{Meaning}
-use Rattle.command_frame.specs.Run.{Runs}
-use Rattle.command_frame.specs.declared.status.Status.{Status}
-use Rattle.command_frame.specs.declared.status.Status.TheVariants as status
+use Rattle.clap_debug_cli.specs.command_frame.Answers.{Answer, Gives, ReadFault, TooLong, WriteFault, NoMemory, Puts, Says, SaysNoMemory, number_of}
+use Rattle.clap_debug_cli.specs.command_frame.Causes.{IsCause, LosesOne}
+use Rattle.clap_debug_cli.specs.command_frame.Inputs.{FailedInput, FailsToRead, Wanted, Whole, Entire, InPieces, no_limit}
+use Rattle.clap_debug_cli.specs.command_frame.Keeps.{FailsToKeep, Keep}
+use Rattle.clap_debug_cli.specs.command_frame.Meaning.{Meaning}
+use Rattle.clap_debug_cli.specs.command_frame.Run.{Runs}
+use Rattle.clap_debug_cli.specs.command_frame.declared.status.Status.{Status}
+use Rattle.clap_debug_cli.specs.command_frame.declared.status.Status.TheVariants as status
 
 -- some input of any length is read at once
 abbrev pub HasEntire : List Wanted → Type 0

@@ -4,8 +4,8 @@
 
 ghost use Rattle.std.specs.Prelude.{◌≡◌, ◌≢◌, ◌≤◌, map, string_bytes, Some, IsSomeAnd};
 ghost use Rattle.test_shelves.specs.Mem.{sure_shelf_tells, sure_sink_tells};
-ghost use Rattle.command_frame.specs.Inputs.{no_limit};
-ghost use Rattle.clap_debug_words.specs.Calls.{call_of};
+ghost use Rattle.clap_debug_cli.specs.command_frame.Inputs.{no_limit};
+ghost use Rattle.clap_debug_cli.specs.clap_debug_words.Calls.{call_of};
 ghost use Rattle.clap_debug_cli.specs.Call.{Answers, Does, IfTold};
 ghost use Rattle.test_cli.specs.Reads.{ReadsEntire};
 

@@ -1,7 +1,7 @@
 -- From a run of `why` over known files to its answers by status.
 use Rattle.std.proofs.Common.{◌≡◌, ◌∙◌, ◌⊎◌, inl, inr, ap, ℕ, List, Some}
 use Rattle.refute_check.specs.Refutations.{IsOpen, check}
-use Rattle.tc_base.specs.declared.moves.Move.{Move}
+use Rattle.run_log.specs.tc_base.declared.moves.Move.{Move}
 use Rattle.tc_io.specs.Outside.{Files, ShelfTells, SinkTells, bytes_at}
 use Rattle.why_impossible.specs.Reasons.{reasons_text}
 use Rattle.why_impossible.specs.declared.reason.Reason.{Reason}
@@ -11,8 +11,8 @@ use Rattle.command_frame.specs.End.{End, LeavesNothing}
 use Rattle.command_frame.specs.Run.{Runs}
 use Rattle.command_frame.specs.declared.status.Status.{Status}
 use Rattle.command_frame.specs.declared.status.Status.TheVariants as status
-use Rattle.command_ends.proofs.Ended.{IsOfResults, Reports, declines, reported, reported_or_declined, result_at}
-use Rattle.command_ends.specs.Ends.{AreShort, HasDeclined}
+use Rattle.refutation_verdicts.proofs.command_ends.Ended.{IsOfResults, Reports, declines, reported, reported_or_declined, result_at}
+use Rattle.refutation_verdicts.specs.command_ends.Ends.{AreShort, HasDeclined}
 use Rattle.log_tasks.specs.Tasks.{Reproduces}
 use Rattle.refutation_verdicts.proofs.Judged.{judged_or_refused, one_unjudged, same_found}
 use Rattle.refutation_verdicts.proofs.Verdicts.{any_status, status_found}

@@ -3,7 +3,7 @@ use Rattle.std.proofs.Common.{refl, List, ℕ, Result, Ok, Err, IfOk, IfErr}
 use Rattle.clap_solve.specs.Clauses.{bound_of, model_clauses}
 use Rattle.clap_solve.specs.Solved.{IsWithin}
 use Rattle.memory_models.specs.declared.model.Model.{Model}
-use Rattle.path_log.specs.Texts.{IsOfOther}
+use Rattle.command_inputs.specs.path_log.Texts.{IsOfOther}
 use Rattle.refute_check.specs.Refutations.{IsOpen, check}
 use Rattle.refute_check.specs.declared.line.Line.{Line}
 use Rattle.store_buffers.specs.Buffers.{buffer_of}

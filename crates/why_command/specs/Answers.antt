@@ -1,7 +1,7 @@
 -- The headline: what `why` answers to files that are known.
 use Rattle.std.specs.Prelude.{◌≡◌, ◌⊎◌, ℕ, List, Some}
 use Rattle.refute_check.specs.Refutations.{IsOpen, check}
-use Rattle.tc_base.specs.declared.moves.Move.{Move}
+use Rattle.run_log.specs.tc_base.declared.moves.Move.{Move}
 use Rattle.tc_io.specs.Outside.{Files, bytes_at}
 use Rattle.why_impossible.specs.Reasons.{reasons_text}
 use Rattle.why_impossible.specs.declared.reason.Reason.{Reason}
@@ -9,7 +9,7 @@ use Rattle.command_frame.specs.Answers.{number_of}
 use Rattle.command_frame.specs.ByStatus.{IsStatus}
 use Rattle.command_frame.specs.End.{End, LeavesNothing}
 use Rattle.command_inputs.specs.declared.refusal.Refusal.{Refusal}
-use Rattle.command_ends.specs.Ends.{AreShort, Declines, HasDeclined}
+use Rattle.refutation_verdicts.specs.command_ends.Ends.{AreShort, Declines, HasDeclined}
 use Rattle.log_tasks.specs.Tasks.{Reproduces, Task}
 use Rattle.refutation_verdicts.specs.Causes.{IsUnjudged}
 use Rattle.refutation_verdicts.specs.Refutations.{Names, clauses_under}

@@ -6,7 +6,7 @@ use Rattle.command_frame.specs.Inputs.{Entire, Wanted, Whole}
 use Rattle.command_frame.specs.Meaning.{Meaning}
 use Rattle.command_inputs.specs.Limits.{log_limit, program_limit}
 use Rattle.command_inputs.specs.declared.refusal.Refusal.{Refusal}
-use Rattle.command_ends.specs.Outcomes.{command_of}
+use Rattle.refutation_verdicts.specs.command_ends.Outcomes.{command_of}
 use Rattle.refutation_verdicts.specs.Refutations.{Names}
 use Rattle.refutation_verdicts.specs.Verdicts.{verdict_report}
 use Rattle.refutation_verdicts.specs.declared.verdict.Verdict.{Verdict}

@@ -10,7 +10,7 @@ ghost use Rattle.run_log.specs.Logs.{Log as RunLog};
 ghost use Rattle.store_buffers.specs.Buffers.{buffer_of};
 ghost use Rattle.store_buffers.specs.Pending.{Binding};
 ghost use Rattle.tc_code.specs.Code.{Code};
-ghost use Rattle.tc_limits.specs.declared.limits.TheConstants.{PROGRAM_BYTES};
+ghost use Rattle.tc_code.specs.tc_limits.declared.limits.TheConstants.{PROGRAM_BYTES};
 ghost use Rattle.why_impossible.specs.Explained.{IsExplained as IsExplainedBy};
 ghost use Rattle.why_command.specs.Causes.{IsExplained};
 ghost use Rattle.why_command.specs.helpers.Unread.{IsOfFault};

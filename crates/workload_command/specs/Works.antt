@@ -3,8 +3,8 @@ use Rattle.std.specs.Prelude.{◌≡◌, ℕ, List}
 use Rattle.clap_solve.specs.Clauses.{bound_of}
 use Rattle.clap_solve.specs.Solved.{IsAnswer, IsWithin}
 use Rattle.clap_solve.specs.declared.answer.Answer.{Answer}
-use Rattle.memory_models.specs.declared.model.Model.{Model}
-use Rattle.memory_models.specs.declared.model.Model.TheVariants.{Sc, Tso}
+use Rattle.run_log.specs.memory_models.declared.model.Model.{Model}
+use Rattle.run_log.specs.memory_models.declared.model.Model.TheVariants.{Sc, Tso}
 use Rattle.run_log.specs.Logs.{Log}
 use Rattle.store_buffers.specs.Buffers.{buffer_of}
 use Rattle.tc_code.specs.Code.{Code}

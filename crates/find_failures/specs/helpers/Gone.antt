@@ -7,7 +7,7 @@ use Rattle.tc_base.specs.Buffers.{BufferOps}
 use Rattle.tc_base.specs.Paths.{ThreadPath}
 use Rattle.run_log.specs.Logs.{Log, StoredLog}
 use Rattle.tc_code.specs.Code.{Code}
-use Rattle.tc_limits.specs.declared.limits.TheConstants.{THREADS}
+use Rattle.tc_code.specs.tc_limits.declared.limits.TheConstants.{THREADS}
 use Rattle.store_buffers.specs.Pending.{Binding}
 use Rattle.log_walk.specs.Given.{IsLeftOut}
 use Rattle.log_walk.specs.Rest.{all, MakeUp}
@@ -44,9 +44,11 @@ module _ {B : Type 0} (ops : BufferOps B) (model : Model) (code : Code) (kind : 
   -- all logs were gone through: if none is unknown, each is impossible, or was left out
   abbrev pub AreDone : ℕ → Gone → LeftOut → Type 0
   AreDone most gone out =
-      gone.unknown ≡ None → (ts : List ThreadPath) → MakeUp code kind (all code kind) ts → AreImpossible ops model code kind ts ⊎ IsLeftOut most THREADS out ts
+      gone.unknown ≡ None → (ts : List ThreadPath) → MakeUp code kind (all code kind) ts
+      → AreImpossible ops model code kind ts ⊎ IsLeftOut most THREADS out ts
 
-module _ {B : Type 0} (ops : BufferOps B) (model : Model) (bound : Binding) (code : Code) (asked : Asked) where
+module _ {B : Type 0} (ops : BufferOps B) (model : Model) (bound : Binding) (code : Code)
+    (asked : Asked) where
   -- the logs gone through are refuted, and the unknown one is unknown
   pub record AreGone (gone : Gone) : Type 0 where
     pub refuted : All (IsRefuted ops bound code) gone.refuted.items
@@ -59,7 +61,8 @@ module _ {B : Type 0} (ops : BufferOps B) (model : Model) (bound : Binding) (cod
   -- logs were tried: this one is possible, or if none is unknown, none was, and this holds
   abbrev pub IsTried : Gone → Gone → Type 0 → Option StoredLog → Type 0
   IsTried before after fact (Some log) = IsHit log.log
-  IsTried before after fact None = AreGone after × (after.unknown ≡ None → (before.unknown ≡ None) × fact)
+  IsTried before after fact None =
+      AreGone after × (after.unknown ≡ None → (before.unknown ≡ None) × fact)
 
   -- how going through the logs with at most this number of outcomes ended
   abbrev pub IsEnded : ℕ → Gone → Ended → Type 0
@@ -80,4 +83,5 @@ is_over out = out.steps || out.depth || out.threads
 abbrev pub after_all : Gone → LeftOut → Found
 after_all gone out =
     option_map_or (λ unknown. found.Unknown unknown) gone.unknown
-    (if is_over out then found.LeftOut out else found.Never (if out.outcomes then Bounded else Every) gone.refuted)
+    (if is_over out then found.LeftOut out
+    else found.Never (if out.outcomes then Bounded else Every) gone.refuted)

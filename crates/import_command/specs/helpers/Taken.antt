@@ -27,9 +27,11 @@ taken_of (False number) = taken.False number
 
 -- the text is that of the schedule
 abbrev pub HasItsText : Imported → Type 0
-HasItsText (Found schedule text) = IsSchedule text.items (record { model = schedule.model; moves = schedule.moves.items })
+HasItsText (Found schedule text) =
+    IsSchedule text.items (record { model = schedule.model; moves = schedule.moves.items })
 HasItsText (False number) = Unit {0}
 
 -- what the literals give under the memory model
 abbrev pub IsTakenUnder : Model → Code → Log → List ℤ → Taken → Type 0
-IsTakenUnder model code log literals x = IsImported (buffer_of model) model (bound_of model) code log literals x
+IsTakenUnder model code log literals x =
+    IsImported (buffer_of model) model (bound_of model) code log literals x

@@ -1,6 +1,6 @@
 -- A refutation while it is read: its lines so far, and the checker's state.
 use Rattle.std.specs.Prelude.{◌≡◌, ℕ, ◌≤◌, Bool, true, false, List, [], Option, Some, None, Result, Ok, Err, fold, ⊤}
-use Rattle.path_log.specs.Texts.{IsLog, IsOfOther}
+use Rattle.command_inputs.specs.path_log.Texts.{IsLog, IsOfOther}
 use Rattle.refute_check.specs.Laws.{whole_lines}
 use Rattle.refute_check.specs.Reading.{Reading, Reads, beginning, first_breach}
 use Rattle.refute_check.specs.Refutations.{Checking, state_after_line, start, verdict}
@@ -9,7 +9,7 @@ use Rattle.refute_check.specs.declared.line.Line.{Line}
 use Rattle.refute_check.specs.declared.line.TheConstants.{LINES}
 use Rattle.refute_check.specs.declared.text.Taken.{Taken}
 use Rattle.run_log.specs.Logs.{StoredLog}
-use Rattle.tc_compile.specs.Programs.{IsCodeOf}
+use Rattle.command_inputs.specs.tc_compile.Programs.{IsCodeOf}
 use Rattle.command_inputs.specs.Forms.{IsOther}
 use Rattle.command_inputs.specs.declared.refusal.Refusal.{Refusal}
 use Rattle.command_inputs.specs.declared.refusal.Refusal.TheVariants.{Refutation}

@@ -1,5 +1,5 @@
 use Rattle.std.proofs.Common.{refl, map, string_bytes}
-use Rattle.clap_debug_words.specs.Calls.{call_of}
+use Rattle.clap_debug_cli.specs.clap_debug_words.Calls.{call_of}
 use Rattle.test_shelves.specs.Mem.{sure_shelf_tells, sure_sink_tells}
 use Rattle.test_cli.proofs.Calls.{eight_never_comes, seven_reads_entire}
 use Rattle.test_cli.proofs.clap_debug_surely.Goals as goal

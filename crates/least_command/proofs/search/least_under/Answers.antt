@@ -1,6 +1,6 @@
 use Rattle.std.proofs.Common.{subst, sym, IfOk}
 use Rattle.store_buffers.specs.Buffers.{buffer_of}
-use Rattle.clap_solve.specs.Clauses.{bound_of}
+use Rattle.least_switch.specs.clap_solve.Clauses.{bound_of}
 use Rattle.least_switch.specs.Least.{IsLeast}
 use Rattle.least_command.proofs.search.least_under.Goals as goal
 

@@ -1,5 +1,5 @@
 use Rattle.store_buffers.specs.Buffers.{buffer_of}
-use Rattle.clap_solve.specs.Clauses.{bound_of}
+use Rattle.least_switch.specs.clap_solve.Clauses.{bound_of}
 use Rattle.least_command.proofs.Below.{has_byte_below}
 use Rattle.least_command.proofs.search.search.Goals as goal
 

@@ -1,6 +1,6 @@
 use Rattle.std.proofs.Common.{◌∙◌, [], subst, sym}
-use Rattle.path_log.specs.Texts.{IsLog}
-use Rattle.tc_compile.specs.Programs.{IsCodeOf}
+use Rattle.command_inputs.specs.path_log.Texts.{IsLog}
+use Rattle.command_inputs.specs.tc_compile.Programs.{IsCodeOf}
 use Rattle.refutation_input.specs.helpers.Incoming.{IsRead}
 use Rattle.check_command.proofs.command.CheckWorkInPieces.begin.Goals as goal
 
