@@ -67,7 +67,8 @@ fn first_values<M: MemoryModel>(
 ) -> Result<Vec<bool>, AllocError>
     requires { length (all_events posed.now.paths) ≤ EVENTS }
 {
-    let world = first_world::<M>(alloc, code, posed.paths(), posed.symbolic(), posed.terms())?;
+    let run = posed.execution();
+    let world = first_world::<M>(alloc, code, &run.paths, &run.symbolic, &run.terms)?;
     posed.blasted().first_values(alloc, &world)
 }
 
@@ -103,12 +104,5 @@ pub(crate) fn schedule<M: MemoryModel>(
     ensures reproduces { IfOk result (λ schedule. ReproduceEach M.ops code.now posed.now schedule.moves.items) }
 {
     let world = posed.blasted().world(alloc, assignment)?;
-    decode::<M>(
-        alloc,
-        code,
-        posed.paths(),
-        posed.symbolic(),
-        posed.terms(),
-        &world,
-    )
+    decode::<M>(alloc, code, posed.execution(), &world)
 }

@@ -90,7 +90,8 @@ fn search<M: MemoryModel>(
     requires room { budget ≤ BUDGET }
     ensures { IfOk result (Solves posed.now.blasted.clauses budget) }
 {
-    let world = first_world::<M>(alloc, code, posed.paths(), posed.symbolic(), posed.terms())?;
+    let run = posed.execution();
+    let world = first_world::<M>(alloc, code, &run.paths, &run.symbolic, &run.terms)?;
     let values = posed.blasted().first_values(alloc, &world)?;
     solve_cnf(alloc, posed.clauses(), values.as_slice(), budget)
 }
@@ -128,14 +129,7 @@ fn first_best<M: MemoryModel>(
     ensures { IfOk result (IsBest M.ops M.MODEL code.now log.now.log) }
 {
     let world = posed.blasted().world(alloc, assignment)?;
-    best_of::<M>(
-        alloc,
-        code,
-        posed.paths(),
-        posed.symbolic(),
-        posed.terms(),
-        world,
-    )
+    best_of::<M>(alloc, code, posed.execution(), world)
 }
 
 /// Searches for a schedule of a log with a bound on switches, trying values near a world first.
@@ -218,12 +212,5 @@ fn next_best<M: MemoryModel>(
     ensures { IfOk result (IsBestUpTo M.ops M.MODEL code.now log.now.log most) }
 {
     let world = bounded.layout.read_world(alloc, assignment)?;
-    best_of::<M>(
-        alloc,
-        code,
-        &bounded.paths,
-        &bounded.symbolic,
-        &bounded.terms,
-        world,
-    )
+    best_of::<M>(alloc, code, &bounded.execution, world)
 }
