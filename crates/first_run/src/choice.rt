@@ -1,15 +1,16 @@
 //! The choice of what is done next.
+ghost use Rattle.std.specs.Prelude.{◌≤◌};
+ghost use Rattle.first_run.specs.declared.tuned.TheConstants.{EVENTS_AHEAD};
 
-use crate::ahead::{AHEAD, leaves};
-use crate::block::{Fate, block_of};
-use crate::machine::drainable;
+use crate::block::{Block, Fate, block_of};
 use crate::run::Run;
 use crate::stuck::count_stuck;
-use crate::thread::{Pending, Place};
-use crate::written::Written;
+use crate::trip::leaves;
+use crate::tuned::EVENTS_AHEAD;
 use path_walk::EventKind;
-use std::alloc::{AllocError, Global};
+use run_simulation::{Drained, Moved, Share, ThreadNumber, View};
 use store_buffers::MemoryModel;
+use tc_limits::limits::THREADS;
 
 /// The priority of a choice.
 #[derive(Clone, Copy, PartialEq, Eq, PartialOrd, Ord)]
@@ -28,8 +29,8 @@ pub(crate) struct Choice {
     pub rank: Rank,
     /// The number of threads that are stuck afterwards.
     stuck: usize,
-    share: usize,
-    pub thread: usize,
+    share: Share,
+    pub thread: ThreadNumber,
     pub store: Option<usize>,
 }
 
@@ -40,7 +41,7 @@ impl Choice {
         self.key() < other.key()
     }
 
-    fn key(&self) -> (bool, usize, Rank, usize) {
+    fn key(&self) -> (bool, usize, Rank, Share) {
         (self.rank == Rank::Spare, self.stuck, self.rank, self.share)
     }
 }
@@ -56,155 +57,144 @@ fn first(found: Option<Choice>, other: Option<Choice>) -> Option<Choice> {
 
 /// The greatest length of a block that begins with an event of this kind. Only a load or a mutex
 /// taken begins a longer one.
-fn block_length(kind: EventKind) -> u32 {
+fn block_length(kind: EventKind) -> usize
+    ensures { result ≤ EVENTS_AHEAD }
+{
     match kind {
-        EventKind::Load | EventKind::Lock(_) | EventKind::Wake { .. } => AHEAD,
+        EventKind::Load | EventKind::Lock(_) | EventKind::Wake { .. } => EVENTS_AHEAD,
         _ => 1,
     }
 }
 
-impl Run<'_> {
+/// The priority of an event, by how its block ends. A mutex isn't taken if its block can't end.
+fn rank(kind: EventKind, fate: Fate, is_eager: bool) -> Option<Rank> {
+    match (kind, fate) {
+        (EventKind::Lock(_) | EventKind::Wake { .. }, Fate::Stops) => None,
+        (EventKind::Load, _) if is_eager => Some(Rank::Read),
+        (EventKind::Load, Fate::Stops) => Some(Rank::Read),
+        (_, Fate::Reads) => Some(Rank::Read),
+        _ => Some(Rank::Write),
+    }
+}
+
+impl<'a> Run<'a> {
     /// The next choice, if some thread can do something without leaving its path.
-    pub fn choice<M: MemoryModel>(&mut self, alloc: Global) -> Result<Option<Choice>, AllocError> {
+    pub fn choice<M: MemoryModel>(&mut self) -> Option<Choice> {
         let mut found = None;
-        for thread in 0..self.machine.threads.len() {
-            found = first(found, self.event_choice::<M>(alloc, thread)?);
-            found = first(found, self.stores_choice::<M>(alloc, thread)?);
+        for number in 0..THREADS {
+            let thread = ThreadNumber::new(number);
+            found = first(found, self.event_choice::<M>(thread));
+            found = first(found, self.stores_choice::<M>(thread));
         }
-        Ok(found)
+        found
     }
 
     /// Whether a thread can do its next event now and stay on its path.
-    pub fn can_go<M: MemoryModel>(
-        &mut self,
-        alloc: Global,
-        number: usize,
-    ) -> Result<bool, AllocError> {
-        if self.machine.drains_first(number) || !self.machine.lets(number) {
-            return Ok(false);
-        }
-        Ok(!leaves::<M>(alloc, &self.machine, &mut self.values, number)?)
+    pub fn can_go<M: MemoryModel>(&mut self, thread: ThreadNumber) -> bool {
+        let view = View::of(&self.simulation.machine);
+        !view.drains_first(thread)
+            && view.lets(thread)
+            && !leaves::<M>(view, &mut self.simulation.values, thread)
     }
 
     /// The choice of a thread's next event, if that can be done now.
-    fn event_choice<M: MemoryModel>(
-        &mut self,
-        alloc: Global,
-        number: usize,
-    ) -> Result<Option<Choice>, AllocError> {
-        if !self.can_go::<M>(alloc, number)? {
-            return Ok(None);
+    fn event_choice<M: MemoryModel>(&mut self, thread: ThreadNumber) -> Option<Choice> {
+        if !self.can_go::<M>(thread) {
+            return None;
         }
-        let Some(event) = self.machine.next(number) else {
-            return Ok(None);
-        };
-        let events = block_length(event.kind);
-        let Some(block) = block_of::<M>(alloc, &self.machine, &mut self.values, number, events)?
-        else {
-            return Ok(None);
-        };
-        let Some(rank) = self.rank(event.kind, block.fate) else {
-            return Ok(None);
-        };
-        let stuck = if rank == Rank::Read {
-            self.stuck_after_read::<M>(alloc, number)?
-        } else {
-            self.stuck_then::<M>(alloc, number, block.at, Vec::new(alloc), &block.written)?
-        };
-        Ok(Some(Choice {
+        let kind = self.simulation.machine.next(thread)?.kind;
+        let block = self.block_of::<M>(thread, block_length(kind))?;
+        let rank = rank(kind, block.fate, self.is_eager)?;
+        Some(Choice {
             rank,
-            stuck,
-            share: self.machine.share(number),
-            thread: number,
+            stuck: self.stuck_after::<M>(thread, rank, &block)?,
+            share: self.share(thread),
+            thread,
             store: None,
-        }))
+        })
     }
 
-    /// The number of stuck threads after a thread's next event, which writes nothing.
-    fn stuck_after_read<M: MemoryModel>(
+    /// The block of a thread, of at most `events` events.
+    fn block_of<M: MemoryModel>(&mut self, thread: ThreadNumber, events: usize) -> Option<Block<'a>>
+        requires { events ≤ EVENTS_AHEAD }
+    {
+        let view = View::of(&self.simulation.machine);
+        block_of::<M>(view, &mut self.simulation.values, thread, events)
+    }
+
+    /// The number of threads that are stuck after a thread's block, or after its first event if
+    /// that only reads.
+    fn stuck_after<M: MemoryModel>(
         &mut self,
-        alloc: Global,
-        number: usize,
-    ) -> Result<usize, AllocError> {
-        match block_of::<M>(alloc, &self.machine, &mut self.values, number, 1)? {
-            Some(read) => {
-                let pending = self.machine.pending(number).to_vec(alloc)?;
-                self.stuck_then::<M>(alloc, number, read.at, pending, &Written::new(alloc))
-            }
-            None => Ok(0),
+        thread: ThreadNumber,
+        rank: Rank,
+        block: &Block<'a>,
+    ) -> Option<usize> {
+        if rank == Rank::Read {
+            let at = self.block_of::<M>(thread, 1)?.at;
+            return Some(self.count_stuck::<M>(Moved {
+                thread,
+                at,
+                drained: Drained::Nothing,
+                writes: &[],
+            }));
         }
-    }
-
-    /// The priority of an event, by how its block ends. A mutex isn't taken if its block can't end.
-    fn rank(&self, kind: EventKind, fate: Fate) -> Option<Rank> {
-        match (kind, fate) {
-            (EventKind::Lock(_) | EventKind::Wake { .. }, Fate::Stops) => None,
-            (EventKind::Load, _) if self.is_eager => Some(Rank::Read),
-            (EventKind::Load, Fate::Stops) => Some(Rank::Read),
-            (_, Fate::Reads) => Some(Rank::Read),
-            _ => Some(Rank::Write),
-        }
+        Some(self.count_stuck::<M>(Moved {
+            thread,
+            at: block.at,
+            drained: Drained::All,
+            writes: &block.writes,
+        }))
     }
 
     /// The best drain of a thread's pending stores; of equal ones the newest.
-    fn stores_choice<M: MemoryModel>(
-        &mut self,
-        alloc: Global,
-        number: usize,
-    ) -> Result<Option<Choice>, AllocError> {
+    fn stores_choice<M: MemoryModel>(&mut self, thread: ThreadNumber) -> Option<Choice> {
         let mut found = None;
-        for store in (0..self.machine.pending(number).len()).rev() {
-            found = first(found, self.store_choice::<M>(alloc, number, store)?);
+        for store in (0..self.simulation.machine.pending().len()).rev() {
+            found = first(found, self.store_choice::<M>(thread, store));
         }
-        Ok(found)
+        found
     }
 
-    /// The choice to drain a pending store of a thread, if it may drain.
+    /// The choice to drain a pending store, if it is one of this thread and may drain.
     fn store_choice<M: MemoryModel>(
         &mut self,
-        alloc: Global,
-        number: usize,
+        thread: ThreadNumber,
         store: usize,
-    ) -> Result<Option<Choice>, AllocError> {
-        let mut pending = self.machine.pending(number).to_vec(alloc)?;
-        let (Some(drained), Some(at)) = (
-            drainable::<M>(&pending, store),
-            self.machine.place(number),
-        ) else {
-            return Ok(None);
-        };
-        if store < pending.len() {
-            pending.remove(store);
+    ) -> Option<Choice> {
+        let drained = self.simulation.machine.drainable::<M>(store)?;
+        if drained.thread != thread {
+            return None;
         }
-        let mut written = Written::new(alloc);
-        written.push(drained.cell, Some(drained.value))?;
-        Ok(Some(Choice {
-            rank: if self.machine.drains_first(number) {
-                Rank::Write
-            } else {
-                Rank::Spare
-            },
-            stuck: self.stuck_then::<M>(alloc, number, at, pending, &written)?,
-            share: self.machine.share(number),
-            thread: number,
+        let view = View::of(&self.simulation.machine);
+        let (at, waits) = (view.place(thread), view.drains_first(thread));
+        let moved = Moved {
+            thread,
+            at,
+            drained: Drained::Store(store),
+            writes: &[],
+        };
+        Some(Choice {
+            rank: if waits { Rank::Write } else { Rank::Spare },
+            stuck: self.count_stuck::<M>(moved),
+            share: self.share(thread),
+            thread,
             store: Some(store),
-        }))
+        })
     }
 
-    /// The number of stuck threads once a thread is at this place, with these pending stores and
-    /// writes.
-    fn stuck_then<M: MemoryModel>(
-        &mut self,
-        alloc: Global,
-        number: usize,
-        at: Place,
-        pending: Vec<Pending>,
-        written: &Written,
-    ) -> Result<usize, AllocError> {
-        let before = self.machine.go_ahead(alloc, number, at, pending, written)?;
+    /// The share of its path that a thread has done.
+    fn share(&self, thread: ThreadNumber) -> Share {
+        self.simulation.view().place(thread).share()
+    }
+
+    /// The number of threads that are stuck after a move.
+    fn count_stuck<M: MemoryModel>(&mut self, moved: Moved<'_, 'a>) -> usize {
         let near = self.near();
-        let stuck = count_stuck::<M>(alloc, &self.machine, &mut self.values, near)?;
-        self.machine.go_back(before);
-        Ok(stuck)
+        let view = View {
+            machine: &self.simulation.machine,
+            moved: Some(moved),
+        };
+        count_stuck::<M>(view, &mut self.simulation.values, near)
     }
 }
