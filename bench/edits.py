@@ -19,7 +19,11 @@ def misfits(edit, crate):
         word, _, rest = line.partition(": ")
         if word == "file":
             file = rest.strip()
-            texts.setdefault(file, open(f"{TOP}/crates/{crate}/{file}", encoding="utf-8").read())
+            path = f"{TOP}/crates/{crate}/{file}"
+            if not os.path.isfile(path):
+                yield f"{os.path.relpath(edit, TOP)}: there is no {os.path.relpath(path, TOP)}"
+                return
+            texts.setdefault(file, open(path, encoding="utf-8").read())
         elif word == "old":
             old = rest
             if texts[file].count(old) != 1:

@@ -14,7 +14,8 @@ abbrev pub int_value : Valuation → List ℤ → ℤ
 int_value w ls = cast_signed w32 (value w ls)
 
 -- a word whose number is `meaning`
-pub record IsNumber (f : Formula) (xs : List ℤ) (m : Walked Formula) (meaning : Valuation → ℕ) : Type 0 where
+pub record IsNumber (f : Formula) (xs : List ℤ) (m : Walked Formula)
+    (meaning : Valuation → ℕ) : Type 0 where
   pub word : IsWord f m.state xs m.word
   pub number : (w : Valuation) → IsModel w m.state → value w m.word ≡ meaning w
 
@@ -29,13 +30,17 @@ pub record ArithMean : Type 0 where
   pub sum : (f : Formula) (xs ys : List ℤ) → AreOperands f xs ys
       → IsNumber f xs (plus_word f xs ys) (λ w. (value w xs + value w ys) % 2 ^ length xs)
   pub difference : (f : Formula) (xs ys : List ℤ) → AreOperands f xs ys
-      → IsNumber f xs (minus_word f xs ys) (λ w. (value w xs + (2 ^ length xs - value w ys)) % 2 ^ length xs)
+      → IsNumber f xs (minus_word f xs ys)
+      (λ w. (value w xs + (2 ^ length xs - value w ys)) % 2 ^ length xs)
   pub product : (f : Formula) (xs ys : List ℤ) → AreOperands f xs ys
       → IsNumber f xs (times_word f xs ys) (λ w. (value w xs * value w ys) % 2 ^ length xs)
   -- at 32 bits
-  pub plus : (f : Formula) (xs ys : List ℤ) → AreOperands f xs ys → length xs ≡ 32 → (w : Valuation) → IsModel w (plus_word f xs ys).state
+  pub plus : (f : Formula) (xs ys : List ℤ) → AreOperands f xs ys → length xs ≡ 32
+      → (w : Valuation) → IsModel w (plus_word f xs ys).state
       → int_value w (plus_word f xs ys).word ≡ plus (int_value w xs) (int_value w ys)
-  pub minus : (f : Formula) (xs ys : List ℤ) → AreOperands f xs ys → length xs ≡ 32 → (w : Valuation) → IsModel w (minus_word f xs ys).state
+  pub minus : (f : Formula) (xs ys : List ℤ) → AreOperands f xs ys → length xs ≡ 32
+      → (w : Valuation) → IsModel w (minus_word f xs ys).state
       → int_value w (minus_word f xs ys).word ≡ minus (int_value w xs) (int_value w ys)
-  pub times : (f : Formula) (xs ys : List ℤ) → AreOperands f xs ys → length xs ≡ 32 → (w : Valuation) → IsModel w (times_word f xs ys).state
+  pub times : (f : Formula) (xs ys : List ℤ) → AreOperands f xs ys → length xs ≡ 32
+      → (w : Valuation) → IsModel w (times_word f xs ys).state
       → int_value w (times_word f xs ys).word ≡ times (int_value w xs) (int_value w ys)

@@ -24,7 +24,8 @@ zeros n = replicate n (constant false)
 -- a word plus one row of a product: the factor, cut to the word's length, if `bit` is true
 abbrev pub with_row : Formula → List ℤ → List ℤ → ℤ → Walked Formula
 with_row f word xs bit =
-    let row : Walked Formula = gated_words And f (take (length word) xs) (replicate (length word) bit) in
+    let row : Walked Formula = gated_words And f (take (length word) xs)
+    (replicate (length word) bit) in
     plus_word row.state word row.word
 
 -- a word plus a product, row by row, each row one place above the one before it

@@ -20,7 +20,7 @@ use Rattle.bit_gates.specs.Laws.{IsModel, IsOf, IsBit}
 use Rattle.bit_gates.proofs.Blocks.{grown_none, grown_twice, IsOf-grown, IsOf-opposite, model_before}
 use Rattle.bit_gates.proofs.Extended.{gates-extend}
 use Rattle.bit_gates.proofs.Meaning.{both_bit, either_bit, constant_of, constant_value}
-use Rattle.bit_arith.specs.Laws.{int_value}
+use Rattle.bit_ops.specs.bit_arith.Laws.{int_value}
 use Rattle.bit_ops.specs.Laws.{IsOperand}
 use Rattle.bit_ops.specs.Ops.{some_of}
 use Rattle.bit_terms.specs.Terms.{word_at}

@@ -1,3 +1,8 @@
+pub use Rattle.bit_gates.proofs as bit_gates
+pub use Rattle.bit_order.proofs as bit_order
+pub use Rattle.bit_order.proofs.bit_ranks
+pub use Rattle.bit_terms.proofs as bit_terms
+pub use Rattle.order_formula.proofs as order_formula
 pub mod CaseLaws
 pub mod Clauses
 pub mod Completed

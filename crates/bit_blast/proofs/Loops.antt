@@ -9,9 +9,9 @@ use Rattle.std.proofs.lemmas.Grind.{flat_map-append}
 use Rattle.order_formula.specs.declared.read.Candidate.{Candidate}
 use Rattle.cnf_core.specs.Clauses.{Formula}
 use Rattle.bit_order.specs.Clauses.{folded_clause, with_clause}
-use Rattle.bit_words.proofs.Loops.{within_more}
+use Rattle.bit_ops.proofs.bit_words.Loops.{within_more}
 use Rattle.bit_terms.specs.Terms.{word_at}
-use Rattle.bit_arith.specs.Sums.{zeros}
+use Rattle.bit_ops.specs.bit_arith.Sums.{zeros}
 use Rattle.bit_blast.specs.Reads.{Source, last_clauses, none_clauses, read_clauses, sources_of, value_clauses, with_clauses}
 use Rattle.bit_blast.specs.helpers.Within.{IsSourceWithin, AreSourcesWithin}
 

@@ -21,7 +21,7 @@ use Rattle.order_formula.specs.Reads.{Read}
 use Rattle.order_formula.specs.Worlds.{World}
 use Rattle.order_formula.proofs.Asked.{formula_stays}
 use Rattle.cnf_core.specs.Clauses.{Formula, satisfies}
-use Rattle.bit_words.specs.Words.{Walked}
+use Rattle.bit_ops.specs.bit_words.Words.{Walked}
 use Rattle.bit_order.specs.Comparators.{pairs_among}
 use Rattle.bit_order.specs.Laws.{IsWorldFor, SaysSame}
 use Rattle.bit_order.specs.Layouts.{Layout}

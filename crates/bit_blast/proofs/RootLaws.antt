@@ -20,8 +20,8 @@ use Rattle.bit_gates.specs.Extended.{IsExtended}
 use Rattle.bit_gates.specs.Folded.{Made}
 use Rattle.bit_gates.specs.Laws.{IsModel, IsOf, IsBit}
 use Rattle.bit_gates.proofs.Extended.{gates-extend}
-use Rattle.bit_words.specs.Laws.{values}
-use Rattle.bit_words.specs.Words.{Walked}
+use Rattle.bit_ops.specs.bit_words.Laws.{values}
+use Rattle.bit_ops.specs.bit_words.Words.{Walked}
 use Rattle.bit_blast.specs.Cases.{Parts, cases_made}
 use Rattle.bit_blast.specs.Laws.{Tells, IsRoot, BodyIsTold, AreRoots, RootsMean}
 use Rattle.bit_blast.specs.Roots.{body_made, with_root, roots, with_root_clauses}

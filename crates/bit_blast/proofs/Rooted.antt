@@ -15,8 +15,8 @@ use Rattle.order_formula.specs.Truth.{body_at}
 use Rattle.order_formula.specs.Worlds.{World}
 use Rattle.cnf_core.specs.Clauses.{Formula, IsUnsatisfiable, Valuation, clause_true, literal_true, satisfies}
 use Rattle.bit_gates.specs.Laws.{IsModel}
-use Rattle.bit_words.specs.Laws.{values}
-use Rattle.bit_words.specs.Words.{Walked}
+use Rattle.bit_ops.specs.bit_words.Laws.{values}
+use Rattle.bit_ops.specs.bit_words.Words.{Walked}
 use Rattle.bit_order.specs.Laws.{IsWorldFor, SaysSame}
 use Rattle.bit_order.specs.Layouts.{Layout}
 use Rattle.bit_order.specs.Readings.{world_of}

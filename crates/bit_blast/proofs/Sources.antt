@@ -17,9 +17,9 @@ use Rattle.bit_gates.specs.Folded.{Made, constant, kept}
 use Rattle.bit_gates.specs.Laws.{IsGrown, IsModel, IsOf, IsBit}
 use Rattle.bit_gates.proofs.Blocks.{grown_none, grown_twice, IsOf-opposite, model_before}
 use Rattle.bit_gates.proofs.Extended.{gates-extend}
-use Rattle.bit_words.specs.Words.{Walked}
-use Rattle.bit_words.specs.Laws.{values}
-use Rattle.bit_words.proofs.Meaning.{all_grown}
+use Rattle.bit_ops.specs.bit_words.Words.{Walked}
+use Rattle.bit_ops.specs.bit_words.Laws.{values}
+use Rattle.bit_ops.proofs.bit_words.Meaning.{all_grown}
 use Rattle.bit_ops.specs.Ops.{some_of}
 use Rattle.bit_terms.specs.Terms.{word_at}
 use Rattle.bit_blast.specs.Cases.{Parts}

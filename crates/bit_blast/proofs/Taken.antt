@@ -21,8 +21,8 @@ use Rattle.bit_gates.specs.Extended.{IsExtended}
 use Rattle.bit_gates.specs.Folded.{kept}
 use Rattle.bit_gates.specs.Laws.{IsModel, IsOf, IsBit}
 use Rattle.bit_gates.proofs.Extended.{gates-extend}
-use Rattle.bit_words.specs.Words.{Walked}
-use Rattle.bit_arith.specs.Laws.{int_value}
+use Rattle.bit_ops.specs.bit_words.Words.{Walked}
+use Rattle.bit_ops.specs.bit_arith.Laws.{int_value}
 use Rattle.bit_terms.specs.Terms.{word_at}
 use Rattle.bit_terms.proofs.Meaning.{at_operand}
 use Rattle.bit_blast.specs.Cases.{Parts}

@@ -19,8 +19,8 @@ use Rattle.order_formula.proofs.Last.{Picks, picks}
 use Rattle.cnf_core.specs.Clauses.{Valuation, literal_true, clause_true, satisfies}
 use Rattle.cnf_core.proofs.GateLaws.{literal_true-neg}
 use Rattle.bit_gates.specs.Laws.{IsOf}
-use Rattle.bit_words.specs.Laws.{values}
-use Rattle.bit_arith.specs.Laws.{int_value}
+use Rattle.bit_ops.specs.bit_words.Laws.{values}
+use Rattle.bit_ops.specs.bit_arith.Laws.{int_value}
 use Rattle.bit_terms.specs.Terms.{word_at}
 use Rattle.bit_blast.specs.Cases.{Parts}
 use Rattle.bit_blast.specs.Reads.{Source, value_clauses, last_clause, last_clauses, none_clauses, read_clauses}

@@ -10,9 +10,9 @@ use Rattle.cnf_core.specs.Clauses.{Valuation, literal_true, clause_true, satisfi
 use Rattle.cnf_core.proofs.GateLaws.{literal_true-neg}
 use Rattle.bit_gates.specs.Laws.{IsOf}
 use Rattle.bit_gates.proofs.Blocks.{IsOf-opposite}
-use Rattle.bit_words.specs.Laws.{values, number_of, value}
-use Rattle.bit_arith.specs.Laws.{int_value}
-use Rattle.bit_arith.proofs.Values.{value_below}
+use Rattle.bit_ops.specs.bit_words.Laws.{values, number_of, value}
+use Rattle.bit_ops.specs.bit_arith.Laws.{int_value}
+use Rattle.bit_ops.proofs.bit_arith.Values.{value_below}
 use Rattle.bit_blast.specs.Reads.{value_clauses}
 
 -- a word of 32 bits

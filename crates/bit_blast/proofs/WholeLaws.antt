@@ -16,7 +16,7 @@ use Rattle.bit_gates.specs.Folded.{constant}
 use Rattle.bit_gates.specs.Laws.{IsModel, IsOf}
 use Rattle.bit_gates.proofs.Blocks.{grown_none}
 use Rattle.bit_gates.proofs.Extended.{gates-extend}
-use Rattle.bit_arith.specs.Laws.{int_value}
+use Rattle.bit_ops.specs.bit_arith.Laws.{int_value}
 use Rattle.bit_ops.specs.Laws.{IsOperand}
 use Rattle.bit_order.specs.Comparators.{before_literal, comparators, ordered, transitivity}
 use Rattle.bit_order.specs.Laws.{IsWorldFor, SaysSame, LiteralsMean}

@@ -9,7 +9,7 @@ use Rattle.order_formula.specs.Orders.{IsOrder}
 use Rattle.cnf_core.specs.Clauses.{var_of, Formula}
 use Rattle.bit_gates.specs.Extended.{IsExtended}
 use Rattle.bit_gates.specs.Laws.{IsOf}
-use Rattle.bit_words.specs.Words.{AreWithin, Walked}
+use Rattle.bit_ops.specs.bit_words.Words.{AreWithin, Walked}
 use Rattle.bit_order.specs.Comparators.{before_literal, ordered}
 use Rattle.bit_order.specs.Laws.{LiteralsMean}
 use Rattle.bit_order.specs.Layouts.{Layout, base, ends_literal, load_word}

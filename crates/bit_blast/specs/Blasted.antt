@@ -29,11 +29,13 @@ root_of b conjunct = length b.clauses.clauses - b.conjuncts + conjunct
 
 -- the layout of an order with all pairs of contended events added, and of `loads` loads
 abbrev pub layout_of : Order → ℕ → List Conjunct → Layout
-layout_of order loads formula = record { order = completed order (contended formula); loads = loads }
+layout_of order loads formula =
+    record { order = completed order (contended formula); loads = loads }
 
 -- the clauses of a formula over a layout and terms
 abbrev pub blast_over : List Node → List Conjunct → Layout → Blasted
-blast_over nodes formula y = record { layout = y; clauses = all_clauses y nodes formula; conjuncts = length formula }
+blast_over nodes formula y =
+    record { layout = y; clauses = all_clauses y nodes formula; conjuncts = length formula }
 
 -- the clauses of a formula over an order, with `loads` loads
 abbrev pub blast : List Node → List Conjunct → Order → ℕ → Blasted
@@ -61,13 +63,17 @@ pub record IsPosed (nodes : List Node) (formula : List Conjunct) (order : Order)
   pub apart : All (λ c. IsApart c.body) formula
 
 -- the models of the clauses correspond to the worlds in which the formula is true
-pub record BlastMeans (nodes : List Node) (formula : List Conjunct) (order : Order) (loads : ℕ) : Type 0 where
+pub record BlastMeans (nodes : List Node) (formula : List Conjunct) (order : Order)
+    (loads : ℕ) : Type 0 where
   pub to : (v : Valuation) → IsTrue (satisfies v (blast nodes formula order loads).clauses.clauses)
-      → IsWorldFor (record { order = order; loads = loads }) (world_of (layout_of order loads formula) v)
+      → IsWorldFor (record { order = order; loads = loads })
+      (world_of (layout_of order loads formula) v)
       × (holds_at nodes (world_of (layout_of order loads formula) v) formula ≡ true)
-  pub back : (w : World) → IsWorldFor (record { order = order; loads = loads }) w → holds_at nodes w formula ≡ true
+  pub back : (w : World) → IsWorldFor (record { order = order; loads = loads }) w
+      → holds_at nodes w formula ≡ true
       → (v : Valuation) × IsTrue (satisfies v (blast nodes formula order loads).clauses.clauses)
-      × SaysSame (record { order = order; loads = loads }) w (world_of (layout_of order loads formula) v)
+      × SaysSame (record { order = order; loads = loads }) w
+      (world_of (layout_of order loads formula) v)
 
 -- the clause at an index, from 0
 abbrev pub clause_at : Blasted → ℕ → List ℤ
@@ -78,17 +84,25 @@ abbrev pub background : Blasted → List (List ℤ)
 background b = take (root_of b 0) b.clauses.clauses
 
 -- in all worlds of a layout, the root of each conjunct tells whether the conjunct is true
-pub record RootsTell (nodes : List Node) (formula : List Conjunct) (y : Layout) (b : Blasted) : Type 0 where
+pub record RootsTell (nodes : List Node) (formula : List Conjunct) (y : Layout)
+    (b : Blasted) : Type 0 where
   -- a root is a clause of one literal
-  pub unit : (k : ℕ) → k < length formula → (l : ℤ) × (slice_get b.clauses.clauses (root_of b k) ≡ Some (l ∷ []))
+  pub unit : (k : ℕ) → k < length formula
+      → (l : ℤ) × (slice_get b.clauses.clauses (root_of b k) ≡ Some (l ∷ []))
   -- a model of the background has a world; each root it satisfies belongs to a conjunct true there
-  pub to : (v : Valuation) → IsTrue (satisfies v (background b)) → IsWorldFor y (world_of b.layout v)
-      × ((k : ℕ) (c : Conjunct) → slice_get formula k ≡ Some c → clause_true v (clause_at b (root_of b k)) ≡ true
+  pub to : (v : Valuation) → IsTrue (satisfies v (background b))
+      → IsWorldFor y (world_of b.layout v)
+      × ((k : ℕ) (c : Conjunct) → slice_get formula k ≡ Some c
+      → clause_true v (clause_at b (root_of b k)) ≡ true
       → body_at nodes (world_of b.layout v) c.body ≡ true)
   -- each world has such a model, which satisfies exactly the roots of the conjuncts true there
-  pub back : (w : World) → IsWorldFor y w → (v : Valuation) × IsTrue (satisfies v (background b)) × SaysSame y w (world_of b.layout v)
-      × ((k : ℕ) (c : Conjunct) → slice_get formula k ≡ Some c → clause_true v (clause_at b (root_of b k)) ≡ body_at nodes w c.body)
+  pub back : (w : World) → IsWorldFor y w
+      → (v : Valuation) × IsTrue (satisfies v (background b)) × SaysSame y w (world_of b.layout v)
+      × ((k : ℕ) (c : Conjunct) → slice_get formula k ≡ Some c
+      → clause_true v (clause_at b (root_of b k)) ≡ body_at nodes w c.body)
   -- if some clauses are unsatisfiable, each world falsifies a conjunct whose root is among them
-  pub core : (numbers : List ℕ) → All (λ n. n < length b.clauses.clauses) numbers → IsUnsatisfiable (map (clause_at b) numbers)
+  pub core : (numbers : List ℕ) → All (λ n. n < length b.clauses.clauses) numbers
+      → IsUnsatisfiable (map (clause_at b) numbers)
       → (w : World) → IsWorldFor y w
-      → (k : ℕ) × (c : Conjunct) × Contains numbers (root_of b k) × (slice_get formula k ≡ Some c) × (body_at nodes w c.body ≡ false)
+      → (k : ℕ) × (c : Conjunct) × Contains numbers (root_of b k) × (slice_get formula k ≡ Some c)
+      × (body_at nodes w c.body ≡ false)

@@ -25,14 +25,16 @@ module _ (parts : Parts) where
 
   -- a case: the conjunction of its literals
   abbrev pub with_literal : Made → Literal → Made
-  with_literal m l = let x : Made = literal_made m.formula l in conjunction x.formula m.literal x.literal
+  with_literal m l =
+      let x : Made = literal_made m.formula l in conjunction x.formula m.literal x.literal
 
   abbrev pub case_made : Formula → List Literal → Made
   case_made f literals = fold with_literal (kept f (constant true)) literals
 
   -- a conjunct: the disjunction of its cases
   abbrev pub with_case : Made → List Literal → Made
-  with_case m literals = let x : Made = case_made m.formula literals in disjunction x.formula m.literal x.literal
+  with_case m literals =
+      let x : Made = case_made m.formula literals in disjunction x.formula m.literal x.literal
 
   abbrev pub cases_made : Formula → List (List Literal) → Made
   cases_made f cases = fold with_case (kept f (constant false)) cases

@@ -6,7 +6,7 @@ use Rattle.order_formula.specs.declared.read.Candidate.{Candidate}
 use Rattle.order_formula.specs.Reads.{Read}
 use Rattle.cnf_core.specs.Clauses.{Formula}
 use Rattle.bit_gates.specs.Folded.{Made, constant, kept, conjunction}
-use Rattle.bit_words.specs.Words.{Walked}
+use Rattle.bit_ops.specs.bit_words.Words.{Walked}
 use Rattle.bit_order.specs.Clauses.{folded_clause}
 use Rattle.bit_ops.specs.Ops.{some_of}
 use Rattle.bit_terms.specs.Terms.{word_at}
@@ -28,41 +28,53 @@ abbrev pub value_clauses : (holds taken : ℤ) → (takes value : List ℤ) → 
 value_clauses holds taken [] value = []
 value_clauses holds taken (a ∷ xs) [] = []
 value_clauses holds taken (a ∷ xs) (b ∷ ys) =
-    (neg_ℤ holds ∷ neg_ℤ taken ∷ neg_ℤ a ∷ b ∷ []) ∷ (neg_ℤ holds ∷ neg_ℤ taken ∷ a ∷ neg_ℤ b ∷ []) ∷ value_clauses holds taken xs ys
+    (neg_ℤ holds ∷ neg_ℤ taken ∷ neg_ℤ a ∷ b ∷ []) ∷ (neg_ℤ holds ∷ neg_ℤ taken ∷ a ∷ neg_ℤ b ∷ [])
+    ∷ value_clauses holds taken xs ys
 
 -- the sources of some candidates; their `taken` variables are the next after the first `n`
 abbrev pub sources_of : (words : List (List ℤ)) → ℕ → List Candidate → (seen : List ℤ) → List Source
 sources_of words n [] seen = []
 sources_of words n (c ∷ cs) [] = []
 sources_of words n (c ∷ cs) (l ∷ ls) =
-    record { event = c.event; seen = l; taken = pos (n + 1); value = word_at words c.value } ∷ sources_of words (n + 1) cs ls
+    record { event = c.event; seen = l; taken = pos (n + 1); value = word_at words c.value }
+    ∷ sources_of words (n + 1) cs ls
 
 -- if the load takes `s`, each other write that it sees comes before `s`
 abbrev pub last_clause : (before : ℕ → ℕ → ℤ) → Source → Source → List (List ℤ)
-last_clause before s t = if t.event == s.event then [] else (neg_ℤ s.taken ∷ neg_ℤ t.seen ∷ before t.event s.event ∷ []) ∷ []
+last_clause before s t =
+    if t.event == s.event then []
+    else (neg_ℤ s.taken ∷ neg_ℤ t.seen ∷ before t.event s.event ∷ []) ∷ []
 
 abbrev pub last_clauses : (before : ℕ → ℕ → ℤ) → List Source → Source → List (List ℤ)
-last_clauses before sources s = (neg_ℤ s.taken ∷ s.seen ∷ []) ∷ flat_map (last_clause before s) sources
+last_clauses before sources s =
+    (neg_ℤ s.taken ∷ s.seen ∷ []) ∷ flat_map (last_clause before s) sources
 
 -- if the load takes the value at the start, it sees no write
 abbrev pub none_clauses : (start : ℤ) → List Source → List (List ℤ)
 none_clauses start sources = map (λ t. neg_ℤ start ∷ neg_ℤ t.seen ∷ []) sources
 
 -- all clauses of a load: it takes the value at the start, or of some write
-abbrev pub read_clauses : (before : ℕ → ℕ → ℤ) → (holds start : ℤ) → (takes first : List ℤ) → List Source → List (List ℤ)
+abbrev pub read_clauses : (before : ℕ → ℕ → ℤ) → (holds start : ℤ) → (takes first : List ℤ)
+    → List Source → List (List ℤ)
 read_clauses before holds start takes first sources =
-    ((start ∷ map (λ s. s.taken) sources) ∷ none_clauses start sources) ++ value_clauses holds start takes first
-    ++ flat_map (λ s. last_clauses before sources s ++ value_clauses holds s.taken takes s.value) sources
+    ((start ∷ map (λ s. s.taken) sources) ∷ none_clauses start sources)
+    ++ value_clauses holds start takes first
+    ++ flat_map
+    (λ s. last_clauses before sources s ++ value_clauses holds s.taken takes s.value) sources
 
 module _ (parts : Parts) where
   -- whether a load sees a write at its cell
   abbrev pub seen_made : Read → Formula → Candidate → Made
   seen_made r f c =
-      let cell : Made = option_map_or (λ test. some_of f (word_at parts.words test)) c.same_cell (kept f (constant true)) in
-      conjunction cell.formula (if c.earlier then constant true else parts.before c.event r.event) cell.literal
+      let cell : Made = option_map_or (λ test. some_of f (word_at parts.words test)) c.same_cell
+      (kept f (constant true)) in
+      conjunction cell.formula
+      (if c.earlier then constant true else parts.before c.event r.event) cell.literal
 
   abbrev pub with_seen : Read → Walked Formula → Candidate → Walked Formula
-  with_seen r m c = let here : Made = seen_made r m.state c in record { state = here.formula; word = m.word ++ here.literal ∷ [] }
+  with_seen r m c =
+      let here : Made = seen_made r m.state c in
+      record { state = here.formula; word = m.word ++ here.literal ∷ [] }
 
   -- the same for each candidate
   abbrev pub all_seen : Read → Formula → List Candidate → Walked Formula
@@ -75,5 +87,6 @@ module _ (parts : Parts) where
       let n : ℕ = seen.state.vars in
       let sources : List Source = sources_of parts.words (n + 2) r.candidates seen.word in
       let wide : Formula = record { vars = n + 2 + length sources; clauses = seen.state.clauses } in
-      let clauses : List (List ℤ) = read_clauses parts.before (pos (n + 1)) (pos (n + 2)) (word_at parts.words r.takes) (word_at parts.words r.start) sources in
+      let clauses : List (List ℤ) = read_clauses parts.before (pos (n + 1)) (pos (n + 2))
+      (word_at parts.words r.takes) (word_at parts.words r.start) sources in
       record { formula = with_clauses wide clauses; literal = pos (n + 1) }

@@ -5,7 +5,7 @@ use Rattle.order_formula.specs.declared.formula.Body.TheVariants as body
 use Rattle.order_formula.specs.declared.formula.Conjunct.{Conjunct}
 use Rattle.cnf_core.specs.Clauses.{Formula}
 use Rattle.bit_gates.specs.Folded.{Made}
-use Rattle.bit_words.specs.Words.{Walked}
+use Rattle.bit_ops.specs.bit_words.Words.{Walked}
 use Rattle.bit_blast.specs.Cases.{Parts, cases_made}
 use Rattle.bit_blast.specs.Reads.{read_made}
 
@@ -16,7 +16,9 @@ module _ (parts : Parts) where
 
   -- appends the root of the next conjunct
   abbrev pub with_root : Walked Formula → Conjunct → Walked Formula
-  with_root m c = let here : Made = body_made m.state c.body in record { state = here.formula; word = m.word ++ here.literal ∷ [] }
+  with_root m c =
+      let here : Made = body_made m.state c.body in
+      record { state = here.formula; word = m.word ++ here.literal ∷ [] }
 
   -- the roots of all conjuncts, in order
   abbrev pub roots : Formula → List Conjunct → Walked Formula
@@ -25,4 +27,5 @@ module _ (parts : Parts) where
   -- adds a clause for each root at the end, in order
   abbrev pub with_root_clauses : Formula → List Conjunct → Formula
   with_root_clauses f formula =
-      let m : Walked Formula = roots f formula in record { vars = m.state.vars; clauses = m.state.clauses ++ map (λ l. l ∷ []) m.word }
+      let m : Walked Formula = roots f formula in
+      record { vars = m.state.vars; clauses = m.state.clauses ++ map (λ l. l ∷ []) m.word }

@@ -8,8 +8,8 @@ use Rattle.order_formula.specs.Truth.{body_at, holds_at}
 use Rattle.order_formula.specs.Worlds.{World}
 use Rattle.cnf_core.specs.Clauses.{Formula, Valuation}
 use Rattle.bit_gates.specs.Laws.{IsModel}
-use Rattle.bit_words.specs.Laws.{values}
-use Rattle.bit_words.specs.Words.{Walked}
+use Rattle.bit_ops.specs.bit_words.Laws.{values}
+use Rattle.bit_ops.specs.bit_words.Words.{Walked}
 use Rattle.bit_order.specs.Comparators.{ordered}
 use Rattle.bit_order.specs.Laws.{IsWorldFor, SaysSame}
 use Rattle.bit_order.specs.Layouts.{Layout, load_word}
@@ -30,11 +30,14 @@ clauses_with_terms y nodes = term_words nodes (load_words y) (ordered y)
 
 -- the same, with the roots of a formula
 abbrev pub clauses_with_roots : Layout → List Node → List Conjunct → Walked Formula
-clauses_with_roots y nodes formula = let m : Words = clauses_with_terms y nodes in roots (parts_of y m.words) m.formula formula
+clauses_with_roots y nodes formula =
+    let m : Words = clauses_with_terms y nodes in roots (parts_of y m.words) m.formula formula
 
 -- all clauses, including those that assert the roots
 abbrev pub all_clauses : Layout → List Node → List Conjunct → Formula
-all_clauses y nodes formula = let m : Words = clauses_with_terms y nodes in with_root_clauses (parts_of y m.words) m.formula formula
+all_clauses y nodes formula =
+    let m : Words = clauses_with_terms y nodes in
+    with_root_clauses (parts_of y m.words) m.formula formula
 
 -- a valid input: the order asks about all that the formula compares, and numbers in terms are ints
 pub record IsReady (y : Layout) (nodes : List Node) (formula : List Conjunct) : Type 0 where
@@ -46,10 +49,13 @@ pub record IsReady (y : Layout) (nodes : List Node) (formula : List Conjunct) : 
 
 -- the models of the clauses correspond to the worlds in which the formula is true
 pub record WholeMeans (y : Layout) (nodes : List Node) (formula : List Conjunct) : Type 0 where
-  pub to : (v : Valuation) → IsModel v (all_clauses y nodes formula) → IsWorldFor y (world_of y v) × (holds_at nodes (world_of y v) formula ≡ true)
+  pub to : (v : Valuation) → IsModel v (all_clauses y nodes formula)
+      → IsWorldFor y (world_of y v) × (holds_at nodes (world_of y v) formula ≡ true)
   pub back : (w : World) → IsWorldFor y w → holds_at nodes w formula ≡ true
       → (v : Valuation) × IsModel v (all_clauses y nodes formula) × SaysSame y w (world_of y v)
   -- each world has a model of all other clauses, whose roots tell which conjuncts are true
   pub each : (w : World) → IsWorldFor y w
-      → (v : Valuation) × IsModel v (clauses_with_roots y nodes formula).state × SaysSame y w (world_of y v)
-      × (values v (clauses_with_roots y nodes formula).word ≡ map (λ c. body_at nodes (world_of y v) c.body) formula)
+      → (v : Valuation) × IsModel v (clauses_with_roots y nodes formula).state
+      × SaysSame y w (world_of y v)
+      × (values v (clauses_with_roots y nodes formula).word ≡ map
+      (λ c. body_at nodes (world_of y v) c.body) formula)

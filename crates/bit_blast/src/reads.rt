@@ -5,7 +5,7 @@ ghost use Rattle.cnf_core.specs.Clauses.{var_of};
 ghost use Rattle.cnf_core.specs.declared.cnf.TheConstants.{LIMIT};
 ghost use Rattle.bit_gates.specs.Folded.{HasRoom, IsLarger};
 ghost use Rattle.bit_order.specs.Comparators.{before_literal};
-ghost use Rattle.bit_words.specs.Words.{AreWithin};
+ghost use Rattle.bit_ops.specs.bit_words.Words.{AreWithin};
 ghost use Rattle.order_formula.specs.Formulas.{CandidateIsOf, ReadIsOf};
 ghost use Rattle.bit_blast.specs.Layered.{parts_of};
 ghost use Rattle.bit_blast.specs.Reads.{all_seen, last_clause, last_clauses, none_clauses, read_made, seen_made, sources_of, value_clauses, with_clauses};

@@ -3,7 +3,7 @@ ghost use Rattle.std.specs.Prelude.{◌≡◌, ◌<◌, ◌≤◌, ◌+◌, ◌+
 ghost use Rattle.cnf_core.specs.Clauses.{var_of};
 ghost use Rattle.cnf_core.specs.declared.cnf.TheConstants.{LIMIT};
 ghost use Rattle.bit_gates.specs.Folded.{HasRoom, IsLarger};
-ghost use Rattle.bit_words.specs.Words.{AreWithin};
+ghost use Rattle.bit_ops.specs.bit_words.Words.{AreWithin};
 ghost use Rattle.order_formula.specs.Formulas.{BodyIsOf, IsOf};
 ghost use Rattle.bit_blast.specs.Layered.{parts_of};
 ghost use Rattle.bit_blast.specs.Roots.{body_made, roots, with_root_clauses};

@@ -13,9 +13,9 @@ use Rattle.bit_gates.proofs.Meaning.{constant_of, constant_value}
 use Rattle.bit_words.specs.Words.{Walked, word_sum, chosen_words, inverted_word}
 use Rattle.bit_words.specs.Laws.{values, digit, number_of, value, at_places}
 use Rattle.bit_words.proofs.Meaning.{all_grown, chosen_words_mean, words-mean, invert_means}
-use Rattle.bit_arith.specs.Sums.{zeros}
-use Rattle.bit_arith.proofs.Meaning.{all_inverted}
-use Rattle.bit_arith.proofs.Values.{value_below, value_split, value_zeros, digit_small}
+use Rattle.bit_shift.specs.bit_arith.Sums.{zeros}
+use Rattle.bit_shift.proofs.bit_arith.Meaning.{all_inverted}
+use Rattle.bit_shift.proofs.bit_arith.Values.{value_below, value_split, value_zeros, digit_small}
 use Rattle.bit_shift.specs.Shifts.{shifted_in}
 use Rattle.bit_shift.proofs.Meaning.{chosen_values}
 use Rattle.bit_divide.specs.Quotients.{Divided, divided_place, divided}

@@ -13,8 +13,12 @@ pub record IsDivision (f : Formula) (xs ds : List ℤ) (m : Divided) : Type 0 wh
   pub quotient_length : length m.quotient ≡ length xs
   pub remainder : All (IsOf m.formula.vars) m.remainder
   pub remainder_length : length m.remainder ≡ length ds
-  pub number : (w : Valuation) → IsModel w m.formula → 0 < value w ds → 2 * value w ds ≤ 2 ^ length ds
-      → (value w xs ≡ value w m.quotient * value w ds + value w m.remainder) × (value w m.remainder < value w ds)
+  pub number : (w : Valuation) → IsModel w m.formula → 0 < value w ds
+      → 2 * value w ds ≤ 2 ^ length ds
+      → (value w xs ≡ value w m.quotient * value w ds + value w m.remainder)
+      × (value w m.remainder < value w ds)
 
 abbrev pub DivisionMeans : Type 0
-DivisionMeans = (f : Formula) (xs ds : List ℤ) → 0 < f.vars → All (IsOf f.vars) xs → All (IsOf f.vars) ds → IsDivision f xs ds (division f xs ds)
+DivisionMeans =
+    (f : Formula) (xs ds : List ℤ) → 0 < f.vars → All (IsOf f.vars) xs → All (IsOf f.vars) ds
+    → IsDivision f xs ds (division f xs ds)

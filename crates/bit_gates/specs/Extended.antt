@@ -11,7 +11,8 @@ pub record IsExtended (f g : Formula) : Type 0 where
   -- each model of the new formula is a model of the old one
   pub before : (w : Valuation) → IsModel w g → IsModel w f
   -- each model of the old formula extends to a model of the new one
-  pub extends : (v : Valuation) → IsOver f → IsModel v f → (w : Valuation) × IsModel w g × Agree f.vars v w
+  pub extends : (v : Valuation) → IsOver f → IsModel v f
+      → (w : Valuation) × IsModel w g × Agree f.vars v w
 
 -- a block of gates extends a formula
 abbrev pub GatesExtend : Type 0

@@ -23,12 +23,18 @@ kept f l = record { formula = f; literal = l }
 
 -- a new gate, with the literal of its variable
 abbrev pub new_gate : Formula → Gate → ℤ → ℤ → Made
-new_gate f g a b = record { formula = after_gate f (record { gate = g; first = a; second = b }); literal = pos (suc f.vars) }
+new_gate f g a b =
+    record {
+      formula = after_gate f (record { gate = g; first = a; second = b });
+      literal = pos
+          (suc f.vars);
+    }
 
 -- the conjunction of two literals
 abbrev pub conjunction : Formula → ℤ → ℤ → Made
 conjunction f a b =
-    if int_eq a (constant false) || int_eq b (constant false) || int_eq a (neg_ℤ b) then kept f (constant false)
+    if int_eq a (constant false) || int_eq b (constant false) || int_eq a (neg_ℤ b)
+    then kept f (constant false)
     else if int_eq a (constant true) || int_eq a b then kept f b
     else if int_eq b (constant true) then kept f a
     else new_gate f And a b
@@ -62,7 +68,8 @@ folded_gate Xor f a b = differing f a b
 abbrev pub conditional : Formula → ℤ → ℤ → ℤ → Made
 conditional f c a b =
     if int_eq a b then kept f a
-    else let x : Made = conjunction f c a in let y : Made = conjunction x.formula (neg_ℤ c) b in disjunction y.formula x.literal y.literal
+    else let x : Made = conjunction f c a in let y : Made = conjunction x.formula (neg_ℤ c) b in
+    disjunction y.formula x.literal y.literal
 
 -- a formula has room for `most` more variables and `most` more clauses
 abbrev pub HasRoom : ℕ → Formula → Type 0
@@ -70,4 +77,5 @@ HasRoom most f = (f.vars + most < LIMIT) × (length f.clauses + most < LIMIT)
 
 -- `g` has at most `most` more variables and at most `most` more clauses than `f`
 abbrev pub IsLarger : ℕ → Formula → Formula → Type 0
-IsLarger most f g = (f.vars ≤ g.vars) × (g.vars ≤ f.vars + most) × (length g.clauses ≤ length f.clauses + most)
+IsLarger most f g =
+    (f.vars ≤ g.vars) × (g.vars ≤ f.vars + most) × (length g.clauses ≤ length f.clauses + most)

@@ -31,4 +31,5 @@ pub record GatesMean : Type 0 where
   pub gate : (g : Gate) (f : Formula) (a b : ℤ) → IsOf f.vars a → IsOf f.vars b
       → IsBit f (folded_gate g f a b) (λ w. gate_value g (literal_true w a) (literal_true w b))
   pub choose : (f : Formula) (c a b : ℤ) → IsOf f.vars c → IsOf f.vars a → IsOf f.vars b
-      → IsBit f (conditional f c a b) (λ w. if literal_true w c then literal_true w a else literal_true w b)
+      → IsBit f (conditional f c a b)
+      (λ w. if literal_true w c then literal_true w a else literal_true w b)

@@ -24,6 +24,8 @@ pub record HasInt (f : Formula) (m : Walked Formula) (meaning : Valuation → �
 
 -- each operator is right for all operands, including a divisor of 0 and any shift distance
 pub record OpsMean : Type 0 where
-  pub unary : (op : UnOp) (f : Formula) (xs : List ℤ) → 0 < f.vars → IsOperand f xs → HasInt f (unary_word op f xs) (λ w. unary op (int_value w xs))
-  pub binary : (op : BinOp) (f : Formula) (xs ys : List ℤ) → 0 < f.vars → IsOperand f xs → IsOperand f ys
+  pub unary : (op : UnOp) (f : Formula) (xs : List ℤ) → 0 < f.vars → IsOperand f xs
+      → HasInt f (unary_word op f xs) (λ w. unary op (int_value w xs))
+  pub binary : (op : BinOp) (f : Formula) (xs ys : List ℤ) → 0 < f.vars → IsOperand f xs
+      → IsOperand f ys
       → HasInt f (binary_word op f xs ys) (λ w. binary op (int_value w xs) (int_value w ys))

@@ -19,7 +19,8 @@ some_of f xs = any_of (kept f (constant false)) xs
 
 -- whether two words differ at some place
 abbrev pub differ : Formula → List ℤ → List ℤ → Made
-differ f xs ys = let apart : Walked Formula = gated_words Xor f xs ys in some_of apart.state apart.word
+differ f xs ys =
+    let apart : Walked Formula = gated_words Xor f xs ys in some_of apart.state apart.word
 
 -- the word 1 if a literal is true, else 0
 abbrev pub truth_word : Made → Walked Formula

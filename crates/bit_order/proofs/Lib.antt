@@ -1,3 +1,4 @@
+pub use Rattle.bit_ranks.proofs as bit_ranks
 pub mod Ranges
 pub mod Counts
 pub mod ClauseLaws

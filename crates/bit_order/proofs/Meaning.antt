@@ -10,7 +10,7 @@ use Rattle.std.proofs.lemmas.List.Elements.{All-cons, All-nil, All-get_or, All-f
 use Rattle.std.proofs.lemmas.List.FromFn.{fill_by_all, length-map-range_with_len, get_or-map-range_with_len}
 use Rattle.std.proofs.lemmas.List.Quantifiers.{position-Some}
 use Rattle.std.proofs.lemmas.List.Sums.{passes_at_first}
-use Rattle.int_ops.specs.Arith.{IsInt}
+use Rattle.bit_arith.specs.int_ops.Arith.{IsInt}
 use Rattle.cnf_core.specs.Clauses.{var_of, Valuation, literal_true, satisfies, is_within}
 use Rattle.cnf_core.specs.Gates.{Agree, IsOver}
 use Rattle.bit_gates.specs.Folded.{constant}

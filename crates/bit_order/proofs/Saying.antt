@@ -11,8 +11,8 @@ use Rattle.std.proofs.lemmas.List.Elements.{All-get_or}
 use Rattle.std.proofs.lemmas.List.FromFn.{fill_by_all}
 use Rattle.std.proofs.lemmas.Nat.Bits.{bit_at-lt}
 use Rattle.std.proofs.lemmas.Option.{none-some, same_Some}
-use Rattle.int_ops.specs.Arith.{IsInt}
-use Rattle.int_ops.proofs.Bits.{unsigned-below}
+use Rattle.bit_arith.specs.int_ops.Arith.{IsInt}
+use Rattle.bit_arith.proofs.int_ops.Bits.{unsigned-below}
 use Rattle.cnf_core.specs.Clauses.{Valuation, literal_true, satisfies}
 use Rattle.bit_gates.specs.Laws.{IsModel}
 use Rattle.bit_words.specs.Laws.{digit, value}

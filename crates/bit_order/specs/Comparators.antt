@@ -20,11 +20,15 @@ completed o events = fold with_pair o (pairs_among events)
 
 -- whether the lesser event of a pair comes before the greater
 unfoldable pub compared_pair : Formula → Pair → Made
-compared_pair f p = less_literal (kept f (constant (nat_lt p.lesser p.greater))) (position_word p.lesser) (position_word p.greater)
+compared_pair f p =
+    less_literal (kept f (constant (nat_lt p.lesser p.greater))) (position_word p.lesser)
+    (position_word p.greater)
 
 -- appends the literal of one more pair
 abbrev pub with_comparator : Walked Formula → Pair → Walked Formula
-with_comparator m p = let here : Made = compared_pair m.state p in record { state = here.formula; word = m.word ++ here.literal ∷ [] }
+with_comparator m p =
+    let here : Made = compared_pair m.state p in
+    record { state = here.formula; word = m.word ++ here.literal ∷ [] }
 
 -- the literals of all pairs that the order asks about, in order
 abbrev pub comparators : Layout → Walked Formula
@@ -33,15 +37,19 @@ comparators y = fold with_comparator (record { state = base y; word = [] }) y.or
 -- the literal of a pair, if the order asks about it
 abbrev pub comparator : Layout → ℕ → ℕ → Option ℤ
 comparator y first second =
-    option_map (λ number. slice_index_or (comparators y).word number (constant false)) (position (same_pair (pair_of first second)) y.order.pairs)
+    option_map (λ number. slice_index_or (comparators y).word number (constant false))
+    (position (same_pair (pair_of first second)) y.order.pairs)
 
 -- the literal of "one event comes before another", or false if the order doesn't ask about them
 abbrev pub before_literal : Layout → (first second : ℕ) → ℤ
-before_literal y first second = option_map_or (λ l. if nat_le first second then l else neg_ℤ l) (comparator y first second) (constant false)
+before_literal y first second =
+    option_map_or (λ l. if nat_le first second then l else neg_ℤ l) (comparator y first second)
+    (constant false)
 
 -- transitivity in both directions for three events, from the literals of their pairs
 abbrev pub clauses_of_three : (first_second second_third first_third : ℤ) → List (List ℤ)
-clauses_of_three a b c = folded_clause (neg_ℤ a ∷ neg_ℤ b ∷ c ∷ []) ++ folded_clause (a ∷ b ∷ neg_ℤ c ∷ [])
+clauses_of_three a b c =
+    folded_clause (neg_ℤ a ∷ neg_ℤ b ∷ c ∷ []) ++ folded_clause (a ∷ b ∷ neg_ℤ c ∷ [])
 
 -- the same, if all three pairs have literals
 abbrev pub where_asked : ℤ → Option ℤ → Option ℤ → List (List ℤ)
@@ -51,16 +59,25 @@ where_asked a None _ = []
 
 -- transitivity for a pair and a third event
 abbrev pub transitive : Layout → Pair → ℕ → List (List ℤ)
-transitive y p third = where_asked (before_literal y p.lesser p.greater) (comparator y p.greater third) (comparator y p.lesser third)
+transitive y p third =
+    where_asked (before_literal y p.lesser p.greater) (comparator y p.greater third)
+    (comparator y p.lesser third)
 
 -- transitivity for each pair and each event after both
 abbrev pub transitivity : Layout → List (List ℤ)
 transitivity y =
-    flat_map (λ p. flat_map (transitive y p) (range_with_len (p.greater + 1) (y.order.events - (p.greater + 1)))) y.order.pairs
+    flat_map
+    (λ p. flat_map (transitive y p)
+    (range_with_len (p.greater + 1) (y.order.events - (p.greater + 1)))) y.order.pairs
 
 -- the formula of an order: its variables, the comparisons of its pairs, and transitivity
 abbrev pub ordered : Layout → Formula
-ordered y = record { vars = (comparators y).state.vars; clauses = (comparators y).state.clauses ++ transitivity y }
+ordered y =
+    record {
+      vars = (comparators y).state.vars;
+      clauses = (comparators y).state.clauses
+          ++ transitivity y;
+    }
 
 -- an upper bound on the variables, and on the clauses, if no pair and no choice occurs twice
 abbrev pub size_of : Layout → ℕ

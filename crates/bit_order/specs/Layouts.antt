@@ -52,7 +52,9 @@ exclusion start choices earlier later =
 
 abbrev pub exclusions : ℕ → List Choice → List (List ℤ)
 exclusions start choices =
-    flat_map (λ later. flat_map (λ earlier. exclusion start choices earlier later) (range_with_len 0 later)) (range_with_len 0 (length choices))
+    flat_map
+    (λ later. flat_map (λ earlier. exclusion start choices earlier later) (range_with_len 0 later))
+    (range_with_len 0 (length choices))
 
 -- the formula before any gate: its variables, variable 1 is true, and the exclusions
 abbrev pub base : Layout → Formula
@@ -63,4 +65,6 @@ base y = record {
 
 -- the literal of "this event ends this sleep", or false if it isn't among the choices
 abbrev pub ends_literal : Layout → (sleep by : ℕ) → ℤ
-ends_literal y sleep by = option_map_or (choice_literal y) (position (same_choice (record { sleep = sleep; by = by })) y.order.choices) (constant false)
+ends_literal y sleep by =
+    option_map_or (choice_literal y)
+    (position (same_choice (record { sleep = sleep; by = by })) y.order.choices) (constant false)

@@ -1,3 +1,5 @@
+pub use Rattle.bit_gates.specs as bit_gates
+pub use Rattle.bit_ranks.specs as bit_ranks
 pub mod Clauses
 pub mod Layouts
 pub mod Comparators

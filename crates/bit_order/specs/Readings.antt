@@ -16,11 +16,13 @@ bits_in y v = map (λ event. value v (position_word event)) (range_with_len 0 y.
 
 -- whether a choice is made and is for this sleep
 abbrev pub is_made : Layout → Valuation → (sleep number : ℕ) → Bool
-is_made y v sleep number = (choice_at y.order.choices number).sleep == sleep && literal_true v (choice_literal y number)
+is_made y v sleep number =
+    (choice_at y.order.choices number).sleep == sleep && literal_true v (choice_literal y number)
 
 abbrev pub ender_in : Layout → Valuation → ℕ → Option ℕ
 ender_in y v sleep =
-    option_map (λ number. (choice_at y.order.choices number).by) (find (is_made y v sleep) (range_with_len 0 (length y.order.choices)))
+    option_map (λ number. (choice_at y.order.choices number).by)
+    (find (is_made y v sleep) (range_with_len 0 (length y.order.choices)))
 
 abbrev pub world_of : Layout → Valuation → World
 world_of y v = record {

@@ -1,2 +1,3 @@
+pub use Rattle.bit_arith.proofs as bit_arith
 pub mod Moves
 pub mod Meaning

@@ -10,8 +10,8 @@ use Rattle.std.proofs.lemmas.Int.{of_z-to_z, to_z-of_z, to_z_pos, wrapping_mul-b
 use mir.ValLaws.{to_z-neg, to_z-Fits}
 use Rattle.std.proofs.lemmas.List.{drop-map, map-append, length-map, length-take, drop_all, get_or_default}
 use Rattle.std.proofs.lemmas.List.Elements.{All-head, All-tail}
-use Rattle.int_ops.specs.Arith.{times, is_distance, shifted_left, shifted_right}
-use Rattle.int_ops.proofs.Bits.{unsigned-below}
+use Rattle.bit_arith.specs.int_ops.Arith.{times, is_distance, shifted_left, shifted_right}
+use Rattle.bit_arith.proofs.int_ops.Bits.{unsigned-below}
 use Rattle.cnf_core.specs.Clauses.{Formula, Valuation, literal_true}
 use Rattle.bit_gates.specs.Folded.{constant}
 use Rattle.bit_gates.specs.Laws.{IsModel, IsOf}

@@ -1,7 +1,7 @@
 -- What shifts mean.
 use Rattle.std.specs.Prelude.{◌≡◌, ℕ, ◌≤◌, ◌*◌, ◌/◌, ◌%◌, ◌^◌, Bool, true, false, not, List, ℤ, pos, map, length}
 use Rattle.std.specs.List.{All}
-use Rattle.int_ops.specs.Arith.{shifted_left, shifted_right}
+use Rattle.bit_arith.specs.int_ops.Arith.{shifted_left, shifted_right}
 use Rattle.cnf_core.specs.Clauses.{Formula, Valuation, literal_true}
 use Rattle.bit_gates.specs.Folded.{constant}
 use Rattle.bit_gates.specs.Laws.{IsModel, IsOf}
@@ -29,14 +29,19 @@ pub record ShiftsMean : Type 0 where
   -- shifting up with 0 coming in multiplies by a power of 2
   pub up : (f : Formula) (xs ds : List ℤ) → AreShifted f (constant false) xs ds
       → (w : Valuation) → IsModel w (shifted Up (constant false) 1 f xs ds).state
-      → value w (shifted Up (constant false) 1 f xs ds).word ≡ (value w xs * 2 ^ value w ds) % 2 ^ length xs
+      → value w (shifted Up (constant false) 1 f xs ds).word ≡
+      (value w xs * 2 ^ value w ds) % 2 ^ length xs
   -- shifting down divides by a power of 2; if the bit that comes in is 1, complements are divided
-  pub down : (bit : ℤ) (f : Formula) (xs ds : List ℤ) → AreShifted f bit xs ds → (w : Valuation) → IsModel w (shifted Down bit 1 f xs ds).state
-      → number_from (literal_true w bit) (values w (shifted Down bit 1 f xs ds).word) ≡ number_from (literal_true w bit) (values w xs) / 2 ^ value w ds
+  pub down : (bit : ℤ) (f : Formula) (xs ds : List ℤ) → AreShifted f bit xs ds → (w : Valuation)
+      → IsModel w (shifted Down bit 1 f xs ds).state
+      → number_from (literal_true w bit) (values w (shifted Down bit 1 f xs ds).word) ≡ number_from
+      (literal_true w bit) (values w xs) / 2 ^ value w ds
   -- at 32 bits
   pub left : (f : Formula) (xs ds : List ℤ) → AreShifted f (constant false) xs ds → length xs ≡ 32
       → (w : Valuation) → IsModel w (shifted Up (constant false) 1 f xs ds).state → value w ds ≤ 31
-      → int_value w (shifted Up (constant false) 1 f xs ds).word ≡ shifted_left (int_value w xs) (pos (value w ds))
+      → int_value w (shifted Up (constant false) 1 f xs ds).word ≡ shifted_left (int_value w xs)
+      (pos (value w ds))
   pub right : (f : Formula) (xs ds : List ℤ) → AreShifted f (top xs) xs ds → length xs ≡ 32
       → (w : Valuation) → IsModel w (shifted Down (top xs) 1 f xs ds).state → value w ds ≤ 31
-      → int_value w (shifted Down (top xs) 1 f xs ds).word ≡ shifted_right (int_value w xs) (pos (value w ds))
+      → int_value w (shifted Down (top xs) 1 f xs ds).word ≡ shifted_right (int_value w xs)
+      (pos (value w ds))

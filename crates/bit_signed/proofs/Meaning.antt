@@ -11,7 +11,7 @@ use mir.ValLaws.{to_z-neg}
 use Rattle.std.proofs.lemmas.Bool.Decides.{nat_tests, Decides-int_eq}
 use Rattle.std.proofs.lemmas.List.{length-map, length-take, length-replicate}
 use Rattle.std.proofs.lemmas.List.Elements.{All-replicate, All-get_or}
-use Rattle.int_ops.specs.Arith.{wrapped, with_sign, signs_differ, quotient, remainder}
+use Rattle.bit_divide.specs.int_ops.Arith.{wrapped, with_sign, signs_differ, quotient, remainder}
 use Rattle.cnf_core.specs.Clauses.{var_of, Formula, Valuation, literal_true}
 use Rattle.cnf_core.specs.Gates.{gate_value}
 use Rattle.cnf_core.specs.declared.gates.Gate.TheVariants.{Xor}
@@ -23,12 +23,12 @@ use Rattle.bit_gates.proofs.Meaning.{constant_of, constant_value, differing_bit}
 use Rattle.bit_words.specs.Words.{Walked, gated_words, word_sum}
 use Rattle.bit_words.specs.Laws.{values, digit, number_of, value, at_places, IsWord}
 use Rattle.bit_words.proofs.Meaning.{all_grown, gated_words_mean, words-mean, compared_bit}
-use Rattle.bit_arith.specs.Sums.{zeros}
-use Rattle.bit_arith.specs.Laws.{int_value, IsNumber, AreOperands}
-use Rattle.bit_arith.proofs.Values.{value_below, value_append, value_zeros, remainder_of}
-use Rattle.bit_shift.specs.Laws.{number_from}
-use Rattle.bit_shift.specs.Shifts.{top}
-use Rattle.bit_shift.proofs.Meaning.{top_split, opposite_number, fits_32, bits_32}
+use Rattle.bit_divide.specs.bit_arith.Sums.{zeros}
+use Rattle.bit_divide.specs.bit_arith.Laws.{int_value, IsNumber, AreOperands}
+use Rattle.bit_divide.proofs.bit_arith.Values.{value_below, value_append, value_zeros, remainder_of}
+use Rattle.bit_divide.specs.bit_shift.Laws.{number_from}
+use Rattle.bit_divide.specs.bit_shift.Shifts.{top}
+use Rattle.bit_divide.proofs.bit_shift.Meaning.{top_split, opposite_number, fits_32, bits_32}
 use Rattle.bit_divide.specs.Quotients.{Divided, division}
 use Rattle.bit_divide.specs.Laws.{IsDivision}
 use Rattle.bit_divide.proofs.Meaning.{division-means}

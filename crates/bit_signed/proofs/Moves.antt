@@ -7,7 +7,7 @@ use Rattle.cnf_core.specs.Clauses.{var_of}
 use Rattle.bit_gates.specs.Folded.{constant}
 use Rattle.bit_gates.proofs.Blocks.{var_of-opposite}
 use Rattle.bit_words.specs.Words.{AreWithin}
-use Rattle.bit_shift.specs.Shifts.{top}
+use Rattle.bit_divide.specs.bit_shift.Shifts.{top}
 use Rattle.bit_signed.specs.Signed.{with_sign_inverted}
 
 pub top_is : (xs : List ℤ) (n : ℕ) (x : ℤ) → 0 < n → length xs ≡ n → x ≡ get_or xs (n - 1) x → x ≡ top xs

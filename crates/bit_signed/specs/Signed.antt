@@ -4,8 +4,8 @@ use Rattle.cnf_core.specs.Clauses.{Formula}
 use Rattle.cnf_core.specs.declared.gates.Gate.TheVariants.{Xor}
 use Rattle.bit_gates.specs.Folded.{Made, kept, differing}
 use Rattle.bit_words.specs.Words.{Walked, gated_words, word_sum, less_literal}
-use Rattle.bit_arith.specs.Sums.{without_carry, zeros}
-use Rattle.bit_shift.specs.Shifts.{top}
+use Rattle.bit_divide.specs.bit_arith.Sums.{without_carry, zeros}
+use Rattle.bit_divide.specs.bit_shift.Shifts.{top}
 use Rattle.bit_divide.specs.Quotients.{Divided, division}
 
 -- a word, negated (inverted, plus 1) if the literal `sign` is true
@@ -30,7 +30,8 @@ quotient_word f xs ys =
 
 -- the remainder of the magnitudes, with the dividend's sign
 abbrev pub remainder_word : Formula → List ℤ → List ℤ → Walked Formula
-remainder_word f xs ys = let m : Divided = magnitudes_divided f xs ys in negated_where m.formula m.remainder (top xs)
+remainder_word f xs ys =
+    let m : Divided = magnitudes_divided f xs ys in negated_where m.formula m.remainder (top xs)
 
 -- a word with its sign bit inverted
 abbrev pub with_sign_inverted : List ℤ → List ℤ
@@ -38,4 +39,5 @@ with_sign_inverted ls = take (length ls - 1) ls ++ neg_ℤ (top ls) ∷ []
 
 -- whether the first signed number is smaller; `low` if they are equal
 abbrev pub compared_signed : Formula → ℤ → List ℤ → List ℤ → Made
-compared_signed f low xs ys = less_literal (kept f low) (with_sign_inverted xs) (with_sign_inverted ys)
+compared_signed f low xs ys =
+    less_literal (kept f low) (with_sign_inverted xs) (with_sign_inverted ys)

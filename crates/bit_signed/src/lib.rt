@@ -5,7 +5,7 @@ ghost use Rattle.std.specs.Prelude.{◌≡◌, ◌<◌, ◌≤◌, ◌+◌, ◌*
 ghost use Rattle.cnf_core.specs.Clauses.{var_of};
 ghost use Rattle.bit_gates.specs.Folded.{HasRoom, IsLarger};
 ghost use Rattle.bit_words.specs.Words.{AreWithin};
-ghost use Rattle.bit_shift.specs.Shifts.{top};
+ghost use Rattle.bit_divide.specs.bit_shift.Shifts.{top};
 ghost use Rattle.bit_signed.specs.Laws.{SignedMean};
 ghost use Rattle.bit_signed.specs.Signed.{negated_where, magnitudes_divided, quotient_word, remainder_word, with_sign_inverted, compared_signed};
 

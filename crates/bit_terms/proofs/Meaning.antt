@@ -12,8 +12,8 @@ use Rattle.std.proofs.lemmas.Nat.Bits.{bit_at-lt}
 use Rattle.std.proofs.lemmas.List.{length-replicate, length_push, map-append}
 use Rattle.std.proofs.lemmas.List.Elements.{All-nil, All-cons, All-head, All-tail, All-map, All-push, All-replicate, All-weaker}
 use Rattle.std.proofs.lemmas.List.FromFn.{length-map-range_with_len}
-use Rattle.int_ops.specs.Arith.{IsInt, bit, unary, binary}
-use Rattle.int_ops.proofs.Bits.{unsigned-below}
+use Rattle.sym_terms.specs.int_ops.Arith.{IsInt, bit, unary, binary}
+use Rattle.sym_terms.proofs.int_ops.Bits.{unsigned-below}
 use Rattle.sym_terms.specs.declared.node.Node.{Node}
 use Rattle.sym_terms.specs.declared.node.Node.TheVariants.{Constant, Symbol, Unary, Binary}
 use Rattle.sym_terms.specs.Values.{node_value}
@@ -26,9 +26,9 @@ use Rattle.bit_gates.proofs.Meaning.{constant_of, constant_value}
 use Rattle.bit_words.specs.Laws.{digit, value}
 use Rattle.bit_words.specs.Words.{Walked}
 use Rattle.bit_words.proofs.Meaning.{all_grown}
-use Rattle.bit_arith.specs.Laws.{int_value}
-use Rattle.bit_arith.specs.Sums.{zeros}
-use Rattle.bit_arith.proofs.Values.{value_below, value_zeros}
+use Rattle.bit_ops.specs.bit_arith.Laws.{int_value}
+use Rattle.bit_ops.specs.bit_arith.Sums.{zeros}
+use Rattle.bit_ops.proofs.bit_arith.Values.{value_below, value_zeros}
 use Rattle.bit_ops.specs.Laws.{IsOperand, HasInt}
 use Rattle.bit_ops.specs.Ops.{some_of}
 use Rattle.bit_ops.proofs.Meaning.{unary_means, binary_means, some_bit, same_int, bit_with}

@@ -1,13 +1,13 @@
 -- The circuits of terms: one word for each term.
 use Rattle.std.specs.Prelude.{ℕ, ◌==◌, List, [], ◌∷◌, ◌++◌, ℤ, map, fold, get_or}
 use Rattle.std.specs.List.{range_with_len}
-use Rattle.int_ops.specs.Arith.{bit}
+use Rattle.sym_terms.specs.int_ops.Arith.{bit}
 use Rattle.sym_terms.specs.declared.node.Node.{Node}
 use Rattle.sym_terms.specs.declared.node.Node.TheVariants.{Constant, Symbol, Unary, Binary}
 use Rattle.cnf_core.specs.Clauses.{Formula}
 use Rattle.bit_gates.specs.Folded.{constant}
 use Rattle.bit_words.specs.Words.{Walked}
-use Rattle.bit_arith.specs.Sums.{zeros}
+use Rattle.bit_ops.specs.bit_arith.Sums.{zeros}
 use Rattle.bit_ops.specs.Ops.{unary_word, binary_word}
 
 -- the word of a number: a constant for each bit
@@ -33,7 +33,8 @@ pub record Words : Type 0 where
 -- appends the word of the next node
 abbrev pub with_word : (symbols : List (List ℤ)) → Words → Node → Words
 with_word symbols m node =
-    let here : Walked Formula = node_word symbols m.words m.formula node in record { formula = here.state; words = m.words ++ here.word ∷ [] }
+    let here : Walked Formula = node_word symbols m.words m.formula node in
+    record { formula = here.state; words = m.words ++ here.word ∷ [] }
 
 -- the words of all nodes, in order
 abbrev pub term_words : List Node → (symbols : List (List ℤ)) → Formula → Words

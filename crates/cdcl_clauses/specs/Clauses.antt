@@ -20,7 +20,8 @@ at cs k = slice_index_or cs k no_clause
 
 -- a kept clause, with the two literals that it watches
 abbrev pub kept_clause : List ℕ → ℕ → ℕ → Clause
-kept_clause literals first second = record { literals = literals; first = first; second = second; kept = true }
+kept_clause literals first second =
+    record { literals = literals; first = first; second = second; kept = true }
 
 -- the clauses once the one at an index is dropped
 abbrev pub dropped : List Clause → ℕ → List Clause

@@ -39,12 +39,14 @@ pub record AreLinked (variables : ℕ) (cs : List Clause) (ws : List (List Watch
 
 -- if the first list falsifies a literal that a clause watches, the second makes the clause true
 abbrev pub Guards : List ℕ → List ℕ → Clause → Type 0
-Guards falsified true_literals c = (l : ℕ) → watches c l ≡ true → Contains falsified (opposite_of l) → HasTrue true_literals c
+Guards falsified true_literals c =
+    (l : ℕ) → watches c l ≡ true → Contains falsified (opposite_of l) → HasTrue true_literals c
 
 -- each level is closed under unit propagation without conflict; the last, as far as propagated
 pub record AreGuarded (t : Trail) (cs : List Clause) : Type 0 where
   pub below : (k i : ℕ) → k < length cs → i < length t.starts
-      → Guards (take (slice_index t.starts i) t.literals) (take (slice_index t.starts i) t.literals) (at cs k)
+      → Guards (take (slice_index t.starts i) t.literals)
+      (take (slice_index t.starts i) t.literals) (at cs k)
   pub last : (k : ℕ) → k < length cs → Guards (take t.propagated t.literals) t.literals (at cs k)
 
 -- the clause is kept and has the literal, and all its other literals are false
@@ -63,7 +65,8 @@ pub record BeginsAt (t : Trail) (p : ℕ) : Type 0 where
 -- each literal begins a level, or has a reason in the literals before it
 abbrev pub AreReasoned : Trail → List Clause → Type 0
 AreReasoned t cs = (p : ℕ) → p < length t.literals
-    → MatchOption (slice_index_or t.reasons p None) (BeginsAt t p) (IsReason cs (take p t.literals) (slice_index t.literals p))
+    → MatchOption (slice_index_or t.reasons p None) (BeginsAt t p)
+    (IsReason cs (take p t.literals) (slice_index t.literals p))
 
 -- the invariant of a search
 pub record AreConsistent (t : Trail) (cs : List Clause) (ws : List (List Watch)) : Type 0 where
@@ -99,4 +102,6 @@ root_of t = take (slice_index_or t.starts 0 (length t.literals)) t.literals
 
 -- the literal of each kept unit clause was true before the first level began
 abbrev pub AreRooted : Trail → List Clause → Type 0
-AreRooted t cs = (k : ℕ) → k < length cs → (at cs k).kept ≡ true → (at cs k).first ≡ (at cs k).second → Contains (root_of t) (at cs k).first
+AreRooted t cs =
+    (k : ℕ) → k < length cs → (at cs k).kept ≡ true → (at cs k).first ≡ (at cs k).second
+    → Contains (root_of t) (at cs k).first

@@ -4,7 +4,7 @@ use Rattle.std.specs.Prelude.{Contains, All, ◌||◌}
 use Rattle.std.proofs.lemmas.List.{length_push}
 use Rattle.cnf_core.specs.Clauses.{Formula}
 use Rattle.refute_check.specs.Refutations.{Checking, state_after_pass}
-use Rattle.list_laws.specs.Lists.{is_nil}
+use Rattle.refute_check.specs.list_laws.Lists.{is_nil}
 use Rattle.refute_check.specs.declared.line.Line.{Line}
 use Rattle.cdcl_clauses.specs.Clauses.{Clause}
 use Rattle.cdcl_clauses.specs.Invariants.{AreSame}

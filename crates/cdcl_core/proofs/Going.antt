@@ -11,7 +11,7 @@ use Rattle.cdcl_trail.specs.Trail.{Trail, IsTrail, cut_to}
 use Rattle.cdcl_clauses.specs.Clauses.{Clause, listed}
 use Rattle.cdcl_clauses.specs.declared.watches.Watch.{Watch}
 use Rattle.std.proofs.lemmas.List.Elements.{All-contains}
-use Rattle.cdcl_propagate.proofs.Guarding.{contains-take}
+use Rattle.cdcl_steps.proofs.cdcl_propagate.Guarding.{contains-take}
 use Rattle.cdcl_learn.specs.Shown.{Leads, Shows}
 use Rattle.cdcl_learn.specs.Lessons.{TurnsBack}
 use Rattle.cdcl_steps.specs.Attached.{CanAssert, both_listed}

@@ -41,14 +41,16 @@ Spares n (Delete numbers) = All (λ k. n < k) numbers
 
 -- of the clauses that lines added, at most half, the variables' number and 4,000 more are kept
 abbrev pub IsRoomy : ℕ → List Line → Type 0
-IsRoomy vars lines = count_by adds lines ≤ count_of_deleted lines + vars + 4000 + (count_by adds lines + 1) / 2
+IsRoomy vars lines =
+    count_by adds lines ≤ count_of_deleted lines + vars + 4000 + (count_by adds lines + 1) / 2
 
 -- no clause of the formula is deleted; at most half of the added clauses are deleted at each line;
 -- and not too many are kept just before each line that adds one
 pub record DeletesFew (f : Formula) (lines : List Line) : Type 0 where
   pub spares : All (Spares (length f.clauses)) lines
   pub few : (k : ℕ) → 2 * count_of_deleted (take k lines) ≤ count_by adds (take k lines)
-  pub roomy : (k : ℕ) → IfSome (slice_get lines k) (λ l. adds l ≡ true → IsRoomy f.vars (take k lines))
+  pub roomy : (k : ℕ)
+      → IfSome (slice_get lines k) (λ l. adds l ≡ true → IsRoomy f.vars (take k lines))
 
 -- each variable has a value, and the values satisfy the clauses
 pub record IsSolution (f : Formula) (values : List Bool) : Type 0 where
@@ -82,6 +84,9 @@ pub record GoesOn (s t : Searched) : Type 0 where
 
 -- a search answers for good before it learns as many clauses as asked for, or pauses at that number
 abbrev pub Answers : Searched → Searched → ℕ → Progress → Type 0
-Answers s t conflicts (Sat values) = (t.answer ≡ Some (Sat values)) × (count_of_added t.lines < count_of_added s.lines + conflicts)
-Answers s t conflicts Closed = (t.answer ≡ Some Closed) × (count_of_added t.lines < count_of_added s.lines + conflicts)
-Answers s t conflicts Paused = (t.answer ≡ None) × (count_of_added t.lines ≡ count_of_added s.lines + conflicts)
+Answers s t conflicts (Sat values) =
+    (t.answer ≡ Some (Sat values)) × (count_of_added t.lines < count_of_added s.lines + conflicts)
+Answers s t conflicts Closed =
+    (t.answer ≡ Some Closed) × (count_of_added t.lines < count_of_added s.lines + conflicts)
+Answers s t conflicts Paused =
+    (t.answer ≡ None) × (count_of_added t.lines ≡ count_of_added s.lines + conflicts)

@@ -12,4 +12,6 @@ use Rattle.cdcl_core.specs.declared.progress.Solved.TheVariants.{Sat, Unsat, Spe
 abbrev pub Solves : Formula → ℕ → Solved → Type 0
 Solves f budget (Sat values) = IsSolution f values
 Solves f budget (Unsat lines) = IsClosed f lines × AreFresh f lines × DeletesFew f lines
-Solves f budget (Spent lines) = IsOpen f lines × AreFresh f lines × DeletesFew f lines × (count_of_added lines ≡ budget) × (count_by adds lines ≡ budget)
+Solves f budget (Spent lines) =
+    IsOpen f lines × AreFresh f lines × DeletesFew f lines × (count_of_added lines ≡ budget)
+    × (count_by adds lines ≡ budget)

@@ -15,11 +15,13 @@ pub record TurnsBack (t : Trail) (literals : List ℕ) (level asserted beside : 
   pub has : Contains literals asserted
   pub was_false : Contains t.literals (opposite_of asserted)
   pub opens : Contains (take (slice_index t.starts level) t.literals) (opposite_of asserted) → ⊥
-  pub others : (x : ℕ) → Contains literals x → x ≢ asserted → Contains (take (slice_index t.starts level) t.literals) (opposite_of x)
+  pub others : (x : ℕ) → Contains literals x → x ≢ asserted
+      → Contains (take (slice_index t.starts level) t.literals) (opposite_of x)
   pub beside_in : Contains literals beside
   pub single : beside ≡ asserted → literals ≡ asserted ∷ []
   pub root : beside ≡ asserted → level ≡ 0
-  pub high : (i : ℕ) → i < level → beside ≢ asserted → Contains (take (slice_index t.starts i) t.literals) (opposite_of beside) → ⊥
+  pub high : (i : ℕ) → i < level → beside ≢ asserted
+      → Contains (take (slice_index t.starts i) t.literals) (opposite_of beside) → ⊥
 
 -- the backtracking fits the clause
 abbrev pub TurnFits : Trail → List ℕ → Turn → Type 0

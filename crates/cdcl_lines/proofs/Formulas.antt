@@ -5,11 +5,11 @@ use Rattle.std.proofs.lemmas.Bool.{cases_lt, cases_eq}
 use Rattle.std.proofs.lemmas.List.{length_push, get_or_past, get_or-set_other}
 use Rattle.std.proofs.lemmas.List.Elements.{All-head, All-tail}
 use Rattle.std.proofs.lemmas.Option.{slice_get_past, slice_get_within, none-some}
-use Rattle.cdcl_clauses.specs.Clauses.{Clause, at, no_clause}
+use Rattle.cdcl_learn.specs.cdcl_clauses.Clauses.{Clause, at, no_clause}
 use Rattle.cdcl_lines.specs.Literals.{clause_of}
 use Rattle.cdcl_lines.specs.Keeping.{as_kept, KeepsAll, KeepsOneMore, KeepsOn}
-use Rattle.cdcl_clauses.specs.Clauses.{dropped}
-use Rattle.cdcl_clauses.specs.Clauses.{kept_clause}
+use Rattle.cdcl_learn.specs.cdcl_clauses.Clauses.{dropped}
+use Rattle.cdcl_learn.specs.cdcl_clauses.Clauses.{kept_clause}
 use Rattle.cdcl_lines.proofs.Representing.{at-more, as_kept-same}
 use Rattle.cdcl_lines.proofs.Members.{slice_get-left, slice_get-last}
 

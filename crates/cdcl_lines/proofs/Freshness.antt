@@ -14,10 +14,10 @@ use Rattle.refute_check.specs.declared.line.Line.{Line}
 use Rattle.cdcl_literals.specs.Literals.{opposite_of}
 use Rattle.cdcl_trail.specs.Trail.{Trail, IsTrail}
 use Rattle.cdcl_trail.proofs.Opposites.{not-both}
-use Rattle.cdcl_clauses.specs.Clauses.{Clause, at, watches}
-use Rattle.cdcl_clauses.specs.Invariants.{HasTrue, IsClause, AreConsistent, AreRooted}
-use Rattle.cdcl_clauses.specs.declared.watches.Watch.{Watch}
-use Rattle.cdcl_propagate.proofs.Guarding.{contains-take}
+use Rattle.cdcl_learn.specs.cdcl_clauses.Clauses.{Clause, at, watches}
+use Rattle.cdcl_learn.specs.cdcl_clauses.Invariants.{HasTrue, IsClause, AreConsistent, AreRooted}
+use Rattle.cdcl_learn.specs.cdcl_clauses.declared.watches.Watch.{Watch}
+use Rattle.cdcl_steps.proofs.cdcl_propagate.Guarding.{contains-take}
 use Rattle.cdcl_lines.specs.Literals.{literal_of, clause_of}
 use Rattle.cdcl_lines.specs.Keeping.{Represents}
 use Rattle.cdcl_lines.specs.Fresh.{others_false, IsUnit, AreUnits, IsFresh, IsFreshLine, FreshGoesOn, AssertedIsFresh, FreshSaysMore, AddedIsFresh}
@@ -36,7 +36,7 @@ use Rattle.cdcl_lines.proofs.Members.{
 }
 use Rattle.cdcl_lines.proofs.Numbers.{neg-literal, same-literal}
 use Rattle.cdcl_lines.proofs.Representing.{kept-within}
-use Rattle.cdcl_propagate.proofs.Links.{watches-first, watches-second}
+use Rattle.cdcl_steps.proofs.cdcl_propagate.Links.{watches-first, watches-second}
 
 -- a set of literals that is closed under units and falsifies no kept clause
 pub record IsClosed (kept : KeptClauses) (set : ℤ → Type 0) : Type 0 where

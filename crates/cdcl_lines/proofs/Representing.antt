@@ -41,19 +41,19 @@ use Rattle.refute_check.specs.declared.line.Line.{Line}
 use Rattle.refute_check.specs.declared.verdict.CheckFault.TheVariants.{NoVariable, NoClause}
 use Rattle.cnf_core.specs.Clauses.{is_within}
 use Rattle.cdcl_literals.specs.Literals.{opposite_of}
-use Rattle.cdcl_clauses.specs.Clauses.{Clause, at, no_clause}
-use Rattle.cdcl_clauses.specs.Invariants.{AreSame}
+use Rattle.cdcl_learn.specs.cdcl_clauses.Clauses.{Clause, at, no_clause}
+use Rattle.cdcl_learn.specs.cdcl_clauses.Invariants.{AreSame}
 use Rattle.cdcl_learn.specs.Shown.{Shows}
 use Rattle.cdcl_lines.specs.Literals.{clause_of, numbers_of, Rise}
 use Rattle.cdcl_lines.specs.Lines.{added, deleted}
 use Rattle.cdcl_lines.specs.Keeping.{as_kept, Represents, Passes, OpeningIsRepresented, KeepIsRepresented, SameAreRepresented, ShownPasses, CanDrop, DropPasses}
-use Rattle.cdcl_clauses.specs.Clauses.{dropped}
-use Rattle.cdcl_clauses.specs.Clauses.{kept_clause}
+use Rattle.cdcl_learn.specs.cdcl_clauses.Clauses.{dropped}
+use Rattle.cdcl_learn.specs.cdcl_clauses.Clauses.{kept_clause}
 use Rattle.cdcl_lines.proofs.Members.{contains-there, all-pairs-tail, all-pairs-head, all-from_contains}
 use Rattle.cdcl_lines.proofs.Numbers.{within-there}
 use Rattle.cdcl_lines.proofs.Maps.{get-new, get-old, get-gone, get-left}
 use Rattle.cdcl_lines.proofs.Showing.{leads-pass, opposites}
-use Rattle.cdcl_propagate.proofs.Links.{at-set}
+use Rattle.cdcl_steps.proofs.cdcl_propagate.Links.{at-set}
 
 pub opening-represented : OpeningIsRepresented
 opening-represented vars = record {

@@ -6,15 +6,15 @@ use Rattle.cnf_core.specs.Clauses.{Valuation, literal_true, clause_true, satisfi
 use Rattle.cdcl_literals.specs.Literals.{opposite_of}
 use Rattle.cdcl_trail.specs.Trail.{Trail, IsOpen}
 use Rattle.cdcl_literals.proofs.Opposites.{opposite_of-cases, opposite_of-opposite_of}
-use Rattle.cdcl_clauses.specs.Clauses.{at}
-use Rattle.cdcl_clauses.specs.Invariants.{IsClause}
+use Rattle.cdcl_learn.specs.cdcl_clauses.Clauses.{at}
+use Rattle.cdcl_learn.specs.cdcl_clauses.Invariants.{IsClause}
 use Rattle.std.proofs.lemmas.List.Elements.{All-contains}
 use Rattle.cdcl_lines.specs.Literals.{literal_of}
 use Rattle.cdcl_lines.specs.Keeping.{as_kept}
 use Rattle.cdcl_lines.specs.Models.{FullSatisfies}
 use Rattle.cdcl_lines.proofs.Members.{contains-here, contains-there, contains-cases, contains-none, contains-map}
 use Rattle.cdcl_lines.proofs.Freshness.{watched-true, some-kept}
-use Rattle.cdcl_propagate.proofs.Links.{watches-first}
+use Rattle.cdcl_steps.proofs.cdcl_propagate.Links.{watches-first}
 use Rattle.cdcl_lines.proofs.Representing.{kept-within}
 
 clause-true : (v : Valuation) (c : List ℤ) (z : ℤ) → Contains c z → literal_true v z ≡ true → clause_true v c ≡ true

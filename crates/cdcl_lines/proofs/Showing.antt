@@ -41,7 +41,7 @@ use Rattle.refute_check.specs.Left.{by_left, left_of_clause, count_of_literals}
 use Rattle.refute_check.specs.Refutations.{hints_fault}
 use Rattle.refute_check.specs.declared.verdict.CheckFault.TheVariants.{NoClause, Hint}
 use Rattle.cdcl_literals.specs.Literals.{opposite_of}
-use Rattle.cdcl_clauses.specs.Clauses.{Clause, at}
+use Rattle.cdcl_learn.specs.cdcl_clauses.Clauses.{Clause, at}
 use Rattle.cdcl_learn.specs.Shown.{Leads}
 use Rattle.cdcl_lines.specs.Literals.{literal_of, clause_of, numbers_of, Rise}
 use Rattle.cdcl_lines.specs.Keeping.{as_kept, HintsAreThere}

@@ -8,9 +8,9 @@ use Rattle.refute_check.specs.Refutations.{Checking, start, state_after_line}
 use Rattle.refute_check.specs.declared.line.Line.{Line}
 use Rattle.refute_check.specs.declared.line.Line.TheVariants.{Add, Delete}
 use Rattle.cdcl_trail.specs.Trail.{Trail}
-use Rattle.cdcl_clauses.specs.Clauses.{Clause}
-use Rattle.cdcl_clauses.specs.Invariants.{AreConsistent, AreRooted}
-use Rattle.cdcl_clauses.specs.declared.watches.Watch.{Watch}
+use Rattle.cdcl_learn.specs.cdcl_clauses.Clauses.{Clause}
+use Rattle.cdcl_learn.specs.cdcl_clauses.Invariants.{AreConsistent, AreRooted}
+use Rattle.cdcl_learn.specs.cdcl_clauses.declared.watches.Watch.{Watch}
 use Rattle.cdcl_steps.specs.Attached.{CanAssert}
 use Rattle.cdcl_lines.specs.Literals.{clause_of}
 use Rattle.cdcl_lines.specs.Lines.{added}
@@ -45,8 +45,10 @@ pub record IsBroken (kept : KeptClauses) (trues : List ℤ) : Type 0 where
 pub record IsFresh (kept : KeptClauses) (literals : List ℤ) : Type 0 where
   pub literal : ℤ
   pub there : Contains literals literal
-  pub never_true : (ls : List ℤ) → AreUnits kept (others_false literals literal) ls → Contains (others_false literals literal ++ ls) literal → ⊥
-  pub no_conflict : (ls : List ℤ) → AreUnits kept (others_false literals literal) ls → IsBroken kept (others_false literals literal ++ ls) → ⊥
+  pub never_true : (ls : List ℤ) → AreUnits kept (others_false literals literal) ls
+      → Contains (others_false literals literal ++ ls) literal → ⊥
+  pub no_conflict : (ls : List ℤ) → AreUnits kept (others_false literals literal) ls
+      → IsBroken kept (others_false literals literal ++ ls) → ⊥
 
 -- an added clause that isn't empty is fresh
 abbrev pub IsFreshLine : KeptClauses → Line → Type 0
@@ -56,27 +58,33 @@ IsFreshLine kept (Delete ns) = ⊤
 
 -- each line is fresh over the clauses kept just before it
 abbrev pub AreFresh : Formula → List Line → Type 0
-AreFresh f lines = (k : ℕ) → IfSome (slice_get lines k) (λ l. IsFreshLine (fold state_after_line (start f) (take k lines)).kept l)
+AreFresh f lines =
+    (k : ℕ) → IfSome (slice_get lines k)
+    (λ l. IsFreshLine (fold state_after_line (start f) (take k lines)).kept l)
 
 -- fresh lines with one more fresh line are fresh
 abbrev pub FreshGoesOn : Type 0
 FreshGoesOn =
-    (f : Formula) (lines : List Line) (line : Line) → AreFresh f lines → IsFreshLine (fold state_after_line (start f) lines).kept line
+    (f : Formula) (lines : List Line) (line : Line) → AreFresh f lines
+    → IsFreshLine (fold state_after_line (start f) lines).kept line
     → AreFresh f (lines ++ line ∷ [])
 
 -- a clause that is to be asserted is fresh
 abbrev pub AssertedIsFresh : Type 0
 AssertedIsFresh =
-    (t : Trail) (cs : List Clause) (ws : List (List Watch)) (s : Checking) (literals : List ℕ) (asserted beside : ℕ) → AreConsistent t cs ws → AreRooted t cs
+    (t : Trail) (cs : List Clause) (ws : List (List Watch)) (s : Checking) (literals : List ℕ)
+    (asserted beside : ℕ) → AreConsistent t cs ws → AreRooted t cs
     → Represents cs s → CanAssert t literals asserted beside → IsFresh s.kept (clause_of literals)
 
 -- no kept clause has all its literals in a fresh clause
 abbrev pub FreshSaysMore : Type 0
 FreshSaysMore =
-    (kept : KeptClauses) (literals : List ℤ) → IsFresh kept literals → (number : ℕ) (clause : List ℤ) → get kept number ≡ Some clause
+    (kept : KeptClauses) (literals : List ℤ) → IsFresh kept literals
+    → (number : ℕ) (clause : List ℤ) → get kept number ≡ Some clause
     → ((m : ℤ) → Contains clause m → Contains literals m) → ⊥
 
 -- a line that adds a fresh clause is fresh
 abbrev pub AddedIsFresh : Type 0
 AddedIsFresh =
-    (kept : KeptClauses) (literals hints : List ℕ) → IsFresh kept (clause_of literals) → IsFreshLine kept (added literals hints)
+    (kept : KeptClauses) (literals hints : List ℕ) → IsFresh kept (clause_of literals)
+    → IsFreshLine kept (added literals hints)

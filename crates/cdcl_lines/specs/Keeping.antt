@@ -3,8 +3,8 @@ use Rattle.std.specs.Prelude.{◌≡◌, ◌≢◌, ℕ, suc, ◌+◌, ◌*◌, 
 use Rattle.std.specs.FinMap.{get}
 use Rattle.refute_check.specs.Refutations.{Checking, keep, opening, state_after_line, state_after_pass, line_fault}
 use Rattle.refute_check.specs.declared.line.Line.{Line}
-use Rattle.cdcl_clauses.specs.Clauses.{Clause, at, kept_clause, dropped}
-use Rattle.cdcl_clauses.specs.Invariants.{AreSame}
+use Rattle.cdcl_learn.specs.cdcl_clauses.Clauses.{Clause, at, kept_clause, dropped}
+use Rattle.cdcl_learn.specs.cdcl_clauses.Invariants.{AreSame}
 use Rattle.cdcl_learn.specs.Shown.{Shows}
 use Rattle.cdcl_lines.specs.Literals.{clause_of, Rise}
 use Rattle.cdcl_lines.specs.Lines.{added, deleted}
@@ -33,24 +33,31 @@ OpeningIsRepresented = (vars : ℕ) → Represents [] (opening vars)
 -- a state that represents a search does so after both keep one more clause of a formula
 abbrev pub KeepIsRepresented : Type 0
 KeepIsRepresented =
-    (cs : List Clause) (s : Checking) (literals : List ℕ) (first second : ℕ) → Represents cs s → Rise literals
+    (cs : List Clause) (s : Checking) (literals : List ℕ) (first second : ℕ) → Represents cs s
+    → Rise literals
     → Represents (cs ++ kept_clause literals first second ∷ []) (keep s (clause_of literals))
 
 -- a state that represents a search does so if clauses watch other literals
 abbrev pub SameAreRepresented : Type 0
-SameAreRepresented = (cs ds : List Clause) (s : Checking) → Represents cs s → AreSame cs ds → Represents ds s
+SameAreRepresented =
+    (cs ds : List Clause) (s : Checking) → Represents cs s → AreSame cs ds → Represents ds s
 
 -- a line whose hints prove its clause passes, and the clause is kept on both sides
 abbrev pub ShownPasses : Type 0
 ShownPasses =
-    (cs : List Clause) (s : Checking) (literals hints : List ℕ) → Represents cs s → All (λ l. l < 2 * s.vars) literals → Rise literals
+    (cs : List Clause) (s : Checking) (literals hints : List ℕ) → Represents cs s
+    → All (λ l. l < 2 * s.vars) literals → Rise literals
     → Shows cs literals hints
     → Passes s (added literals hints)
-    × ((first second : ℕ) → Represents (cs ++ kept_clause literals first second ∷ []) (state_after_pass s (added literals hints)))
+    × ((first second : ℕ)
+    → Represents (cs ++ kept_clause literals first second ∷ [])
+    (state_after_pass s (added literals hints)))
 
 -- the hints are clauses of the search
 abbrev pub HintsAreThere : Type 0
-HintsAreThere = (cs : List Clause) (literals hints : List ℕ) → Shows cs literals hints → All (λ k. k < length cs) hints
+HintsAreThere =
+    (cs : List Clause) (literals hints : List ℕ) → Shows cs literals hints
+    → All (λ k. k < length cs) hints
 
 -- a line that adds an empty clause closes the derivation
 abbrev pub EmptyCloses : Type 0
@@ -74,7 +81,8 @@ KeepsAll clauses cs = (k : ℕ) → IfSome (slice_get clauses k) (λ c. as_kept 
 -- the same for a formula with one more clause, once that clause is kept
 abbrev pub KeepsOneMore : Type 0
 KeepsOneMore =
-    (clauses : List (List ℤ)) (cs : List Clause) (literals : List ℕ) (first second : ℕ) → KeepsAll clauses cs → length cs ≡ length clauses
+    (clauses : List (List ℤ)) (cs : List Clause) (literals : List ℕ) (first second : ℕ)
+    → KeepsAll clauses cs → length cs ≡ length clauses
     → KeepsAll (clauses ++ clause_of literals ∷ []) (cs ++ kept_clause literals first second ∷ [])
 
 -- the same if clauses watch other literals, are learnt, or are dropped after the formula's

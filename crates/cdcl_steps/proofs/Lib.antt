@@ -1,3 +1,4 @@
+pub use Rattle.cdcl_propagate.proofs as cdcl_propagate
 pub mod Deciding
 pub mod Backing
 pub mod OneMore

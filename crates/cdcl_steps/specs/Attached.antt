@@ -8,11 +8,13 @@ use Rattle.cdcl_clauses.specs.declared.watches.Watch.{Watch}
 -- the watch lists with a clause added at both literals
 abbrev pub both_listed : List (List Watch) → ℕ → ℕ → ℕ → List (List Watch)
 both_listed ws k first second =
-    let us : List (List Watch) = slice_set ws first (listed ws first ++ record { clause = k; blocker = second } ∷ []) in
+    let us : List (List Watch) = slice_set ws first
+    (listed ws first ++ record { clause = k; blocker = second } ∷ []) in
     slice_set us second (listed us second ++ record { clause = k; blocker = first } ∷ [])
 
 -- one more clause is kept, and is in the watch lists of the two literals that it watches
-pub record WasAttached (cs : List Clause) (ws : List (List Watch)) (ds : List Clause) (vs : List (List Watch)) (literals : List ℕ) (first second : ℕ)
+pub record WasAttached (cs : List Clause) (ws : List (List Watch)) (ds : List Clause)
+    (vs : List (List Watch)) (literals : List ℕ) (first second : ℕ)
     : Type 0 where
   pub clauses : ds ≡ cs ++ kept_clause literals first second ∷ []
   pub lists : vs ≡ both_listed ws (length cs) first second
@@ -28,4 +30,5 @@ pub record CanAssert (t : Trail) (literals : List ℕ) (asserted beside : ℕ) :
   pub beside_in : Contains literals beside
   pub single : beside ≡ asserted → literals ≡ asserted ∷ []
   pub root : beside ≡ asserted → t.starts ≡ []
-  pub high : (i : ℕ) → i < length t.starts → beside ≢ asserted → Contains (take (slice_index t.starts i) t.literals) (opposite_of beside) → ⊥
+  pub high : (i : ℕ) → i < length t.starts → beside ≢ asserted
+      → Contains (take (slice_index t.starts i) t.literals) (opposite_of beside) → ⊥

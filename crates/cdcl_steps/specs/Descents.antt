@@ -11,7 +11,8 @@ abbrev pub IsFull : Trail → Type 0
 IsFull t = (v : ℕ) → v < t.variables → IsOpen t (positive_of v) → ⊥
 
 -- the trail only grows, the clauses change only in what they watch, and the invariants hold
-pub record Descends (t : Trail) (cs : List Clause) (u : Trail) (ds : List Clause) (vs : List (List Watch)) : Type 0 where
+pub record Descends (t : Trail) (cs : List Clause) (u : Trail) (ds : List Clause)
+    (vs : List (List Watch)) : Type 0 where
   pub sound : AreConsistent u ds vs
   pub same : AreSame cs ds
   pub variables : u.variables ≡ t.variables

@@ -27,4 +27,5 @@ pub record WasLoaded (cs ds : List Clause) (literals : List ℕ) : Type 0 where
 -- a clause was taken, and unit clauses are still true; or it was refuted: its literals are false
 abbrev pub Loads : Trail → List Clause → Trail → List Clause → List ℕ → Loaded → Type 0
 Loads t cs u ds literals Taken = AreRooted t cs → AreRooted u ds
-Loads t cs u ds literals Refuted = (x : ℕ) → Contains literals x → Contains u.literals (opposite_of x)
+Loads t cs u ds literals Refuted =
+    (x : ℕ) → Contains literals x → Contains u.literals (opposite_of x)

@@ -44,7 +44,8 @@ decided t l = record (pushed t l None) { starts = t.starts ++ length t.literals 
 -- the trail as it was when a level began
 abbrev pub cut_to : Trail → ℕ → Trail
 cut_to t level = let n = slice_index t.starts level in
-    record t { literals = take n t.literals; reasons = take n t.reasons; starts = take level t.starts; propagated = n }
+    record t
+    { literals = take n t.literals; reasons = take n t.reasons; starts = take level t.starts; propagated = n }
 
 -- the clause isn't the reason of any true literal
 abbrev pub IsNoReason : Trail → ℕ → Type 0
@@ -55,8 +56,10 @@ pub record IsTrail (t : Trail) : Type 0 where
   pub few : length t.literals ≤ t.variables
   pub reasons_fit : length t.reasons ≡ length t.literals
   pub within : (k : ℕ) → k < length t.literals → slice_index t.literals k < 2 * t.variables
-  pub apart : (i k : ℕ) → i < length t.literals → k < length t.literals → variable_of (slice_index t.literals i) ≡ variable_of (slice_index t.literals k) → i ≡ k
+  pub apart : (i k : ℕ) → i < length t.literals → k < length t.literals
+      → variable_of (slice_index t.literals i) ≡ variable_of (slice_index t.literals k) → i ≡ k
   pub propagated_fits : t.propagated ≤ length t.literals
   pub starts_early : (k : ℕ) → k < length t.starts → slice_index t.starts k ≤ t.propagated
   pub starts_proper : (k : ℕ) → k < length t.starts → slice_index t.starts k < length t.literals
-  pub starts_rise : (i k : ℕ) → i < k → k < length t.starts → slice_index t.starts i < slice_index t.starts k
+  pub starts_rise : (i k : ℕ) → i < k → k < length t.starts
+      → slice_index t.starts i < slice_index t.starts k

@@ -1,142 +1,41 @@
--- What `solve` keeps is accepted.
-use Rattle.std.proofs.Common.{◌≡◌, ℕ, zero, suc, ◌-◌, arith, List, Option, Some, None, refl, subst, sym}
-use Rattle.store_buffers.specs.Buffers.{buffer_of}
-use Rattle.run_log.specs.Logs.{Log}
-use Rattle.memory_models.specs.declared.model.Model.{Model}
-use Rattle.tc_code.specs.Code.{Code}
-use Rattle.tc_code.specs.Run.{Reproduces}
-use Rattle.tc_compile.specs.Programs.{IsCodeOf}
-use Rattle.run_log.specs.Logs.{StoredLog}
-use Rattle.path_log.specs.Texts.{IsLog, IsOfOther}
-use Rattle.schedule_file.specs.Schedules.{schedule_text}
-use Rattle.schedule_file.specs.declared.schedule.Schedule.{Schedule}
+-- A schedule that reproduces a log is accepted.
+use Rattle.std.proofs.Common.{◌≤◌, ℕ, List, length, subst, sym, Option}
+use Rattle.cnf_command.specs.clap_solve.Clauses.{bound_of}
+use Rattle.replay_command.specs.memory_models.declared.model.Model.{Model}
+use Rattle.replay_command.specs.Causes.{IsReplayed}
 use Rattle.schedule_length.specs.Lengths.{IsSmall}
 use Rattle.schedule_length.proofs.Laws.{short_enough, steps_of_text}
-use Rattle.clap_solve.specs.declared.answer.Answer.{Answer as Found}
-use Rattle.clap_solve.specs.declared.answer.Answer.TheVariants as found
-use Rattle.clap_solve.specs.Clauses.{bound_of}
-use Rattle.clap_solve.specs.Solved.{IsWithin}
-use Rattle.clap_solve.specs.declared.imported.Imported.TheVariants as taken
-use Rattle.least_switch.specs.Least.{IsShown, IsSpentBelow}
-use Rattle.least_switch.specs.declared.answer.Least.{Least}
-use Rattle.least_switch.specs.declared.answer.Least.TheVariants as least
-use Rattle.refute_check.specs.Refutations.{IsClosed, IsOpen}
-use Rattle.refute_check.specs.declared.line.Line.{Line}
-use Rattle.refute_check.specs.declared.verdict.Checked.TheVariants.{Closed, Open}
-use Rattle.clap_debug_cli.specs.Causes.{IsAcceptedAs, IsAcceptedBelow}
-use Rattle.clap_debug_cli.specs.Checked.{clauses_up_to, head_clauses}
-use Rattle.clap_debug_cli.specs.Fewest.{IsMinimum, found_in, head_below, minimum}
-use Rattle.clap_debug_cli.specs.Files.{head_of}
-use Rattle.clap_debug_cli.specs.Solved.{IsSolution, found_text, model_for, solution}
-use Rattle.clap_debug_cli.specs.Solvers.{IsAnswered, IsTaken}
-use Rattle.clap_debug_cli.proofs.Refuted.{code_is_lawful, model_laws}
-use Rattle.clap_debug_cli.proofs.Solutions.{solution_in}
+use Rattle.replay_command.specs.schedule_replay.declared.verdict.Verdict.TheVariants as verdict
+use Rattle.replay_command.specs.store_buffers.Buffers.{buffer_of}
+use Rattle.record_command.specs.tc_base.declared.moves.Move.{Move}
+use Rattle.migrate_command.specs.tc_limits.declared.limits.TheConstants.{SCHEDULE_BYTES}
+use Rattle.list_command.specs.command_inputs.Forms.{IsSchedule}
+use Rattle.cnf_command.specs.log_tasks.Tasks.{Reproduces, Task, model_of}
+use Rattle.check_command.proofs.Excluded.{code_is_lawful, model_laws}
 
--- a schedule that reproduces a log within the limits is short, and accepted
-pub schedule_accepted : (program log : List ℕ) (code : Code) (run : StoredLog) (schedule : Schedule) (m : Model) → IsCodeOf program code → IsLog log run
-    → (IsOfOther program run → ⊥) → IsWithin code run.log → schedule.model ≡ m → Reproduces (buffer_of m) code run.log schedule.moves.items
-    → IsAcceptedAs program log (schedule_text schedule.model schedule.moves.items) (found.Found schedule)
-schedule_accepted program log code run schedule m programs logs recorded within is r =
+pub schedule_accepted : {program log : List ℕ} (task : Task program log) (asked : Option Model) (moves : List Move) (text : List ℕ)
+    → Reproduces asked task.pair moves → IsSchedule text (record { model = model_of asked task.pair; moves = moves })
+    → (length text ≤ SCHEDULE_BYTES) × IsReplayed program log text verdict.Reproduces
+schedule_accepted {program} {log} task asked moves text r is =
+    let m = model_of asked task.pair in
+    let code = task.pair.code in
+    let run = task.pair.run in
     let small : IsSmall code run.log = record {
-      is_log = logs.has_text.is_log;
-      threads = within.shallow.threads;
-      steps = steps_of_text run.log logs.has_text.is_of_format;
-      events = within.events;
+      is_log = task.pair.logs.has_text.is_log;
+      threads = task.within.shallow.threads;
+      steps = steps_of_text run.log task.pair.logs.has_text.is_of_format;
+      events = task.within.events;
     } in (
-      short_enough (buffer_of m) m (bound_of m) code run.log schedule.model schedule.moves.items (model_laws m) (code_is_lawful program code programs) small
-          schedule.has_text r,
+      subst (λ bytes. length bytes ≤ SCHEDULE_BYTES) (sym is.text)
+          (short_enough (buffer_of m) m (bound_of m) code run.log m moves (model_laws m) (code_is_lawful program code task.pair.programs) small is.have_text r),
       record {
         code = code;
         run = run;
-        plan = record { model = schedule.model; moves = schedule.moves.items };
-        programs = programs;
-        logs = logs;
-        schedules = record { have_text = schedule.has_text; text = refl };
-        recorded = recorded;
-        verdict = subst (λ n. Reproduces (buffer_of n) code run.log schedule.moves.items) (sym is) r;
+        plan = record { model = m; moves = moves };
+        programs = task.pair.programs;
+        logs = task.pair.logs;
+        schedules = is;
+        recorded = task.own;
+        verdict = r;
       },
     )
-
-pub accepted : (program log : List ℕ) (model : Option Model) (budget : ℕ) (m : Model) (b : ℕ) (x : Found)
-    → IsSolution program log model budget (solution m b x) → IsAcceptedAs program log (found_text m x) x
-accepted program log model budget m b (found.Found schedule) s =
-    schedule_accepted program log s.code s.run schedule m s.programs s.logs s.recorded s.within s.searched.found.0 s.searched.found.1
-accepted program log model budget m b (found.Impossible lines) s = (
-  s.code,
-  s.programs,
-  (
-    s.run,
-    s.logs,
-    (head_of m, lines, record { whole = s.searched.form; text = refl }, (s.recorded, (s.within, (Closed, s.searched.found.0, refl)))),
-  ),
-)
-accepted program log model budget m b (found.Spent lines) s = (
-  s.code,
-  s.programs,
-  (
-    s.run,
-    s.logs,
-    (head_of m, lines, record { whole = s.searched.form; text = refl }, (s.recorded, (s.within, (Open, s.searched.found.0, refl)))),
-  ),
-)
-
--- a schedule made from a solver's answer is accepted
-pub accepted_import : (program log answer : List ℕ) (model : Option Model) (s : Schedule) → IsAnswered program log answer (IsTaken model (taken.Found s))
-    → IsAcceptedAs program log (schedule_text s.model s.moves.items) (found.Found s)
-accepted_import program log answer model s a =
-    schedule_accepted program log a.code a.run s (model_for model a.run.log) a.programs a.logs a.recorded a.within a.holds.1 a.holds.2
-
--- the schedule that `solve --least` keeps is accepted
-pub accepted_first : (program log : List ℕ) (model : Option Model) (budget : ℕ) (m : Model) (b : ℕ) (x : Least)
-    → IsMinimum program log model budget (minimum m b x) → IsAcceptedAs program log (found_text m (found_in x)) (found_in x)
-accepted_first program log model budget m b x s = accepted program log model budget m b (found_in x) (solution_in program log model budget m b x s)
-
--- a derivation on the clauses with one switch fewer is closed or open
-module _ (m : Model) (code : Code) (log : Log) where
-  closed_below : (count : ℕ) (lines : List Line) → IsShown (buffer_of m) m (bound_of m) code log count (Some lines)
-      → IsClosed (head_clauses (head_below m count) code log) lines
-  closed_below zero lines h = absurd h
-  closed_below (suc fewer) lines h =
-      let e : fewer ≡ suc fewer - 1 = omega arith in
-      subst (λ n. IsClosed (clauses_up_to (Some n) m code log) lines) e h
-
-  open_below : (budget count : ℕ) (lines : List Line) → IsSpentBelow (buffer_of m) m (bound_of m) code log budget count lines
-      → IsOpen (head_clauses (head_below m count) code log) lines
-  open_below budget zero lines h = absurd h
-  open_below budget (suc fewer) lines h =
-      let e : fewer ≡ suc fewer - 1 = omega arith in
-      subst (λ n. IsOpen (clauses_up_to (Some n) m code log) lines) e h.0
-
-pub accepted_below : (program log : List ℕ) (model : Option Model) (budget : ℕ) (m : Model) (b : ℕ) (x : Least)
-    → IsMinimum program log model budget (minimum m b x) → IsAcceptedBelow program log m x
-accepted_below program log model budget m b (least.Found schedule count None) s = tt
-accepted_below program log model budget m b (least.Found schedule count (Some lines)) s = (
-  s.code,
-  s.programs,
-  (
-    s.run,
-    s.logs,
-    (
-      head_below m count,
-      lines,
-      record { whole = s.minimized.below; text = refl },
-      (s.recorded, (s.within, (Closed, closed_below m s.code s.run.log count lines s.minimized.found.2, refl))),
-    ),
-  ),
-)
-accepted_below program log model budget m b (least.Impossible lines) s = tt
-accepted_below program log model budget m b (least.Spent lines) s = tt
-accepted_below program log model budget m b (least.SpentAt schedule count lines) s = (
-  s.code,
-  s.programs,
-  (
-    s.run,
-    s.logs,
-    (
-      head_below m count,
-      lines,
-      record { whole = s.minimized.below; text = refl },
-      (s.recorded, (s.within, (Open, open_below m s.code s.run.log budget count lines s.minimized.found.1, refl))),
-    ),
-  ),
-)

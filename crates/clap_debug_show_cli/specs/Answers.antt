@@ -18,7 +18,9 @@ use Rattle.clap_debug_show_cli.specs.declared.help.Helped.{Helped}
 use Rattle.clap_debug_show_cli.specs.declared.help.Helped.TheVariants.{Explained, Described}
 
 abbrev pub usage_text : List ℕ
-usage_text = codes "usage: clap_debug_show PROGRAM SCHEDULE [--moves] [--html OUT]\n" ++ (codes "usage: clap_debug_show PROGRAM LOG [--html OUT]\n"
+usage_text =
+    codes "usage: clap_debug_show PROGRAM SCHEDULE [--moves] [--html OUT]\n"
+    ++ (codes "usage: clap_debug_show PROGRAM LOG [--html OUT]\n"
     ++ codes "usage: clap_debug_show PROGRAM\n")
 
 abbrev pub what_text : What → List ℕ
@@ -28,7 +30,10 @@ what_text Threads = codes "threads"
 -- the log has this number of these, which is above the limit
 abbrev pub over_line : What → (number : ℕ) → List ℕ
 over_line what number =
-    codes "limit " ++ (what_text what ++ (codes " " ++ (decimal number ++ (codes " of " ++ (decimal (limit_of what) ++ codes "\n")))))
+    codes "limit "
+    ++ (what_text what
+    ++ (codes " "
+    ++ (decimal number ++ (codes " of " ++ (decimal (limit_of what) ++ codes "\n")))))
 
 -- the line for a program that was refused
 abbrev pub program_line : TextFault → List ℕ
@@ -40,8 +45,10 @@ refusal_line (Over what number) = over_line what number
 refusal_line (ProgramRefused fault) = program_line fault
 refusal_line (LogBroken offset) = codes "log refused: form at " ++ (decimal offset ++ codes "\n")
 refusal_line OtherProgram = codes "log refused: other program\n"
-refusal_line (Unfit name misfit) = codes "log refused: " ++ (misfit_text misfit ++ (codes " " ++ (name_text name ++ codes "\n")))
-refusal_line (ScheduleRefused line) = codes "schedule refused: line " ++ (decimal line ++ codes "\n")
+refusal_line (Unfit name misfit) =
+    codes "log refused: " ++ (misfit_text misfit ++ (codes " " ++ (name_text name ++ codes "\n")))
+refusal_line (ScheduleRefused line) =
+    codes "schedule refused: line " ++ (decimal line ++ codes "\n")
 
 -- the status of a refusal
 abbrev pub refusal_status : Refusal → Status

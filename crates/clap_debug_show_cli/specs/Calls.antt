@@ -65,13 +65,16 @@ is_given id rows = is_true (first_of id rows)
 
 -- a call with a file shows it; a call with no file and no option asks for help with the program
 abbrev pub asked : (program : Text) → (file page : Option Text) → (moves : Bool) → Option Asked
-asked program (Some file) page moves = Some (Show (record { program = program; file = file; page = page; moves = moves }))
+asked program (Some file) page moves =
+    Some (Show (record { program = program; file = file; page = page; moves = moves }))
 asked program None None false = Some (Help program)
 asked program None _ _ = None
 
 -- the call that matched words ask for
 abbrev pub call_in : List Row → Option Asked
-call_in rows = asked (text_of (codes "program") rows) (first_of (codes "file") rows) (first_of (codes "html") rows) (is_given (codes "moves") rows)
+call_in rows =
+    asked (text_of (codes "program") rows) (first_of (codes "file") rows)
+    (first_of (codes "html") rows) (is_given (codes "moves") rows)
 
 -- the call that the words ask for, if they are accepted
 abbrev pub call_of : List Text → Option Asked
@@ -82,7 +85,8 @@ abbrev pub plain_text : Option (Bor Text) → Option Text
 plain_text text = option_map (λ s. s.now) text
 
 abbrev pub plain_showing : Showing → Shows
-plain_showing s = record { program = s.program.now; file = s.file.now; page = plain_text s.page; moves = s.moves }
+plain_showing s =
+    record { program = s.program.now; file = s.file.now; page = plain_text s.page; moves = s.moves }
 
 -- a call as plain data
 abbrev pub plain_call : Call → Asked

@@ -24,8 +24,10 @@ use Rattle.clap_debug_show_cli.specs.declared.help.Helped.TheVariants.{Explained
 
 -- the refusal names the first test that the log fails against the code of a program
 abbrev pub IsThreadsRefusal : Code → Log → Refusal → Type 0
-IsThreadsRefusal code log (Over Threads number) = (number ≡ length log.threads) × (limit_of Threads < number)
-IsThreadsRefusal code log (Unfit name misfit) = (length log.threads ≤ limit_of Threads) × IsFirst code log name misfit
+IsThreadsRefusal code log (Over Threads number) =
+    (number ≡ length log.threads) × (limit_of Threads < number)
+IsThreadsRefusal code log (Unfit name misfit) =
+    (length log.threads ≤ limit_of Threads) × IsFirst code log name misfit
 IsThreadsRefusal code log _ = ⊥
 
 abbrev pub IsStoredRefusal : Code → (program : List ℕ) → StoredLog → Refusal → Type 0
@@ -34,27 +36,33 @@ IsStoredRefusal code program log r = (IsOfOther program log → ⊥) × IsThread
 
 abbrev pub IsFormRefusal : Code → (program file : List ℕ) → Refusal → Type 0
 IsFormRefusal code program file (LogBroken offset) = LogBreaksAt file offset
-IsFormRefusal code program file r = (log : StoredLog) × IsLog file log × IsStoredRefusal code program log r
+IsFormRefusal code program file r =
+    (log : StoredLog) × IsLog file log × IsStoredRefusal code program log r
 
 abbrev pub IsLogRefusal : Code → (program file : List ℕ) → Refusal → Type 0
-IsLogRefusal code program file (Over LogBytes number) = (number ≡ length file) × (limit_of LogBytes < number)
-IsLogRefusal code program file r = (length file ≤ limit_of LogBytes) × IsFormRefusal code program file r
+IsLogRefusal code program file (Over LogBytes number) =
+    (number ≡ length file) × (limit_of LogBytes < number)
+IsLogRefusal code program file r =
+    (length file ≤ limit_of LogBytes) × IsFormRefusal code program file r
 
 -- why a file shows nothing of the code of a program
 abbrev pub IsFileRefusal : Code → (program file : List ℕ) → Refusal → Type 0
-IsFileRefusal code program file (ScheduleRefused line) = (begins_as_log file ≡ false) × ScheduleBreaksAt file line
+IsFileRefusal code program file (ScheduleRefused line) =
+    (begins_as_log file ≡ false) × ScheduleBreaksAt file line
 IsFileRefusal code program file r = (begins_as_log file ≡ true) × IsLogRefusal code program file r
 
 -- a faulty program is reported before a faulty file
 abbrev pub IsRefusalOf : (program file : List ℕ) → Refusal → Type 0
 IsRefusalOf program file (ProgramRefused fault) = IsRefusal program fault
-IsRefusalOf program file r = (code : Code) × IsCodeOf program code × IsFileRefusal code program file r
+IsRefusalOf program file r =
+    (code : Code) × IsCodeOf program code × IsFileRefusal code program file r
 
 -- the outcome for a program and a file: a refusal, the text, or the page if one is asked for
 abbrev pub IsShowing : Shows → (program file : List ℕ) → Showed → Type 0
 IsShowing call program file (Refused refusal) = IsRefusalOf program file refusal
 IsShowing call program file (Text shown) = (call.page ≡ None) × IsShown program file shown
-IsShowing call program file (Page shown name page) = (call.page ≡ Some name.now) × IsShown program file shown
+IsShowing call program file (Page shown name page) =
+    (call.page ≡ Some name.now) × IsShown program file shown
 
 -- why a text isn't a program, and the tokens possible where it stops being one
 abbrev pub IsExplained : (program : List ℕ) → Why → Type 0

@@ -24,7 +24,8 @@ begins_as_log file = starts_with nat_eq file (codes "CLPL")
 
 -- the rows are the history of the schedule's moves as far as they can be made, with this end
 abbrev pub IsTold : Code → Schedule → Told → Type 0
-IsTold code schedule told = AreTold (buffer_of schedule.model) code schedule.moves.items told.rows.items told.end
+IsTold code schedule told =
+    AreTold (buffer_of schedule.model) code schedule.moves.items told.rows.items told.end
 
 -- the bytes are a short enough log of this program, with few enough threads
 pub record IsLogOf (program bytes : List ℕ) (log : StoredLog) : Type 0 where
@@ -35,8 +36,10 @@ pub record IsLogOf (program bytes : List ℕ) (log : StoredLog) : Type 0 where
 
 -- a schedule shows what its moves did, and a log shows the paths of its threads in the code
 abbrev pub IsStory : Code → (program file : List ℕ) → Story → Type 0
-IsStory code program file (Moves schedule told) = (file ≡ schedule_text schedule.model schedule.moves.items) × IsTold code schedule told
-IsStory code program file (Ways log paths) = IsLogOf program file log × Fits code log.log × (paths ≡ paths_of code log.log)
+IsStory code program file (Moves schedule told) =
+    (file ≡ schedule_text schedule.model schedule.moves.items) × IsTold code schedule told
+IsStory code program file (Ways log paths) =
+    IsLogOf program file log × Fits code log.log × (paths ≡ paths_of code log.log)
 
 -- what a file shows of a program
 pub record IsShown (program file : List ℕ) (shown : Shown) : Type 0 where

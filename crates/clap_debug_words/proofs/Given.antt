@@ -37,7 +37,7 @@ use Rattle.clap.proofs.WalkLemmas.{both}
 use Rattle.clap.specs.ValueTests.{accepts, is_unsigned_in}
 use Rattle.clap.specs.declared.builder.value_parser.ValueParser.TheVariants as parser
 use Rattle.tc_limits.specs.declared.limits.TheConstants.{BUDGET, MOVES}
-use Rattle.clap_debug_words.specs.declared.workers.TheConstants.{WORKERS}
+use Rattle.workload_command.specs.declared.workers.TheConstants.{WORKERS}
 use Rattle.clap_debug_words.specs.CommandLine.{command_line, words_taken, last_seed, lent_texts, model_names}
 use Rattle.clap_debug_words.specs.Given.{HasFiles, HasValues}
 use Rattle.clap_debug_words.proofs.Fits.{AreSetters, Fitness, all_fit, level_fit, level_given, read_fit}

@@ -20,9 +20,10 @@ use Rattle.tc_limits.specs.declared.limits.TheConstants.{BUDGET, MOVES}
 use Rattle.memory_models.specs.declared.model.Model.{Model}
 use Rattle.memory_models.specs.declared.model.Model.TheVariants.{Sc, Tso, Pso}
 use Rattle.clap_debug_words.specs.CommandLine.{command_line, lent_texts, model_names, words_taken}
-use Rattle.clap_debug_words.specs.Calls.{Called, call_of, called, model_in, number_in, usual_budget}
+use Rattle.solve_command.specs.Calls.{Solve}
+use Rattle.clap_debug_words.specs.Calls.{Called, call_of, called, least_of, model_in, number_in, usual_budget}
 use Rattle.clap_debug_words.specs.Calls as calls
-use Rattle.clap_debug_words.specs.declared.workers.TheConstants.{WORKERS}
+use Rattle.workload_command.specs.declared.workers.TheConstants.{WORKERS}
 use Rattle.clap_debug_words.specs.PlainWords.{Written, Lists, Replays, Records, Migrates, Solves, Minimizes, Checks, Workloads, Exports, Imports, Explains}
 use Rattle.clap_debug_words.specs.PlainWords.{asked, is_between, is_name, is_plain, option_words, words_of}
 use Rattle.clap_debug_words.proofs.PlainWords.{ArePlain, IsPlainWord, Marked, level-marked, rows-marked}
@@ -114,8 +115,24 @@ why_says w p l r hp hl hr =
 abbrev pub Passes : (Text → Bool) → Option Text → Type 0
 Passes test t = IfSome t (λ v. IsPlainWord v × (test v ≡ true))
 
+-- calls with these values
+abbrev recorded : Text → Text → Model → ℕ → ℕ → Called
+recorded p l model seed steps = calls.Records (record { program = p; log = l; model = model; seed = seed; steps = steps })
+
+abbrev searched_for : Text → Text → Text → Option Model → ℕ → Solve
+searched_for p l o model budget = record { program = p; log = l; out = o; model = model; budget = budget }
+
+abbrev worked : ℕ → ℕ → Called
+worked n s = calls.Workloads (record { workers = n; seed = s })
+
+abbrev exported : Text → Text → Text → Option Model → Called
+exported p l o model = calls.Exports (record { program = p; log = l; out = o; model = model })
+
+abbrev imported : Text → Text → Text → Text → Option Model → Called
+imported p l a o model = calls.Imports (record { program = p; log = l; answer = a; out = o; model = model })
+
 abbrev record_call : Text → Text → Option Text → Option Text → Option Text → Called
-record_call p l m n k = calls.Records p l (option_map_or model_in m Sc) (option_map_or (number_in 0 18446744073709551615 0) n 0)
+record_call p l m n k = recorded p l (option_map_or model_in m Sc) (option_map_or (number_in 0 18446744073709551615 0) n 0)
     (option_map_or (number_in 1 MOVES MOVES) k MOVES)
 
 settled_true : (t : Bool) → t ≡ true → ((t && true) && true) ≡ true
@@ -191,7 +208,7 @@ record_says w p l None None None hp hl sc hm hn hk =
     )
 
 abbrev solve_call : Text → Text → Text → Option Text → Option Text → Called
-solve_call p l o m n = calls.Solves p l o (option_map model_in m) (option_map_or (number_in 1 BUDGET usual_budget) n usual_budget)
+solve_call p l o m n = calls.Solves (searched_for p l o (option_map model_in m) (option_map_or (number_in 1 BUDGET usual_budget) n usual_budget))
 
 solve_says : (w p l o : Text) (m n : Option Text) → IsPlainWord p → IsPlainWord l → IsPlainWord o → Passes accepts_model m → Passes (is_unsigned_in 1 BUDGET) n
     → Says (w ∷ codes "solve" ∷ p ∷ l ∷ o ∷ (option_words (codes "--model") m ++ option_words (codes "--budget") n)) (solve_call p l o m n)
@@ -222,7 +239,8 @@ solve_says w p l o None None hp hl ho hm hn =
     )
 
 abbrev least_call : Text → Text → Text → Option Text → Option Text → Text → Called
-least_call p l o m n r = calls.Minimizes p l o (option_map model_in m) (option_map_or (number_in 1 BUDGET usual_budget) n usual_budget) r
+least_call p l o m n r =
+    calls.Minimizes (least_of (searched_for p l o (option_map model_in m) (option_map_or (number_in 1 BUDGET usual_budget) n usual_budget)) r)
 
 least_says : (w p l o : Text) (m n : Option Text) (r : Text) → IsPlainWord p → IsPlainWord l → IsPlainWord o → Passes accepts_model m
     → Passes (is_unsigned_in 1 BUDGET) n → IsPlainWord r
@@ -257,7 +275,7 @@ least_says w p l o None None r hp hl ho hm hn hr =
     )
 
 workload_says : (f w s : Text) → IsPlainWord w → IsPlainWord s → is_unsigned_in 1 WORKERS w ≡ true → is_unsigned_in 0 18446744073709551615 s ≡ true
-    → Says (f ∷ codes "workload" ∷ w ∷ s ∷ []) (calls.Workloads (number_in 1 WORKERS 1 w) (number_in 0 18446744073709551615 0 s))
+    → Says (f ∷ codes "workload" ∷ w ∷ s ∷ []) (worked (number_in 1 WORKERS 1 w) (number_in 0 18446744073709551615 0 s))
 unfolding clap_on_literals
 workload_says f w s hw hs pw ps =
     let ms : List Marked = (true, w) ∷ (true, s) ∷ [] in
@@ -267,7 +285,7 @@ workload_says f w s hw hs pw ps =
     )
 
 export_says : (w p l o : Text) (m : Option Text) → IsPlainWord p → IsPlainWord l → IsPlainWord o → Passes accepts_model m
-    → Says (w ∷ codes "cnf" ∷ p ∷ l ∷ o ∷ option_words (codes "--model") m) (calls.Exports p l o (option_map model_in m))
+    → Says (w ∷ codes "cnf" ∷ p ∷ l ∷ o ∷ option_words (codes "--model") m) (exported p l o (option_map model_in m))
 unfolding clap_on_literals
 export_says w p l o (Some m) hp hl ho hm =
     let ms : List Marked = (true, p) ∷ (true, l) ∷ (true, o) ∷ (false, codes "--model") ∷ (true, m) ∷ [] in
@@ -283,7 +301,7 @@ export_says w p l o None hp hl ho hm =
     )
 
 import_says : (w p l a o : Text) (m : Option Text) → IsPlainWord p → IsPlainWord l → IsPlainWord a → IsPlainWord o → Passes accepts_model m
-    → Says (w ∷ codes "import" ∷ p ∷ l ∷ a ∷ o ∷ option_words (codes "--model") m) (calls.Imports p l a o (option_map model_in m))
+    → Says (w ∷ codes "import" ∷ p ∷ l ∷ a ∷ o ∷ option_words (codes "--model") m) (imported p l a o (option_map model_in m))
 unfolding clap_on_literals
 import_says w p l a o (Some m) hp hl ha ho hm =
     let ms : List Marked = (true, p) ∷ (true, l) ∷ (true, a) ∷ (true, o) ∷ (false, codes "--model") ∷ (true, m) ∷ [] in
@@ -339,7 +357,7 @@ plain_says first (Records p l model seed steps) e =
     let m = model_written model in
     let n = number_written 0 18446744073709551615 0 (omega arith) seed numbers.0 in
     let k = number_written 1 MOVES MOVES (omega arith) steps numbers.1 in
-    as_call (words_of first (Records p l model seed steps)) _ _ (λ i. calls.Records p l (m.1 i) (n.1 i) (k.1 i))
+    as_call (words_of first (Records p l model seed steps)) _ _ (λ i. recorded p l (m.1 i) (n.1 i) (k.1 i))
     (record_says first p l (option_map model_name model) (option_map decimal seed) (option_map decimal steps) (name_plain p names.0) (name_plain l names.1)
     refl m.0 n.0 k.0)
 plain_says first (Migrates p l o) e =
@@ -356,20 +374,20 @@ plain_says first (Workloads n s) e =
     let low = both (nat_le 0 s) (nat_le s 18446744073709551615) a.1 in
     let w = written 1 WORKERS 1 n (omega arith) (leb-true _ _ few.0) (leb-true _ _ few.1) in
     let v = written 0 18446744073709551615 0 s (omega arith) (leb-true _ _ low.0) (leb-true _ _ low.1) in
-    as_call (words_of first (Workloads n s)) _ _ (ap₂ (λ x y. calls.Workloads x y) w.value v.value)
+    as_call (words_of first (Workloads n s)) _ _ (ap₂ (λ x y. worked x y) w.value v.value)
     (workload_says first (decimal n) (decimal s) w.plain v.plain w.accepted v.accepted)
 plain_says first (Exports p l o model) e =
     let a = both _ _ e in
     let b = both _ _ a.1 in
     let m = model_left_out model in
-    as_call (words_of first (Exports p l o model)) _ _ (ap (λ n. calls.Exports p l o n) m.1)
+    as_call (words_of first (Exports p l o model)) _ _ (ap (λ n. exported p l o n) m.1)
     (export_says first p l o (option_map model_name model) (name_plain p a.0) (name_plain l b.0) (name_plain o b.1) m.0)
 plain_says first (Imports p l r o model) e =
     let a = both _ _ e in
     let b = both _ _ a.1 in
     let c = both _ _ b.1 in
     let m = model_left_out model in
-    as_call (words_of first (Imports p l r o model)) _ _ (ap (λ n. calls.Imports p l r o n) m.1)
+    as_call (words_of first (Imports p l r o model)) _ _ (ap (λ n. imported p l r o n) m.1)
     (import_says first p l r o (option_map model_name model) (name_plain p a.0) (name_plain l b.0) (name_plain r c.0) (name_plain o c.1) m.0)
 plain_says first (Solves p l o model budget) e =
     let a = both (is_name p && (is_name l && is_name o)) _ e in
@@ -377,7 +395,7 @@ plain_says first (Solves p l o model budget) e =
     let files = both (is_name l) (is_name o) names.1 in
     let m = model_left_out model in
     let n = number_written 1 BUDGET usual_budget (omega arith) budget a.1 in
-    as_call (words_of first (Solves p l o model budget)) _ _ (λ i. calls.Solves p l o (m.1 i) (n.1 i))
+    as_call (words_of first (Solves p l o model budget)) _ _ (λ i. calls.Solves (searched_for p l o (m.1 i) (n.1 i)))
     (solve_says first p l o (option_map model_name model) (option_map decimal budget) (name_plain p names.0) (name_plain l files.0) (name_plain o files.1)
     m.0 n.0)
 plain_says first (Minimizes p l o model budget r) e =
@@ -387,7 +405,7 @@ plain_says first (Minimizes p l o model budget r) e =
     let rest = both (option_map_or (is_between 1 BUDGET) budget true) (is_name r) a.1 in
     let m = model_left_out model in
     let n = number_written 1 BUDGET usual_budget (omega arith) budget rest.0 in
-    as_call (words_of first (Minimizes p l o model budget r)) _ _ (λ i. calls.Minimizes p l o (m.1 i) (n.1 i) r)
+    as_call (words_of first (Minimizes p l o model budget r)) _ _ (λ i. calls.Minimizes (least_of (searched_for p l o (m.1 i) (n.1 i)) r))
     (least_says first p l o (option_map model_name model) (option_map decimal budget) r (name_plain p names.0) (name_plain l files.0) (name_plain o files.1)
     m.0 n.0 (name_plain r rest.1))
 plain_says first (Explains p l r) e =

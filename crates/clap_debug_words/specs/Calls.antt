@@ -9,26 +9,38 @@ use Rattle.tc_limits.specs.declared.limits.TheConstants.{BUDGET, MOVES}
 use Rattle.memory_models.specs.declared.model.Model.{Model}
 use Rattle.memory_models.specs.declared.model.Model.TheVariants.{Sc, Tso, Pso}
 use Rattle.clap_debug_words.specs.CommandLine.{command_line, words_taken, last_seed}
-use Rattle.clap_debug_words.specs.declared.workers.TheConstants.{WORKERS}
+use Rattle.workload_command.specs.declared.workers.TheConstants.{WORKERS}
+use Rattle.check_command.specs.Meanings.{names_of}
+use Rattle.cnf_command.specs.Calls.{Cnf, plain_cnf}
+use Rattle.import_command.specs.Calls.{Import, plain_import}
+use Rattle.least_command.specs.Calls.{Least}
+use Rattle.least_command.specs.helpers.Asked.{plain_least}
+use Rattle.migrate_command.specs.Meanings.{Migrate}
+use Rattle.migrate_command.specs.helpers.Asked.{plain_migrate}
+use Rattle.record_command.specs.Runs.{Record}
+use Rattle.record_command.specs.helpers.Asked.{plain_record}
+use Rattle.check_command.specs.refutation_verdicts.Refutations.{Names}
+use Rattle.solve_command.specs.Calls.{Solve}
+use Rattle.solve_command.specs.helpers.Asked.{plain_solve}
+use Rattle.why_command.specs.Meanings as explained
+use Rattle.workload_command.specs.Works.{Workload}
+use Rattle.workload_command.specs.helpers.Asked.{plain_workload}
 use Rattle.clap_debug_words.specs.declared.Call.{Call}
 use Rattle.clap_debug_words.specs.declared.Call.TheVariants as call
 
--- a command with the names of its files, and the values of its options
+-- a command, with the names of its files and the values of its options
 pub data Called : Type 0 where
   Lists : (program : Text) → Called
   Replays : (program log schedule : Text) → Called
-  Records : (program log : Text) (model : Model) (seed steps : ℕ) → Called
-  Migrates : (program log out : Text) → Called
-  -- without a model, the log's model is meant
-  Solves : (program log out : Text) (model : Option Model) (budget : ℕ) → Called
-  -- asks for a schedule with the fewest context switches, and a refutation that none has fewer
-  Minimizes : (program log out : Text) (model : Option Model) (budget : ℕ) (refutation : Text) → Called
-  Checks : (program log refutation : Text) → Called
-  Workloads : (workers seed : ℕ) → Called
-  -- without a model, the log's model is meant
-  Exports : (program log out : Text) (model : Option Model) → Called
-  Imports : (program log answer out : Text) (model : Option Model) → Called
-  Explains : (program log refutation : Text) → Called
+  Records : (call : Record) → Called
+  Migrates : (call : Migrate) → Called
+  Solves : (call : Solve) → Called
+  Minimizes : (call : Least) → Called
+  Checks : (call : Names) → Called
+  Workloads : (call : Workload) → Called
+  Exports : (call : Cnf) → Called
+  Imports : (call : Import) → Called
+  Explains : (call : Names) → Called
 
 -- the text of a positional
 abbrev pub text_of : Text → List Row → Text
@@ -36,11 +48,13 @@ text_of id rows = unwrap_or (first_of id rows) []
 
 -- the number that a text is, if it is one in the range, else the default
 abbrev pub number_in : (low high default : ℕ) → Text → ℕ
-number_in low high default text = if is_unsigned_in low high text then digits_value 10 (without_leading_plus text) else default
+number_in low high default text =
+    if is_unsigned_in low high text then digits_value 10 (without_leading_plus text) else default
 
 -- the number of an option or a positional
 abbrev pub number_of : (low high default : ℕ) → Text → List Row → ℕ
-number_of low high default id rows = option_map_or (number_in low high default) (one_of id rows) default
+number_of low high default id rows =
+    option_map_or (number_in low high default) (one_of id rows) default
 
 -- the number, if there is one in the range, else the default
 abbrev pub within : (low high default : ℕ) → Option ℕ → ℕ
@@ -49,7 +63,9 @@ within low high default (Some n) = if nat_le low n && nat_le n high then n else 
 
 -- the memory model with this name
 abbrev pub model_in : Text → Model
-model_in name = if bytes_eq name (model_name Tso) then Tso else if bytes_eq name (model_name Pso) then Pso else Sc
+model_in name =
+    if bytes_eq name (model_name Tso) then Tso else if bytes_eq name (model_name Pso) then Pso
+    else Sc
 
 abbrev pub model_of : List Row → Model
 model_of rows = model_in (text_of (codes "model") rows)
@@ -74,44 +90,115 @@ usual_budget = 1000000
 abbrev pub budget_of : List Row → ℕ
 budget_of rows = number_of 1 BUDGET usual_budget (codes "budget") rows
 
+-- what matches say of each command
+
+abbrev pub record_in : List Row → Record
+record_in rows = record {
+  program = text_of (codes "program") rows;
+  log = text_of (codes "log") rows;
+  model = model_of rows;
+  seed = seed_of rows;
+  steps = steps_of rows;
+}
+
+abbrev pub migrate_in : List Row → Migrate
+migrate_in rows =
+    record {
+      program = text_of (codes "program") rows;
+      log = text_of
+          (codes "log") rows;
+      out = text_of (codes "out") rows;
+    }
+
+-- without a model, the log's is meant
+abbrev pub solve_in : List Row → Solve
+solve_in rows = record {
+  program = text_of (codes "program") rows;
+  log = text_of (codes "log") rows;
+  out = text_of (codes "out") rows;
+  model = written_model rows;
+  budget = budget_of rows;
+}
+
+-- `solve`, with this name for the refutation
+abbrev pub least_of : Solve → Text → Least
+least_of call refutation = record {
+  program = call.program;
+  log = call.log;
+  out = call.out;
+  refutation = refutation;
+  model = call.model;
+  budget = call.budget;
+}
+
+abbrev pub names_in : List Row → Names
+names_in rows =
+    record {
+      program = text_of (codes "program") rows;
+      log = text_of
+          (codes "log") rows;
+      refutation = text_of (codes "refutation") rows;
+    }
+
+abbrev pub workload_in : List Row → Workload
+workload_in rows = record { workers = workers_of rows; seed = seed_of rows }
+
+abbrev pub cnf_in : List Row → Cnf
+cnf_in rows = record {
+  program = text_of (codes "program") rows;
+  log = text_of (codes "log") rows;
+  out = text_of (codes "out") rows;
+  model = written_model rows;
+}
+
+abbrev pub import_in : List Row → Import
+import_in rows = record {
+  program = text_of (codes "program") rows;
+  log = text_of (codes "log") rows;
+  answer = text_of (codes "answer") rows;
+  out = text_of (codes "out") rows;
+  model = written_model rows;
+}
+
 -- the call of `solve`, with or without a name for the refutation
-abbrev pub searched_as : Option Text → (program log out : Text) → Option Model → ℕ → Called
-searched_as None program log out model budget = Solves program log out model budget
-searched_as (Some refutation) program log out model budget = Minimizes program log out model budget refutation
+abbrev pub searched_as : Option Text → Solve → Called
+searched_as None call = Solves call
+searched_as (Some refutation) call = Minimizes (least_of call refutation)
 
 abbrev pub searched : List Row → Called
-searched rows = searched_as (first_of (codes "least") rows) (text_of (codes "program") rows) (text_of (codes "log") rows) (text_of (codes "out") rows)
-    (written_model rows) (budget_of rows)
+searched rows = searched_as (first_of (codes "least") rows) (solve_in rows)
 
 -- the call of a subcommand's name and matches
 abbrev pub called : Text × List Row → Called
 called p = if bytes_eq p.0 (codes "list") then Lists (text_of (codes "program") p.1)
-    else if bytes_eq p.0 (codes "replay") then Replays (text_of (codes "program") p.1) (text_of (codes "log") p.1) (text_of (codes "schedule") p.1)
-    else if bytes_eq p.0 (codes "migrate") then Migrates (text_of (codes "program") p.1) (text_of (codes "log") p.1) (text_of (codes "out") p.1)
+    else if bytes_eq p.0 (codes "replay")
+    then Replays (text_of (codes "program") p.1) (text_of (codes "log") p.1)
+    (text_of (codes "schedule") p.1)
+    else if bytes_eq p.0 (codes "migrate") then Migrates (migrate_in p.1)
     else if bytes_eq p.0 (codes "solve") then searched p.1
-    else if bytes_eq p.0 (codes "check") then Checks (text_of (codes "program") p.1) (text_of (codes "log") p.1) (text_of (codes "refutation") p.1)
-    else if bytes_eq p.0 (codes "workload") then Workloads (workers_of p.1) (seed_of p.1)
-    else if bytes_eq p.0 (codes "cnf") then
-    Exports (text_of (codes "program") p.1) (text_of (codes "log") p.1) (text_of (codes "out") p.1) (written_model p.1)
-    else if bytes_eq p.0 (codes "import") then
-    Imports (text_of (codes "program") p.1) (text_of (codes "log") p.1) (text_of (codes "answer") p.1) (text_of (codes "out") p.1) (written_model p.1)
-    else if bytes_eq p.0 (codes "why") then Explains (text_of (codes "program") p.1) (text_of (codes "log") p.1) (text_of (codes "refutation") p.1)
-    else Records (text_of (codes "program") p.1) (text_of (codes "log") p.1) (model_of p.1) (seed_of p.1) (steps_of p.1)
+    else if bytes_eq p.0 (codes "check") then Checks (names_in p.1)
+    else if bytes_eq p.0 (codes "workload") then Workloads (workload_in p.1)
+    else if bytes_eq p.0 (codes "cnf") then Exports (cnf_in p.1)
+    else if bytes_eq p.0 (codes "import") then Imports (import_in p.1)
+    else if bytes_eq p.0 (codes "why") then Explains (names_in p.1)
+    else Records (record_in p.1)
 
 -- the call that the words ask for, if they are accepted
 abbrev pub call_of : List Text → Option Called
-call_of words = if words_taken words then option_map called (subcommand_of command_line words) else None
+call_of words =
+    if words_taken words then option_map called (subcommand_of command_line words) else None
 
 -- a call as plain data
 abbrev pub plain_call : Call → Called
-plain_call (call.List program) = Lists program.now
-plain_call (call.Replay program log schedule) = Replays program.now log.now schedule.now
-plain_call (call.Record program log model seed steps) = Records program.now log.now model seed steps
-plain_call (call.Migrate program log out) = Migrates program.now log.now out.now
-plain_call (call.Solve program log out model budget) = Solves program.now log.now out.now model budget.conflicts
-plain_call (call.Least program log out model budget refutation) = Minimizes program.now log.now out.now model budget.conflicts refutation.now
-plain_call (call.Check program log refutation) = Checks program.now log.now refutation.now
-plain_call (call.Workload workers seed) = Workloads workers.count seed
-plain_call (call.Cnf program log out model) = Exports program.now log.now out.now model
-plain_call (call.Import program log answer out model) = Imports program.now log.now answer.now out.now model
-plain_call (call.Why program log refutation) = Explains program.now log.now refutation.now
+plain_call (call.List list) = Lists list.program.name.now
+plain_call (call.Replay replay) =
+    Replays replay.inputs.0.0.name.now replay.inputs.0.1.name.now replay.inputs.1.name.now
+plain_call (call.Record recording) = Records (plain_record recording)
+plain_call (call.Migrate migrate) = Migrates (plain_migrate migrate)
+plain_call (call.Solve solve) = Solves (plain_solve solve)
+plain_call (call.Least least) = Minimizes (plain_least least)
+plain_call (call.Check check) = Checks (names_of check)
+plain_call (call.Workload workload) = Workloads (plain_workload workload)
+plain_call (call.Cnf cnf) = Exports (plain_cnf cnf)
+plain_call (call.Import import) = Imports (plain_import import)
+plain_call (call.Why why) = Explains (explained.names_of why)

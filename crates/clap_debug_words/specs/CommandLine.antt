@@ -8,7 +8,7 @@ use Rattle.clap.specs.declared.builder.value_parser.ValueParser.TheVariants as p
 use Rattle.memory_models.specs.Models.{model_name}
 use Rattle.tc_limits.specs.declared.limits.TheConstants.{BUDGET, MOVES}
 use Rattle.memory_models.specs.declared.model.Model.TheVariants.{Sc, Tso, Pso}
-use Rattle.clap_debug_words.specs.declared.workers.TheConstants.{WORKERS}
+use Rattle.workload_command.specs.declared.workers.TheConstants.{WORKERS}
 
 -- a required positional
 abbrev pub positional : Text → Rule
@@ -20,7 +20,8 @@ positional_of name values = record (new_rule name) { required = true; parser = S
 
 -- an option that takes one value and has a default
 abbrev pub option : Text → Text → ValueParser → Rule
-option name default values = record (new_rule name) { long = Some name; defaults = default ∷ []; parser = Some values }
+option name default values =
+    record (new_rule name) { long = Some name; defaults = default ∷ []; parser = Some values }
 
 -- an option that takes one value and has no default
 abbrev pub option_alone : Text → ValueParser → Rule
@@ -58,7 +59,8 @@ list = record (new_shape (codes "list")) { rules = positional (codes "program") 
 -- `replay PROGRAM LOG SCHEDULE`
 abbrev pub replay : Shape
 replay = record (new_shape (codes "replay")) {
-  rules = positional (codes "program") ∷ positional (codes "log") ∷ positional (codes "schedule") ∷ [];
+  rules = positional (codes "program") ∷ positional (codes "log") ∷ positional (codes "schedule")
+      ∷ [];
 }
 
 -- `record PROGRAM LOG [--model sc|tso|pso] [--seed N] [--steps N]`
@@ -93,13 +95,15 @@ solving names = record (new_shape (codes "solve")) {
 -- `check PROGRAM LOG REFUTATION`
 abbrev pub checking : Shape
 checking = record (new_shape (codes "check")) {
-  rules = positional (codes "program") ∷ positional (codes "log") ∷ positional (codes "refutation") ∷ [];
+  rules = positional (codes "program") ∷ positional (codes "log") ∷ positional (codes "refutation")
+      ∷ [];
 }
 
 -- `workload N SEED`
 abbrev pub workload : Shape
 workload = record (new_shape (codes "workload")) {
-  rules = positional_of (codes "workers") (parser.Unsigned 1 WORKERS) ∷ positional_of (codes "seed") (parser.Unsigned 0 last_seed) ∷ [];
+  rules = positional_of (codes "workers") (parser.Unsigned 1 WORKERS)
+      ∷ positional_of (codes "seed") (parser.Unsigned 0 last_seed) ∷ [];
 }
 
 -- `cnf PROGRAM LOG OUT [--model sc|tso|pso]`
@@ -126,7 +130,8 @@ import names = record (new_shape (codes "import")) {
 -- `why PROGRAM LOG REFUTATION`
 abbrev pub why : Shape
 why = record (new_shape (codes "why")) {
-  rules = positional (codes "program") ∷ positional (codes "log") ∷ positional (codes "refutation") ∷ [];
+  rules = positional (codes "program") ∷ positional (codes "log") ∷ positional (codes "refutation")
+      ∷ [];
 }
 
 -- a command that requires a subcommand and has no help
@@ -143,7 +148,8 @@ commands a = record a {
 abbrev pub command_line_at : ModelNames → App
 command_line_at names = record {
   top = record (commands (new_app (codes "clap_debug"))).top { is_leaf = false };
-  subs = list ∷ replay ∷ recording names ∷ migration ∷ solving names ∷ checking ∷ workload ∷ cnf names ∷ import names ∷ why ∷ [];
+  subs = list ∷ replay ∷ recording names ∷ migration ∷ solving names ∷ checking ∷ workload
+      ∷ cnf names ∷ import names ∷ why ∷ [];
 }
 
 -- the whole command

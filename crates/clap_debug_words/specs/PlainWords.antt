@@ -7,9 +7,10 @@ use Rattle.memory_models.specs.declared.model.Model.{Model}
 use Rattle.memory_models.specs.Models.{model_name}
 use Rattle.tc_limits.specs.declared.limits.TheConstants.{BUDGET, MOVES}
 use Rattle.memory_models.specs.declared.model.Model.TheVariants.{Sc}
-use Rattle.clap_debug_words.specs.declared.workers.TheConstants.{WORKERS}
+use Rattle.workload_command.specs.declared.workers.TheConstants.{WORKERS}
+use Rattle.solve_command.specs.Calls.{Solve}
 use Rattle.clap_debug_words.specs.CommandLine.{last_seed}
-use Rattle.clap_debug_words.specs.Calls.{Called, usual_budget}
+use Rattle.clap_debug_words.specs.Calls.{Called, least_of, usual_budget}
 use Rattle.clap_debug_words.specs.Calls as calls
 
 -- a command with its files or numbers, and the options that are written
@@ -19,7 +20,8 @@ pub data Written : Type 0 where
   Records : (program log : Text) (model : Option Model) (seed steps : Option ℕ) → Written
   Migrates : (program log out : Text) → Written
   Solves : (program log out : Text) (model : Option Model) (budget : Option ℕ) → Written
-  Minimizes : (program log out : Text) (model : Option Model) (budget : Option ℕ) (refutation : Text) → Written
+  Minimizes : (program log out : Text) (model : Option Model) (budget : Option ℕ)
+      (refutation : Text) → Written
   Checks : (program log refutation : Text) → Written
   Workloads : (workers seed : ℕ) → Written
   Exports : (program log out : Text) (model : Option Model) → Written
@@ -33,23 +35,33 @@ option_words name (Some value) = name ∷ value ∷ []
 
 abbrev pub words_of : Text → Written → List Text
 words_of first (Lists program) = first ∷ codes "list" ∷ program ∷ []
-words_of first (Replays program log schedule) = first ∷ codes "replay" ∷ program ∷ log ∷ schedule ∷ []
+words_of first (Replays program log schedule) =
+    first ∷ codes "replay" ∷ program ∷ log ∷ schedule ∷ []
 words_of first (Records program log model seed steps) = first ∷ codes "record" ∷ program ∷ log
     ∷ (option_words (codes "--model") (option_map model_name model)
     ++ (option_words (codes "--seed") (option_map decimal seed)
     ++ option_words (codes "--steps") (option_map decimal steps)))
 words_of first (Migrates program log out) = first ∷ codes "migrate" ∷ program ∷ log ∷ out ∷ []
 words_of first (Solves program log out model budget) = first ∷ codes "solve" ∷ program ∷ log ∷ out
-    ∷ (option_words (codes "--model") (option_map model_name model) ++ option_words (codes "--budget") (option_map decimal budget))
-words_of first (Minimizes program log out model budget refutation) = first ∷ codes "solve" ∷ program ∷ log ∷ out
     ∷ (option_words (codes "--model") (option_map model_name model)
-    ++ (option_words (codes "--budget") (option_map decimal budget) ++ option_words (codes "--least") (Some refutation)))
-words_of first (Checks program log refutation) = first ∷ codes "check" ∷ program ∷ log ∷ refutation ∷ []
-words_of first (Workloads workers seed) = first ∷ codes "workload" ∷ decimal workers ∷ decimal seed ∷ []
-words_of first (Exports program log out model) = first ∷ codes "cnf" ∷ program ∷ log ∷ out ∷ option_words (codes "--model") (option_map model_name model)
-words_of first (Imports program log answer out model) = first ∷ codes "import" ∷ program ∷ log ∷ answer ∷ out
+    ++ option_words (codes "--budget") (option_map decimal budget))
+words_of first (Minimizes program log out model budget refutation) =
+    first ∷ codes "solve" ∷ program ∷ log ∷ out
+    ∷ (option_words (codes "--model") (option_map model_name model)
+    ++ (option_words (codes "--budget") (option_map decimal budget)
+    ++ option_words (codes "--least") (Some refutation)))
+words_of first (Checks program log refutation) =
+    first ∷ codes "check" ∷ program ∷ log ∷ refutation ∷ []
+words_of first (Workloads workers seed) =
+    first ∷ codes "workload" ∷ decimal workers ∷ decimal seed ∷ []
+words_of first (Exports program log out model) =
+    first ∷ codes "cnf" ∷ program ∷ log ∷ out
     ∷ option_words (codes "--model") (option_map model_name model)
-words_of first (Explains program log refutation) = first ∷ codes "why" ∷ program ∷ log ∷ refutation ∷ []
+words_of first (Imports program log answer out model) =
+    first ∷ codes "import" ∷ program ∷ log ∷ answer ∷ out
+    ∷ option_words (codes "--model") (option_map model_name model)
+words_of first (Explains program log refutation) =
+    first ∷ codes "why" ∷ program ∷ log ∷ refutation ∷ []
 
 -- whether a text can name a file: it isn't empty and doesn't begin with `-`
 abbrev pub is_name : Text → Bool
@@ -64,27 +76,55 @@ abbrev pub is_plain : Written → Bool
 is_plain (Lists program) = is_name program
 is_plain (Replays program log schedule) = is_name program && (is_name log && is_name schedule)
 is_plain (Records program log model seed steps) = (is_name program && is_name log)
-    && (option_map_or (is_between 0 last_seed) seed true && option_map_or (is_between 1 MOVES) steps true)
+    && (option_map_or (is_between 0 last_seed) seed true
+    && option_map_or (is_between 1 MOVES) steps true)
 is_plain (Migrates program log out) = is_name program && (is_name log && is_name out)
-is_plain (Solves program log out model budget) = (is_name program && (is_name log && is_name out)) && option_map_or (is_between 1 BUDGET) budget true
-is_plain (Minimizes program log out model budget refutation) = (is_name program && (is_name log && is_name out))
+is_plain (Solves program log out model budget) =
+    (is_name program && (is_name log && is_name out))
+    && option_map_or (is_between 1 BUDGET) budget true
+is_plain (Minimizes program log out model budget refutation) =
+    (is_name program && (is_name log && is_name out))
     && (option_map_or (is_between 1 BUDGET) budget true && is_name refutation)
 is_plain (Checks program log refutation) = is_name program && (is_name log && is_name refutation)
 is_plain (Workloads workers seed) = is_between 1 WORKERS workers && is_between 0 last_seed seed
 is_plain (Exports program log out model) = is_name program && (is_name log && is_name out)
-is_plain (Imports program log answer out model) = is_name program && (is_name log && (is_name answer && is_name out))
+is_plain (Imports program log answer out model) =
+    is_name program && (is_name log && (is_name answer && is_name out))
 is_plain (Explains program log refutation) = is_name program && (is_name log && is_name refutation)
+
+-- `solve`, with the default budget if none is written
+abbrev pub solved : (program log out : Text) → Option Model → Option ℕ → Solve
+solved program log out model budget = record {
+  program = program;
+  log = log;
+  out = out;
+  model = model;
+  budget = unwrap_or budget usual_budget;
+}
 
 -- the call that the words ask for, with defaults for the options that aren't written
 abbrev pub asked : Written → Called
 asked (Lists program) = calls.Lists program
 asked (Replays program log schedule) = calls.Replays program log schedule
-asked (Records program log model seed steps) = calls.Records program log (unwrap_or model Sc) (unwrap_or seed 0) (unwrap_or steps MOVES)
-asked (Migrates program log out) = calls.Migrates program log out
-asked (Solves program log out model budget) = calls.Solves program log out model (unwrap_or budget usual_budget)
-asked (Minimizes program log out model budget refutation) = calls.Minimizes program log out model (unwrap_or budget usual_budget) refutation
-asked (Checks program log refutation) = calls.Checks program log refutation
-asked (Workloads workers seed) = calls.Workloads workers seed
-asked (Exports program log out model) = calls.Exports program log out model
-asked (Imports program log answer out model) = calls.Imports program log answer out model
-asked (Explains program log refutation) = calls.Explains program log refutation
+asked (Records program log model seed steps) = calls.Records (record {
+  program = program;
+  log = log;
+  model = unwrap_or model Sc;
+  seed = unwrap_or seed 0;
+  steps = unwrap_or steps MOVES;
+})
+asked (Migrates program log out) =
+    calls.Migrates (record { program = program; log = log; out = out })
+asked (Solves program log out model budget) = calls.Solves (solved program log out model budget)
+asked (Minimizes program log out model budget refutation) =
+    calls.Minimizes (least_of (solved program log out model budget) refutation)
+asked (Checks program log refutation) =
+    calls.Checks (record { program = program; log = log; refutation = refutation })
+asked (Workloads workers seed) = calls.Workloads (record { workers = workers; seed = seed })
+asked (Exports program log out model) =
+    calls.Exports (record { program = program; log = log; out = out; model = model })
+asked (Imports program log answer out model) =
+    calls.Imports
+    (record { program = program; log = log; answer = answer; out = out; model = model })
+asked (Explains program log refutation) =
+    calls.Explains (record { program = program; log = log; refutation = refutation })

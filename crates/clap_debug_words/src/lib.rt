@@ -6,21 +6,37 @@ ghost use Rattle.clap.specs.Words.{app_of, found_of, new_app, rows_of, rule_of, 
 ghost use Rattle.clap_debug_words.specs.CommandLine as spec;
 ghost use Rattle.clap_debug_words.specs.CommandLine.{AreModelNames, command_line, words_taken};
 ghost use Rattle.clap_debug_words.specs.Calls.{plain_call, called, searched, call_of, text_of, model_in, model_of, written_model, number_of, seed_of, steps_of, budget_of, workers_of, within};
+ghost use Rattle.clap_debug_words.specs.Calls.{cnf_in, import_in, migrate_in, names_in, record_in, solve_in};
+ghost use Rattle.check_command.specs.Meanings.{names_of};
+ghost use Rattle.cnf_command.specs.Calls.{plain_cnf};
+ghost use Rattle.import_command.specs.Calls.{plain_import};
+ghost use Rattle.migrate_command.specs.helpers.Asked.{plain_migrate};
+ghost use Rattle.record_command.specs.helpers.Asked.{plain_record};
+ghost use Rattle.solve_command.specs.helpers.Asked.{plain_solve};
+ghost use Rattle.why_command.specs.Meanings as explained;
 ghost use Rattle.clap_debug_words.specs.PlainWords.{Written, asked, is_plain, words_of};
 ghost use Rattle.clap_debug_words.specs.Given.{HasFiles, HasValues};
 
-mod budget;
-mod workers;
-
-pub use budget::{Budget, USUAL_BUDGET};
+use check_command::Check;
 use clap::builder::ValueParser;
 use clap::error::ErrorKind;
 use clap::{Arg, ArgMatches, Command};
+use cnf_command::Cnf;
+use command_frame::Entire;
+use command_inputs::{LogFile, ProgramFile, ScheduleFile};
+use import_command::{AnswerFile, Import};
+use least_command::Least;
+use log_tasks::{Budget, USUAL_BUDGET};
 use memory_models::Model;
+use migrate_command::Migrate;
+use record_command::Record;
+use replay_command::Replay;
+use solve_command::Solve;
 use std::alloc::{AllocError, Global};
 use std::mem::drop;
 use tc_limits::limits::{BUDGET, MOVES};
-pub use workers::{WORKERS, Workers};
+use why_command::Why;
+use workload_command::{WORKERS, Workers, Workload};
 
 static MODEL_NAMES: [&str; 3] = ["sc", "tso", "pso"];
 
@@ -36,86 +52,20 @@ const MOST_WORKERS: u64 = WORKERS as u64;
 /// The default number of conflicts of a search.
 const USUAL_CONFLICTS: u64 = USUAL_BUDGET as u64;
 
-/// The call that the words ask for.
+/// The call that the words ask for: a command, with its files and options.
 #[derive(Clone, Copy)]
 pub enum Call<'a> {
-    /// Print the flat code of a program.
-    List {
-        program: &'a str,
-    },
-    /// Run a schedule, and tell whether it leads to the failure of the log.
-    Replay {
-        program: &'a str,
-        log: &'a str,
-        schedule: &'a str,
-    },
-    /// Run a program by seeded moves, at most `steps` of them, and keep the log of a failing run.
-    Record {
-        program: &'a str,
-        log: &'a str,
-        model: Model,
-        seed: u64,
-        steps: u32,
-    },
-    /// Write a log in format 2, with the digest of its program.
-    Migrate {
-        program: &'a str,
-        log: &'a str,
-        out: &'a str,
-    },
-    /// Search for a schedule that leads to the failure of the log, or for a refutation that proves
-    /// that none does. Without a model, the log's is meant.
-    Solve {
-        program: &'a str,
-        log: &'a str,
-        out: &'a str,
-        model: Option<Model>,
-        budget: Budget,
-    },
-    /// Search for a schedule with the fewest context switches, and for a refutation that proves
-    /// that none has fewer. Without a model, the log's is meant.
-    Least {
-        program: &'a str,
-        log: &'a str,
-        out: &'a str,
-        model: Option<Model>,
-        budget: Budget,
-        refutation: &'a str,
-    },
-    /// Check a refutation.
-    Check {
-        program: &'a str,
-        log: &'a str,
-        refutation: &'a str,
-    },
-    /// Generate a program with this many workers, which read one another's cells as the seed
-    /// chooses; run it by moves that the seed chooses, and solve the log in which each worker reads
-    /// before any writes.
-    Workload {
-        workers: Workers,
-        seed: u64,
-    },
-    /// Write the clauses of the log for other solvers. Without a model, the log's is meant.
-    Cnf {
-        program: &'a str,
-        log: &'a str,
-        out: &'a str,
-        model: Option<Model>,
-    },
-    /// Make a schedule from another solver's answer. Without a model, the log's is meant.
-    Import {
-        program: &'a str,
-        log: &'a str,
-        answer: &'a str,
-        out: &'a str,
-        model: Option<Model>,
-    },
-    /// Print the rules that a refutation uses.
-    Why {
-        program: &'a str,
-        log: &'a str,
-        refutation: &'a str,
-    },
+    List(list_command::List<'a>),
+    Replay(Replay<'a>),
+    Record(Record<'a>),
+    Migrate(Migrate<'a>),
+    Solve(Solve<'a>),
+    Least(Least<'a>),
+    Check(Check<'a>),
+    Workload(Workload),
+    Cnf(Cnf<'a>),
+    Import(Import<'a>),
+    Why(Why<'a>),
 }
 
 /// The call that the words ask for, or `None` if they aren't accepted; a request for help isn't.
@@ -161,14 +111,14 @@ fn called<'a>(name: &str, matches: &ArgMatches<'a>) -> Call<'a>
     ensures { plain_call result ≡ called (name.now, rows_of (found_of matches.now)) }
 {
     if name == "list" {
-        Call::List {
-            program: text(matches, "program"),
-        }
+        Call::List(list_command::List {
+            program: program_in(matches),
+        })
     } else if name == "workload" {
-        Call::Workload {
+        Call::Workload(Workload {
             workers: workers_in(matches),
             seed: seed_in(matches),
-        }
+        })
     } else {
         called_of_log(name, matches)
     }
@@ -180,57 +130,22 @@ fn called_of_log<'a>(name: &str, matches: &ArgMatches<'a>) -> Call<'a>
     requires workless { bytes_eq name.now (codes "workload") ≡ false }
     ensures { plain_call result ≡ called (name.now, rows_of (found_of matches.now)) }
 {
-    let program = text(matches, "program");
-    let log = text(matches, "log");
     if name == "replay" {
-        Call::Replay {
-            program,
-            log,
-            schedule: text(matches, "schedule"),
-        }
+        Call::Replay(replay_in(matches))
     } else if name == "migrate" {
-        Call::Migrate {
-            program,
-            log,
-            out: text(matches, "out"),
-        }
+        Call::Migrate(migrate_in(matches))
     } else if name == "solve" {
         searched(matches)
     } else if name == "check" {
-        Call::Check {
-            program,
-            log,
-            refutation: text(matches, "refutation"),
-        }
+        Call::Check(check_in(matches))
     } else if name == "cnf" {
-        Call::Cnf {
-            program,
-            log,
-            out: text(matches, "out"),
-            model: written_model(matches),
-        }
+        Call::Cnf(cnf_in(matches))
     } else if name == "import" {
-        Call::Import {
-            program,
-            log,
-            answer: text(matches, "answer"),
-            out: text(matches, "out"),
-            model: written_model(matches),
-        }
+        Call::Import(import_in(matches))
     } else if name == "why" {
-        Call::Why {
-            program,
-            log,
-            refutation: text(matches, "refutation"),
-        }
+        Call::Why(why_in(matches))
     } else {
-        Call::Record {
-            program,
-            log,
-            model: model_in(matches),
-            seed: seed_in(matches),
-            steps: steps_in(matches),
-        }
+        Call::Record(record_in(matches))
     }
 }
 
@@ -238,27 +153,124 @@ fn called_of_log<'a>(name: &str, matches: &ArgMatches<'a>) -> Call<'a>
 fn searched<'a>(matches: &ArgMatches<'a>) -> Call<'a>
     ensures { plain_call result ≡ searched (rows_of (found_of matches.now)) }
 {
-    let program = text(matches, "program");
-    let log = text(matches, "log");
-    let out = text(matches, "out");
-    let model = written_model(matches);
-    let budget = budget_in(matches);
+    let solve = solve_in(matches);
     match matches.get_str("least") {
-        Some(refutation) => Call::Least {
-            program,
-            log,
-            out,
-            model,
-            budget,
+        Some(refutation) => Call::Least(Least {
+            inputs: solve.inputs,
+            out: solve.out,
             refutation,
-        },
-        None => Call::Solve {
-            program,
-            log,
-            out,
-            model,
-            budget,
-        },
+            model: solve.model,
+            budget: solve.budget,
+        }),
+        None => Call::Solve(solve),
+    }
+}
+
+fn replay_in<'a>(matches: &ArgMatches<'a>) -> Replay<'a>
+    ensures program { result.inputs.0.0.name.now ≡ text_of (codes "program") (rows_of (found_of matches.now)) }
+    ensures log { result.inputs.0.1.name.now ≡ text_of (codes "log") (rows_of (found_of matches.now)) }
+    ensures schedule { result.inputs.1.name.now ≡ text_of (codes "schedule") (rows_of (found_of matches.now)) }
+{
+    let schedule = ScheduleFile {
+        name: text(matches, "schedule"),
+    };
+    Replay {
+        inputs: (both_in(matches), schedule),
+    }
+}
+
+fn record_in<'a>(matches: &ArgMatches<'a>) -> Record<'a>
+    ensures { plain_record result ≡ record_in (rows_of (found_of matches.now)) }
+{
+    Record {
+        program: program_in(matches),
+        log: text(matches, "log"),
+        model: model_in(matches),
+        seed: seed_in(matches),
+        steps: steps_in(matches),
+    }
+}
+
+fn migrate_in<'a>(matches: &ArgMatches<'a>) -> Migrate<'a>
+    ensures { plain_migrate result ≡ migrate_in (rows_of (found_of matches.now)) }
+{
+    Migrate {
+        inputs: both_in(matches),
+        out: text(matches, "out"),
+    }
+}
+
+fn solve_in<'a>(matches: &ArgMatches<'a>) -> Solve<'a>
+    ensures { plain_solve result ≡ solve_in (rows_of (found_of matches.now)) }
+{
+    Solve {
+        inputs: both_in(matches),
+        out: text(matches, "out"),
+        model: written_model(matches),
+        budget: budget_in(matches),
+    }
+}
+
+fn check_in<'a>(matches: &ArgMatches<'a>) -> Check<'a>
+    ensures { names_of result ≡ names_in (rows_of (found_of matches.now)) }
+{
+    Check {
+        inputs: both_in(matches),
+        refutation: text(matches, "refutation"),
+    }
+}
+
+fn cnf_in<'a>(matches: &ArgMatches<'a>) -> Cnf<'a>
+    ensures { plain_cnf result ≡ cnf_in (rows_of (found_of matches.now)) }
+{
+    Cnf {
+        inputs: both_in(matches),
+        out: text(matches, "out"),
+        model: written_model(matches),
+    }
+}
+
+fn import_in<'a>(matches: &ArgMatches<'a>) -> Import<'a>
+    ensures { plain_import result ≡ import_in (rows_of (found_of matches.now)) }
+{
+    let answer = AnswerFile {
+        name: text(matches, "answer"),
+    };
+    Import {
+        inputs: (both_in(matches), answer),
+        out: text(matches, "out"),
+        model: written_model(matches),
+    }
+}
+
+fn why_in<'a>(matches: &ArgMatches<'a>) -> Why<'a>
+    ensures { explained.names_of result ≡ names_in (rows_of (found_of matches.now)) }
+{
+    let refutation = Entire {
+        name: text(matches, "refutation"),
+    };
+    Why {
+        inputs: (both_in(matches), refutation),
+    }
+}
+
+/// The program and the log.
+fn both_in<'a>(matches: &ArgMatches<'a>) -> (ProgramFile<'a>, LogFile<'a>)
+    ensures program { result.0.name.now ≡ text_of (codes "program") (rows_of (found_of matches.now)) }
+    ensures log { result.1.name.now ≡ text_of (codes "log") (rows_of (found_of matches.now)) }
+{
+    let log = LogFile {
+        name: text(matches, "log"),
+    };
+    (program_in(matches), log)
+}
+
+/// The program.
+fn program_in<'a>(matches: &ArgMatches<'a>) -> ProgramFile<'a>
+    ensures { result.name.now ≡ text_of (codes "program") (rows_of (found_of matches.now)) }
+{
+    ProgramFile {
+        name: text(matches, "program"),
     }
 }
 

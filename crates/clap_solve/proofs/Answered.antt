@@ -1,8 +1,8 @@
 -- The result of a search of a log's clauses is an answer about the log.
 use Rattle.std.proofs.Common.{◌≡◌, ◌<◌, ℕ, ℤ, Bool, false, IsTrue, List, ap, sym, subst, arith}
-use Rattle.tc_base.specs.Buffers.{BufferOps}
+use Rattle.run_log.specs.tc_base.Buffers.{BufferOps}
 use Rattle.run_log.specs.Logs.{Log}
-use Rattle.memory_models.specs.declared.model.Model.{Model}
+use Rattle.run_log.specs.memory_models.declared.model.Model.{Model}
 use Rattle.tc_code.specs.Code.{Code}
 use Rattle.store_buffers.specs.Laws.{Laws}
 use Rattle.store_buffers.specs.Pending.{Binding}

@@ -1,9 +1,9 @@
 -- Values that satisfy the clauses of a log give a world that has a schedule.
 use Rattle.std.proofs.Common.{◌≡◌, ◌∙◌, true, false, List, [], Bool, sym, ap, subst}
 use Rattle.std.specs.Prelude.{IsTrue, if◌then◌else◌}
-use Rattle.tc_base.specs.Buffers.{BufferOps}
+use Rattle.run_log.specs.tc_base.Buffers.{BufferOps}
 use Rattle.run_log.specs.Logs.{Log}
-use Rattle.memory_models.specs.declared.model.Model.{Model}
+use Rattle.run_log.specs.memory_models.declared.model.Model.{Model}
 use Rattle.tc_code.specs.Code.{Code}
 use Rattle.tc_code.specs.Lawful.{IsLawful}
 use Rattle.store_buffers.specs.Laws.{Laws}
@@ -11,10 +11,10 @@ use Rattle.store_buffers.specs.Pending.{Binding}
 use Rattle.run_log.specs.Logs.{is_log}
 use Rattle.order_formula.specs.Worlds.{World}
 use Rattle.cnf_core.specs.Clauses.{Valuation, satisfies, value_in}
-use Rattle.bit_order.specs.Readings.{world_of}
+use Rattle.bit_blast.specs.bit_order.Readings.{world_of}
 use Rattle.bit_blast.specs.Blasted.{impossible}
-use Rattle.path_laws.specs.Setting.{setting_of}
-use Rattle.world_plan.specs.Going.{IsLawfulWorld}
+use Rattle.schedule_decode.specs.path_laws.Setting.{setting_of}
+use Rattle.schedule_decode.specs.world_plan.Going.{IsLawfulWorld}
 use Rattle.schedule_decode.specs.Decodable.{IsDecodable}
 use Rattle.clap_system.specs.Systems.{system_of}
 use Rattle.orders_are_runs.proofs.Systems.{grows, possible_is_lawful}

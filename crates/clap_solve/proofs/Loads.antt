@@ -4,15 +4,15 @@ use Rattle.std.specs.Prelude.{slice_get, unwrap_or}
 use Rattle.std.specs.List.{All, filter_map}
 use Rattle.std.proofs.lemmas.List.Elements.{All-contains, All-map}
 use Rattle.std.proofs.lemmas.Option.{cond_some, none-some}
-use Rattle.int_ops.specs.Arith.{IsInt}
-use Rattle.tc_base.specs.Names.{Name}
-use Rattle.run_laws.proofs.Ints.{zero_int}
-use Rattle.run_history.specs.History.{Deed, Did, Drained, same}
-use Rattle.run_history.specs.Ints.{DeedHasInts}
+use Rattle.sym_terms.specs.int_ops.Arith.{IsInt}
+use Rattle.run_log.specs.tc_base.Names.{Name}
+use Rattle.sym_exec.proofs.run_laws.Ints.{zero_int}
+use Rattle.schedule_decode.specs.run_history.History.{Deed, Did, Drained, same}
+use Rattle.schedule_decode.specs.run_history.Ints.{DeedHasInts}
 use Rattle.sym_exec.specs.Executed.{Symbolic}
-use Rattle.sym_laws.specs.Loads.{Load, loads_in, loads_of, taken_at, took_by}
-use Rattle.order_events.proofs.Lists.{at_in, of_filter_map}
-use Rattle.order_events.proofs.Parts.{each_in}
+use Rattle.schedule_decode.specs.sym_laws.Loads.{Load, loads_in, loads_of, taken_at, took_by}
+use Rattle.first_run.proofs.order_events.Lists.{at_in, of_filter_map}
+use Rattle.first_run.proofs.order_events.Parts.{each_in}
 
 took_int : (n : Name) (k : ℕ) (d : Deed) (v : ℤ) → DeedHasInts d → took_by n k d ≡ Some v → IsInt v
 took_int n k (Did q j r took other) v ints is = subst IsInt (cond_some (same n q && j == k) took v is).1 ints.1

@@ -6,18 +6,18 @@ use Rattle.std.specs.List.{All, Contains}
 use Rattle.std.proofs.lemmas.Bool.{false≢true}
 use Rattle.std.proofs.lemmas.List.{length-map}
 use Rattle.std.proofs.lemmas.List.Elements.{All-weaker}
-use Rattle.int_ops.specs.Arith.{IsInt}
-use Rattle.tc_base.specs.Buffers.{BufferOps}
+use Rattle.sym_terms.specs.int_ops.Arith.{IsInt}
+use Rattle.run_log.specs.tc_base.Buffers.{BufferOps}
 use Rattle.run_log.specs.Logs.{Log}
-use Rattle.memory_models.specs.declared.model.Model.{Model}
-use Rattle.tc_base.specs.declared.moves.Move.{Move}
+use Rattle.run_log.specs.memory_models.declared.model.Model.{Model}
+use Rattle.run_log.specs.tc_base.declared.moves.Move.{Move}
 use Rattle.tc_code.specs.Code.{Code}
 use Rattle.tc_code.specs.Lawful.{IsLawful}
 use Rattle.tc_code.specs.Run.{Reproduces}
 use Rattle.store_buffers.specs.Laws.{Laws}
 use Rattle.store_buffers.specs.Pending.{Binding}
-use Rattle.run_history.specs.History.{Deed, history}
-use Rattle.run_history.proofs.Ints.{deeds_have_ints, models_pass_ints}
+use Rattle.schedule_decode.specs.run_history.History.{Deed, history}
+use Rattle.schedule_decode.proofs.run_history.Ints.{deeds_have_ints, models_pass_ints}
 use Rattle.run_log.specs.Logs.{is_log}
 use Rattle.path_walk.specs.Paths.{ArePaths, Paths, paths_of}
 use Rattle.sym_terms.specs.declared.node.Node.{Node}
@@ -29,16 +29,16 @@ use Rattle.order_formula.specs.declared.formula.Conjunct.{Conjunct}
 use Rattle.order_formula.specs.Orders.{IsOrder, order_without_questions}
 use Rattle.order_formula.specs.Worlds.{World}
 use Rattle.order_formula.proofs.Asked.{grows_formula}
-use Rattle.lawful_order.specs.Events.{all_events, all_sleeps}
-use Rattle.order_events.proofs.Parts.{each_in}
-use Rattle.order_events.proofs.Whole.{whole}
-use Rattle.bit_ranks.specs.Ranks.{ranks_of}
-use Rattle.bit_ranks.proofs.RankLaws.{ranks-below}
+use Rattle.first_run.specs.lawful_order.Events.{all_events, all_sleeps}
+use Rattle.first_run.proofs.order_events.Parts.{each_in}
+use Rattle.first_run.proofs.order_events.Whole.{whole}
+use Rattle.first_run.specs.bit_ranks.Ranks.{ranks_of}
+use Rattle.first_run.proofs.bit_ranks.RankLaws.{ranks-below}
 use Rattle.cnf_core.specs.Clauses.{Valuation, satisfies}
-use Rattle.bit_order.specs.Laws.{IsWorldFor}
-use Rattle.bit_order.specs.Layouts.{Layout}
-use Rattle.bit_order.specs.Readings.{world_of}
-use Rattle.bit_terms.specs.Laws.{IsIntNode}
+use Rattle.bit_blast.specs.bit_order.Laws.{IsWorldFor}
+use Rattle.bit_blast.specs.bit_order.Layouts.{Layout}
+use Rattle.bit_blast.specs.bit_order.Readings.{world_of}
+use Rattle.bit_blast.specs.bit_terms.Laws.{IsIntNode}
 use Rattle.bit_blast.specs.Blasted.{BlastMeans, IsApart, IsPosed, impossible, layout_of}
 use Rattle.bit_blast.specs.Contended.{contended}
 use Rattle.bit_blast.proofs.Completed.{contended_within}
@@ -46,7 +46,7 @@ use Rattle.bit_blast.proofs.Posed.{blast_means}
 use Rattle.refute_check.specs.Refutations.{IsClosed}
 use Rattle.refute_check.specs.declared.line.Line.{Line}
 use Rattle.refute_check.proofs.Sound.{closed-means-unsatisfiable}
-use Rattle.run_lawful.specs.world.WorldOf.{place_in, world_in}
+use Rattle.orders_are_runs.specs.run_lawful.world.WorldOf.{place_in, world_in}
 use Rattle.clap_system.specs.Ready.{IsReady}
 use Rattle.clap_system.specs.Systems.{System, system_of}
 use Rattle.clap_system.proofs.Choices.{choices_are_enders}
@@ -57,7 +57,7 @@ use Rattle.clap_solve.specs.Clauses.{blasted_by, clauses_of}
 use Rattle.clap_solve.specs.Solved.{IsImpossible, IsWithin}
 use Rattle.clap_solve.proofs.Loads.{loads_are_ints}
 use Rattle.clap_solve.proofs.Ordered.{completed_lawful, formula_for, unasked_for}
-use Rattle.path_laws.specs.Setting.{setting_of}
+use Rattle.schedule_decode.specs.path_laws.Setting.{setting_of}
 
 int_node : (n : Node) → HasInt n → IsIntNode n
 int_node (Constant k) int = int

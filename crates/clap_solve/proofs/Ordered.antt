@@ -16,7 +16,7 @@ use Rattle.order_formula.specs.declared.order.Choice.{Choice}
 use Rattle.order_formula.specs.declared.order.Pair.{Pair}
 use Rattle.order_formula.specs.Orders.{AtomIsIn, BodyIsIn, ChoiceIsOf, ConjunctIsIn, IsOrder, LiteralIsIn, Order, PairIsOf, pair_of, same_choice, same_pair}
 use Rattle.order_formula.specs.Orders.{order_without_questions, with_atom, with_body, with_case, with_choice, with_conjunct, with_formula, with_pair}
-use Rattle.bit_order.specs.Comparators.{completed, pairs_among}
+use Rattle.bit_blast.specs.bit_order.Comparators.{completed, pairs_among}
 use Rattle.clap_system.proofs.Choices.{each_key}
 
 none_twice : {K : Type 0} (eq : K → K → Bool) → IsDistinct eq []

@@ -2,7 +2,7 @@
 use Rattle.std.proofs.Common.{◌≡◌, ◌≢◌, ◌∙◌, ℕ, ◌+◌, ◌<◌, ◌≤◌, Bool, List, Result, Ok, Err, ap, sym, subst}
 use Rattle.std.specs.Prelude.{if◌then◌else◌}
 use Rattle.run_log.specs.Logs.{Log}
-use Rattle.tc_limits.specs.declared.limits.TheConstants.{EVENTS, OPERATORS}
+use Rattle.schedule_file.specs.tc_limits.declared.limits.TheConstants.{EVENTS, OPERATORS}
 use Rattle.tc_code.specs.Code.{Code}
 use Rattle.store_buffers.specs.Pending.{Binding}
 use Rattle.path_walk.specs.Fits.{Fits}
@@ -15,7 +15,7 @@ use Rattle.cnf_core.specs.Clauses.{Formula}
 use Rattle.cnf_core.specs.declared.cnf.TheConstants.{LIMIT}
 use Rattle.bit_blast.specs.Blasted.{Blasted, blast, impossible}
 use Rattle.bit_blast.specs.Sizes.{whole_size}
-use Rattle.switch_order.specs.Sizes as levels
+use Rattle.formula_sizes.specs.switch_order.Sizes as levels
 use Rattle.formula_sizes.specs.Small.{ClausesHaveRoom}
 use Rattle.refute_check.specs.Refutations.{IsClosed, check}
 use Rattle.refute_check.specs.declared.line.Line.{Line}

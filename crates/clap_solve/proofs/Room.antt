@@ -13,27 +13,27 @@ use Rattle.std.proofs.lemmas.List.{length-append, length-map}
 use Rattle.std.proofs.lemmas.List.Elements.{All-contains}
 use Rattle.std.proofs.lemmas.List.Folds.{list_all-append}
 use Rattle.std.proofs.lemmas.Option.{none-some, same_Some, slice_get-get_or, slice_get-map, slice_get_within}
-use Rattle.tc_base.specs.Names.{Name, child, by_name}
+use Rattle.run_log.specs.tc_base.Names.{Name, child, by_name}
 use Rattle.run_log.specs.Logs.{Log}
-use Rattle.tc_base.specs.Paths.{Path, ThreadPath, path_under}
-use Rattle.tc_limits.specs.declared.limits.TheConstants.{DEPTH, STEPS, THREADS}
-use Rattle.tc_base.proofs.Names.{between, later_child, not_itself, not_less, parent_of, same_name, turned}
+use Rattle.run_log.specs.tc_base.Paths.{Path, ThreadPath, path_under}
+use Rattle.schedule_file.specs.tc_limits.declared.limits.TheConstants.{DEPTH, STEPS, THREADS}
+use Rattle.run_log.proofs.tc_base.Names.{between, later_child, not_itself, not_less, parent_of, same_name, turned}
 use Rattle.tc_code.specs.Code.{Code}
 use Rattle.run_log.specs.Logs.{is_log}
-use Rattle.list_laws.proofs.Lists.{get_seam}
+use Rattle.refute_check.proofs.list_laws.Lists.{get_seam}
 use Rattle.path_walk.specs.Fits.{Fits, child_function, ending_of, function_of, places_in, started}
 use Rattle.path_walk.specs.Paths.{Walk, function_in, paths_of, walk_of}
 use Rattle.path_walk.specs.Steps.{places_from, places_of, steps_at}
 use Rattle.path_walk.specs.declared.fault.Misfit.TheVariants as misfit
 use Rattle.path_walk.proofs.Faults.{by_path, fitting, function_of_child, missing, walked_there}
 use Rattle.path_walk.proofs.Places.{count, fits_from}
-use Rattle.path_laws.proofs.Logs.{place_of}
-use Rattle.path_laws.proofs.Prefixes.{is_ok, own_under}
+use Rattle.schedule_decode.proofs.path_laws.Logs.{place_of}
+use Rattle.schedule_decode.proofs.path_laws.Prefixes.{is_ok, own_under}
 use Rattle.schedule_file.specs.Schedules.{is_child, is_name}
-use Rattle.sym_laws.proofs.Names.{rise}
-use Rattle.order_events.proofs.Lists.{in_at, of_map}
-use Rattle.order_events.proofs.Parts.{each_in}
-use Rattle.order_events.proofs.Whole.{whole}
+use Rattle.schedule_decode.proofs.sym_laws.Names.{rise}
+use Rattle.first_run.proofs.order_events.Lists.{in_at, of_map}
+use Rattle.first_run.proofs.order_events.Parts.{each_in}
+use Rattle.first_run.proofs.order_events.Whole.{whole}
 use Rattle.schedule_decode.specs.Decodable.{HaveRoom}
 use Rattle.store_buffers.specs.Pending.{Binding}
 use Rattle.clap_system.specs.Systems.{system_of}

@@ -2,8 +2,8 @@
 use Rattle.std.specs.Prelude.{Bool, if◌then◌else◌}
 use Rattle.store_buffers.specs.Buffers.{buffer_of}
 use Rattle.run_log.specs.Logs.{Log}
-use Rattle.memory_models.specs.declared.model.Model.{Model}
-use Rattle.memory_models.specs.declared.model.Model.TheVariants.{Sc, Tso, Pso}
+use Rattle.run_log.specs.memory_models.declared.model.Model.{Model}
+use Rattle.run_log.specs.memory_models.declared.model.Model.TheVariants.{Sc, Tso, Pso}
 use Rattle.tc_code.specs.Code.{Code}
 use Rattle.store_buffers.specs.Pending.{Binding, binds_all, binds_cells}
 use Rattle.path_walk.specs.Paths.{paths_of}
@@ -17,7 +17,8 @@ blasted_by s = blast s.nodes s.formula s.order s.symbolic.loads
 
 -- the log's system as clauses, or an impossible formula if the paths are dead
 abbrev pub blasted_of : Bool → Binding → Code → Log → Blasted
-blasted_of buffered bound code log = if (paths_of code log).dead then impossible else blasted_by (system_of buffered bound code log)
+blasted_of buffered bound code log =
+    if (paths_of code log).dead then impossible else blasted_by (system_of buffered bound code log)
 
 -- the clauses of a log, by whether there are buffers and which stores are bound
 abbrev pub clauses_of : Bool → Binding → Code → Log → Formula

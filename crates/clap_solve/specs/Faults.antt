@@ -14,8 +14,11 @@ use Rattle.clap_solve.specs.declared.fault.CheckImpossibleFault.{CheckImpossible
 use Rattle.clap_solve.specs.declared.fault.CheckImpossibleFault.TheVariants.{Build, Check, Memory}
 
 -- what a fault means: the log has no clauses, or the derivation has a fault over them, or no memory
-abbrev pub IsCheckImpossibleFault : Bool → Binding → Code → Log → List Line → CheckImpossibleFault → Type 0
-IsCheckImpossibleFault buffered bound code log lines (Build fault) = (fault ≢ build.Memory) × IsBuildFault code log fault
+abbrev pub IsCheckImpossibleFault : Bool → Binding → Code → Log → List Line → CheckImpossibleFault
+    → Type 0
+IsCheckImpossibleFault buffered bound code log lines (Build fault) =
+    (fault ≢ build.Memory) × IsBuildFault code log fault
 IsCheckImpossibleFault buffered bound code log lines (Check fault) =
-    (fault ≢ check.Memory) × IsWithin code log × (check (clauses_of buffered bound code log) lines ≡ Err fault)
+    (fault ≢ check.Memory) × IsWithin code log
+    × (check (clauses_of buffered bound code log) lines ≡ Err fault)
 IsCheckImpossibleFault buffered bound code log lines Memory = Unit {0}

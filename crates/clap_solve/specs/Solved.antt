@@ -1,10 +1,10 @@
 -- The results of a search for a schedule of a log.
 use Rattle.std.specs.Prelude.{◌≡◌, ℕ, ◌≤◌, List}
-use Rattle.tc_base.specs.Buffers.{BufferOps}
+use Rattle.run_log.specs.tc_base.Buffers.{BufferOps}
 use Rattle.run_log.specs.Logs.{Log}
-use Rattle.tc_limits.specs.declared.limits.TheConstants.{EVENTS, OPERATORS}
-use Rattle.memory_models.specs.declared.model.Model.{Model}
-use Rattle.tc_base.specs.declared.moves.Move.{Move}
+use Rattle.schedule_file.specs.tc_limits.declared.limits.TheConstants.{EVENTS, OPERATORS}
+use Rattle.run_log.specs.memory_models.declared.model.Model.{Model}
+use Rattle.run_log.specs.tc_base.declared.moves.Move.{Move}
 use Rattle.tc_code.specs.Code.{Code}
 use Rattle.tc_code.specs.Run.{Reproduces}
 use Rattle.store_buffers.specs.Pending.{Binding}
@@ -35,9 +35,12 @@ module _ {B : Type 0} (ops : BufferOps B) where
     -- an open, fresh derivation deletes few clauses and adds as many as the budget says, none of
     -- them empty
     abbrev pub IsAnswer : Answer → Type 0
-    IsAnswer (Found schedule) = (schedule.model ≡ model) × Reproduces ops code log schedule.moves.items
-    IsAnswer (Impossible lines) = IsClosed (clauses_of ops.buffered bound code log) lines × IsImpossible code log
-    IsAnswer (Spent lines) = Solves (clauses_of ops.buffered bound code log) budget (solved.Spent lines)
+    IsAnswer (Found schedule) =
+        (schedule.model ≡ model) × Reproduces ops code log schedule.moves.items
+    IsAnswer (Impossible lines) =
+        IsClosed (clauses_of ops.buffered bound code log) lines × IsImpossible code log
+    IsAnswer (Spent lines) =
+        Solves (clauses_of ops.buffered bound code log) budget (solved.Spent lines)
 
     -- the answer is right, and the log is within the limits
     pub record IsSolved (answer : Answer) : Type 0 where

@@ -1,10 +1,10 @@
 //! What the clauses of a log mean: laws of every memory model, as clauses of functions that do
 //! nothing.
 ghost use Rattle.std.specs.Prelude.{◌≡◌, ◌↔◌, true, List, IsTrue};
-ghost use Rattle.tc_base.specs.Buffers.{BufferOps};
+ghost use Rattle.run_log.specs.tc_base.Buffers.{BufferOps};
 ghost use Rattle.run_log.specs.Logs.{Log};
-ghost use Rattle.memory_models.specs.declared.model.Model.{Model};
-ghost use Rattle.tc_base.specs.declared.moves.Move.{Move};
+ghost use Rattle.run_log.specs.memory_models.declared.model.Model.{Model};
+ghost use Rattle.run_log.specs.tc_base.declared.moves.Move.{Move};
 ghost use Rattle.tc_code.specs.Code.{Code};
 ghost use Rattle.tc_code.specs.Lawful.{IsLawful};
 ghost use Rattle.tc_code.specs.Run.{Reproduces};

@@ -1,7 +1,7 @@
 //! The search for a schedule.
 ghost use Rattle.std.specs.Prelude.{◌≡◌, ◌≤◌, length, IfOk, IfErr};
-ghost use Rattle.tc_limits.specs.declared.limits.TheConstants.{BUDGET, EVENTS};
-ghost use Rattle.lawful_order.specs.Events.{all_events};
+ghost use Rattle.schedule_file.specs.tc_limits.declared.limits.TheConstants.{BUDGET, EVENTS};
+ghost use Rattle.first_run.specs.lawful_order.Events.{all_events};
 ghost use Rattle.clap_system.specs.Faults.{IsBuildFault};
 ghost use Rattle.clap_solve.specs.Solved.{IsSolved};
 ghost use Rattle.clap_solve.specs.helpers.Searched.{IsAnsweredOn, IsFoundOn, IsPosed, IsSatisfied, IsSearched, ReproduceEach};

@@ -10,7 +10,7 @@ use Rattle.sym_terms.specs.declared.node.Node.{Node}
 use Rattle.sym_exec.specs.Executed.{Symbolic}
 use Rattle.order_formula.specs.Orders.{Order, with_conjunct, with_formula}
 use Rattle.order_formula.specs.declared.formula.Conjunct.{Conjunct}
-use Rattle.order_cells.specs.Terms.{HaveTerms}
+use Rattle.memory_order.specs.order_cells.Terms.{HaveTerms}
 use Rattle.memory_order.specs.Own.{own_formula, own_needs}
 use Rattle.sync_order.specs.Sync.{sync_formula}
 use Rattle.read_write.specs.Reading.{read_formula, read_needs}

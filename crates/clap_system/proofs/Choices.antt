@@ -26,16 +26,16 @@ use Rattle.order_formula.specs.Orders.{Order, AtomIsAsked, IsAsked, LiteralIsAsk
 use Rattle.order_formula.specs.Orders.{with_atom, with_case, with_body, with_conjunct, with_formula}
 use Rattle.order_formula.specs.Worlds.{World}
 use Rattle.order_formula.proofs.Asked.{formula_asked}
-use Rattle.lawful_order.specs.Events.{Of, all_events, all_sleeps, ender_of}
-use Rattle.lawful_order.specs.Conditions.{IsSignal, IsBroadcast}
-use Rattle.lawful_order.specs.Lawful.{IsWorldOf}
+use Rattle.order_events.specs.lawful_order.Events.{Of, all_events, all_sleeps, ender_of}
+use Rattle.order_events.specs.lawful_order.Conditions.{IsSignal, IsBroadcast}
+use Rattle.order_events.specs.lawful_order.Lawful.{IsWorldOf}
 use Rattle.order_events.specs.Parts.{comes_before}
 use Rattle.order_events.proofs.Lists.{of_cons, of_any, in_flat_map, of_flat_map, in_map}
 use Rattle.order_events.proofs.Parts.{each_in, of_one}
-use Rattle.condition_order.specs.declared.wait.Ender.{Ender}
-use Rattle.condition_order.specs.Conditions.{all_waits, begun, condition_formula, enders, fails, formula_of, holds, sleeps_on, wait_of}
-use Rattle.condition_order.proofs.Among.{ender_among, ender_is, sleep_at, sleep_is, wait_among, wait_is}
-use Rattle.condition_order.proofs.Atoms.{Atoms, asks}
+use Rattle.sync_order.specs.condition_order.declared.wait.Ender.{Ender}
+use Rattle.sync_order.specs.condition_order.Conditions.{all_waits, begun, condition_formula, enders, fails, formula_of, holds, sleeps_on, wait_of}
+use Rattle.sync_order.proofs.condition_order.Among.{ender_among, ender_is, sleep_at, sleep_is, wait_among, wait_is}
+use Rattle.sync_order.proofs.condition_order.Atoms.{Atoms, asks}
 use Rattle.memory_order.specs.Own as own
 use Rattle.memory_order.specs.Own.{in_order, own_formula}
 use Rattle.memory_order.proofs.Exact.{IsOwn, Always, Tested, Failing, of_formula}

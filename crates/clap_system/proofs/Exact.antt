@@ -11,8 +11,8 @@ use Rattle.order_formula.specs.declared.group.Group.TheVariants.{Own, Child, Rea
 use Rattle.order_formula.specs.Groups.{IsExactly}
 use Rattle.order_formula.specs.Truth.{body_at, holds_at}
 use Rattle.order_formula.specs.Worlds.{World}
-use Rattle.lawful_order.specs.Lawful as order
-use Rattle.lawful_order.specs.Lawful.{MeetsRule}
+use Rattle.order_events.specs.lawful_order.Lawful as order
+use Rattle.order_events.specs.lawful_order.Lawful.{MeetsRule}
 use Rattle.order_events.proofs.Parts.{all_of, all_from}
 use Rattle.memory_order.specs.Own.{own_formula}
 use Rattle.sync_order.specs.Sync.{is_sync, sync_formula}

@@ -4,13 +4,13 @@ use Rattle.std.specs.Prelude.{slice_get}
 use Rattle.std.specs.List.{cons_option}
 use Rattle.std.proofs.lemmas.List.{length-map}
 use Rattle.run_log.specs.Logs.{Log}
-use Rattle.tc_base.specs.Paths.{ThreadPath}
+use Rattle.run_log.specs.tc_base.Paths.{ThreadPath}
 use Rattle.tc_code.specs.Code.{Code}
 use Rattle.path_walk.specs.Events.{sleep_by, sleeps_of}
 use Rattle.path_walk.specs.Paths.{Walk, Paths, ArePaths, walk_of}
 use Rattle.path_walk.specs.declared.event.Event.{Event}
 use Rattle.path_walk.specs.declared.event.Sleep.{Sleep}
-use Rattle.lawful_order.specs.Events.{Of, all_events, all_from, all_sleeps}
+use Rattle.order_events.specs.lawful_order.Events.{Of, all_events, all_from, all_sleeps}
 
 few_of : (es : List Event) → length (sleeps_of es) ≤ length es
 few_of [] = omega arith

@@ -13,11 +13,11 @@ use Rattle.sym_exec.specs.Making.{Grows}
 use Rattle.sym_exec.proofs.Grown.{grows_none, grows_both}
 use Rattle.order_formula.specs.declared.formula.Conjunct.{Conjunct}
 use Rattle.order_formula.specs.Worlds.{World, IsWorld}
-use Rattle.lawful_order.specs.Lawful.{IsWorldOf}
-use Rattle.lawful_order.specs.Whole.{AreWhole, IsExecutedBy}
-use Rattle.order_cells.specs.Terms.{HaveTerms}
-use Rattle.order_cells.proofs.Needs.{grows_all, all_there, there_later}
-use Rattle.order_cells.proofs.Stay.{have_later}
+use Rattle.order_events.specs.lawful_order.Lawful.{IsWorldOf}
+use Rattle.order_events.specs.lawful_order.Whole.{AreWhole, IsExecutedBy}
+use Rattle.memory_order.specs.order_cells.Terms.{HaveTerms}
+use Rattle.memory_order.proofs.order_cells.Needs.{grows_all, all_there, there_later}
+use Rattle.memory_order.proofs.order_cells.Stay.{have_later}
 use Rattle.order_events.proofs.Parts.{each_in}
 use Rattle.order_events.proofs.Whole.{whole}
 use Rattle.sym_events.proofs.Terms.{have_terms}

@@ -8,9 +8,9 @@ use Rattle.std.proofs.lemmas.Bool.{cases_lt}
 use Rattle.std.proofs.lemmas.List.{get_or_past}
 use Rattle.std.proofs.lemmas.List.Elements.{All-nil, All-cons, All-head, All-tail, All-append, All-contains, All-get_or, All-push, Contains-append_cases}
 use Rattle.std.proofs.lemmas.Option.{cond_some, none-some, option_and_then_some}
-use Rattle.int_ops.specs.Arith.{IsInt}
-use Rattle.int_ops.specs.declared.arith.BinOp.TheVariants.{Eq}
-use Rattle.int_ops.proofs.Ints.{truth_int}
+use Rattle.sym_terms.specs.int_ops.Arith.{IsInt}
+use Rattle.sym_terms.specs.int_ops.declared.arith.BinOp.TheVariants.{Eq}
+use Rattle.sym_terms.proofs.int_ops.Ints.{truth_int}
 use Rattle.tc_code.specs.Code.{Code}
 use Rattle.tc_code.specs.Lawful.{IsLawful}
 use Rattle.path_walk.specs.Paths.{Paths, ArePaths}
@@ -34,12 +34,12 @@ use Rattle.order_formula.specs.declared.formula.Body.TheVariants as body
 use Rattle.order_formula.specs.declared.formula.Conjunct.{Conjunct}
 use Rattle.order_formula.specs.declared.literal.Literal.{Literal}
 use Rattle.order_formula.proofs.Asked.{formula_asked, grows_formula}
-use Rattle.lawful_order.specs.Cells.{value_at_start}
-use Rattle.lawful_order.specs.Events.{Of, all_events, all_sleeps}
-use Rattle.lawful_order.specs.Whole.{AreWhole, IsExecutedBy}
-use Rattle.order_cells.specs.Same.{known_same, same_test}
-use Rattle.order_cells.specs.Terms.{HaveTerms}
-use Rattle.order_cells.proofs.Stay.{have_later}
+use Rattle.order_events.specs.lawful_order.Cells.{value_at_start}
+use Rattle.order_events.specs.lawful_order.Events.{Of, all_events, all_sleeps}
+use Rattle.order_events.specs.lawful_order.Whole.{AreWhole, IsExecutedBy}
+use Rattle.memory_order.specs.order_cells.Same.{known_same, same_test}
+use Rattle.memory_order.specs.order_cells.Terms.{HaveTerms}
+use Rattle.memory_order.proofs.order_cells.Stay.{have_later}
 use Rattle.order_events.proofs.Lists.{of_filter_map, of_flat_map}
 use Rattle.order_events.proofs.Parts.{each_in, in_of_each, of_option}
 use Rattle.order_events.proofs.Whole.{whole}

@@ -14,7 +14,7 @@ use Rattle.order_formula.specs.declared.literal.Literal.{Literal}
 use Rattle.order_formula.specs.Groups.{HoldsIn, IsExactly}
 use Rattle.order_formula.specs.Truth.{body_at, literal_at}
 use Rattle.order_formula.specs.Worlds.{World}
-use Rattle.lawful_order.specs.Tests.{TestRule}
+use Rattle.order_events.specs.lawful_order.Tests.{TestRule}
 use Rattle.order_events.proofs.Lists.{in_front, in_map, of_map}
 use Rattle.order_events.proofs.Parts.{of_one, in_each, in_of_each, one_holds, some_holds}
 use Rattle.clap_system.specs.Tests.{test_conjunct, test_formula}

@@ -9,9 +9,9 @@ use Rattle.sym_terms.specs.declared.node.Node.{Node}
 use Rattle.sym_exec.specs.Executed.{Executed, Symbolic, executed}
 use Rattle.order_formula.specs.Orders.{Order, order_without_questions, with_formula}
 use Rattle.order_formula.specs.declared.formula.Conjunct.{Conjunct}
-use Rattle.lawful_order.specs.Events.{all_events, all_sleeps}
-use Rattle.lawful_order.specs.Whole.{IsExecutedBy}
-use Rattle.order_cells.specs.Terms.{HaveTerms}
+use Rattle.order_events.specs.lawful_order.Events.{all_events, all_sleeps}
+use Rattle.order_events.specs.lawful_order.Whole.{IsExecutedBy}
+use Rattle.memory_order.specs.order_cells.Terms.{HaveTerms}
 use Rattle.sym_events.proofs.Terms.{have_terms}
 use Rattle.sym_events.proofs.Whole.{is_executed}
 use Rattle.clap_system.specs.Ready.{IsReady, IsSound}

@@ -2,7 +2,7 @@
 use Rattle.std.specs.Prelude.{◌≡◌, ℕ, ◌<◌, ◌≤◌, List, length, map, nat_lt, Option, Some, None}
 use Rattle.std.specs.List.{find}
 use Rattle.run_log.specs.Logs.{Log}
-use Rattle.tc_base.specs.Paths.{ThreadPath}
+use Rattle.run_log.specs.tc_base.Paths.{ThreadPath}
 use Rattle.tc_limits.specs.declared.limits.TheConstants.{THREADS, DEPTH, EVENTS, OPERATORS}
 use Rattle.tc_code.specs.Code.{Code}
 use Rattle.path_walk.specs.Fits.{Fits, IsFirst}
@@ -34,11 +34,14 @@ abbrev pub IsOver : Code → Log → Which → ℕ → Type 0
 IsOver code log Threads n = n ≡ length log.threads
 IsOver code log Depth n = (length log.threads ≤ THREADS) × (first_deep log.threads ≡ Some n)
 IsOver code log Events n = IsShallow log × Fits code log × (n ≡ (paths_of code log).events)
-IsOver code log Operators n = IsShallow log × Fits code log × ((paths_of code log).events ≤ EVENTS) × (n ≡ (paths_of code log).operators)
+IsOver code log Operators n =
+    IsShallow log × Fits code log × ((paths_of code log).events ≤ EVENTS)
+    × (n ≡ (paths_of code log).operators)
 
 -- what a fault says about the log; lack of memory says nothing, and isn't reported as the walk's
 abbrev pub IsBuildFault : Code → Log → BuildFault → Type 0
-IsBuildFault code log (Limit which n limit) = (limit_of which < n) × (limit ≡ limit_of which) × IsOver code log which n
+IsBuildFault code log (Limit which n limit) =
+    (limit_of which < n) × (limit ≡ limit_of which) × IsOver code log which n
 IsBuildFault code log (Walk (walk.Unfit n m)) = IsShallow log × IsFirst code log n m
 IsBuildFault code log (Walk walk.Memory) = ⊥
 IsBuildFault code log Memory = Unit {0}

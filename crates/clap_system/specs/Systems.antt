@@ -9,7 +9,7 @@ use Rattle.sym_terms.specs.declared.node.Node.{Node}
 use Rattle.sym_exec.specs.Executed.{Symbolic, executed}
 use Rattle.order_formula.specs.Orders.{Order, order_without_questions, with_formula}
 use Rattle.order_formula.specs.declared.formula.Conjunct.{Conjunct}
-use Rattle.lawful_order.specs.Events.{all_events, all_sleeps}
+use Rattle.order_events.specs.lawful_order.Events.{all_events, all_sleeps}
 use Rattle.memory_order.specs.Own.{own_formula, own_needs}
 use Rattle.sync_order.specs.Sync.{sync_formula}
 use Rattle.read_write.specs.Reading.{read_formula, read_needs}
@@ -28,7 +28,8 @@ module _ (buffered : Bool) (bound : Binding) (code : Code) (paths : Paths) where
   -- the conjuncts of all groups, over these terms
   abbrev pub rules_of : Symbolic → List Node → List Conjunct
   rules_of symbolic nodes =
-      own_formula buffered bound paths symbolic nodes ++ sync_formula paths ++ read_formula code paths symbolic nodes ++ test_formula symbolic
+      own_formula buffered bound paths symbolic nodes ++ sync_formula paths
+      ++ read_formula code paths symbolic nodes ++ test_formula symbolic
 
   -- the execution's terms, with those that the order of a thread's events and the loads need
   abbrev pub with_needs : Symbolic → List Node → List Node
@@ -41,13 +42,16 @@ module _ (buffered : Bool) (bound : Binding) (code : Code) (paths : Paths) where
     paths = paths;
     symbolic = symbolic;
     nodes = nodes;
-    order = with_formula (order_without_questions (length (all_events paths)) (length (all_sleeps paths))) (rules_of symbolic nodes);
+    order = with_formula
+        (order_without_questions (length (all_events paths)) (length (all_sleeps paths)))
+        (rules_of symbolic nodes);
     formula = rules_of symbolic nodes;
   }
 
   -- the system of paths
   abbrev pub system_by : System
-  system_by = let x = executed code paths [] in system_over x.symbolic (with_needs x.symbolic x.nodes)
+  system_by =
+      let x = executed code paths [] in system_over x.symbolic (with_needs x.symbolic x.nodes)
 
 -- the system of a log
 abbrev pub system_of : Bool → Binding → Code → Log → System

@@ -9,7 +9,8 @@ use Rattle.order_events.specs.Parts.{of_each, one_of}
 
 -- a test of a thread has its wanted outcome
 abbrev pub test_conjunct : ℕ → Test → Conjunct
-test_conjunct t x = one_of (group.Test t x.line) (record { atom = atom.Test x.term; wanted = x.wanted } ∷ [])
+test_conjunct t x =
+    one_of (group.Test t x.line) (record { atom = atom.Test x.term; wanted = x.wanted } ∷ [])
 
 -- the conjuncts of all tests of all threads
 abbrev pub test_formula : Symbolic → List Conjunct

@@ -9,9 +9,9 @@ ghost use Rattle.tc_code.specs.Code as spec;
 ghost use Rattle.clap_system.specs.Faults.{IsBuildFault, IsShallow, first_deep, limit_of};
 ghost use Rattle.clap_system.specs.declared.fault.BuildFault.TheVariants.{Limit};
 ghost use Rattle.order_formula.specs.Orders.{order_without_questions, with_formula};
-ghost use Rattle.lawful_order.specs.Events.{all_events, all_sleeps};
-ghost use Rattle.lawful_order.specs.Whole.{AreWhole, IsExecutedBy};
-ghost use Rattle.order_cells.specs.Terms.{HaveTerms};
+ghost use Rattle.order_events.specs.lawful_order.Events.{all_events, all_sleeps};
+ghost use Rattle.order_events.specs.lawful_order.Whole.{AreWhole, IsExecutedBy};
+ghost use Rattle.memory_order.specs.order_cells.Terms.{HaveTerms};
 ghost use Rattle.clap_system.specs.Systems.{rules_of, system_by, system_of, with_needs};
 
 use crate::conjuncts::test_conjuncts;

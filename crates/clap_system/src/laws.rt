@@ -10,9 +10,9 @@ ghost use Rattle.order_formula.specs.Groups.{IsExactly};
 ghost use Rattle.order_formula.specs.Truth.{holds_at};
 ghost use Rattle.order_formula.specs.Worlds.{World, IsWorld};
 ghost use Rattle.order_formula.specs.declared.group.Group.{Group};
-ghost use Rattle.lawful_order.specs.Events.{all_events, all_sleeps, ender_of};
-ghost use Rattle.lawful_order.specs.Lawful as order;
-ghost use Rattle.lawful_order.specs.Lawful.{IsWorldOf, MeetsRule};
+ghost use Rattle.order_events.specs.lawful_order.Events.{all_events, all_sleeps, ender_of};
+ghost use Rattle.order_events.specs.lawful_order.Lawful as order;
+ghost use Rattle.order_events.specs.lawful_order.Lawful.{IsWorldOf, MeetsRule};
 ghost use Rattle.clap_system.specs.Ready.{IsReady};
 ghost use Rattle.clap_system.specs.Systems.{system_by};
 

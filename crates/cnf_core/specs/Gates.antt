@@ -47,20 +47,26 @@ is_both a b out = (neg_ℤ a ∷ neg_ℤ b ∷ out ∷ []) ∷ (a ∷ neg_ℤ ou
 
 -- clauses by which a literal is true exactly if one of two others is true and the other false
 abbrev pub is_one : ℤ → ℤ → ℤ → List (List ℤ)
-is_one a b out = (neg_ℤ a ∷ neg_ℤ b ∷ neg_ℤ out ∷ []) ∷ (a ∷ b ∷ neg_ℤ out ∷ []) ∷ (a ∷ neg_ℤ b ∷ out ∷ []) ∷ (neg_ℤ a ∷ b ∷ out ∷ []) ∷ []
+is_one a b out =
+    (neg_ℤ a ∷ neg_ℤ b ∷ neg_ℤ out ∷ []) ∷ (a ∷ b ∷ neg_ℤ out ∷ []) ∷ (a ∷ neg_ℤ b ∷ out ∷ [])
+    ∷ (neg_ℤ a ∷ b ∷ out ∷ []) ∷ []
 
 -- selects by two literals: equal, opposite, or which of them has the smaller variable
 abbrev pub by_pair : {A : Type 0} → ℤ → ℤ → A → A → A → A → A
-by_pair a b same opposite rising falling = if int_eq a b then same else if int_eq a (neg_ℤ b) then opposite else if nat_lt (var_of a) (var_of b)
+by_pair a b same opposite rising falling =
+    if int_eq a b then same else if int_eq a (neg_ℤ b) then opposite
+    else if nat_lt (var_of a) (var_of b)
     then rising else falling
 
 -- the clauses that define the literal `out` of a new variable as the conjunction of two literals
 abbrev pub and_clauses : ℤ → ℤ → ℤ → List (List ℤ)
-and_clauses a b out = by_pair a b (are_equal a out) ((neg_ℤ out ∷ []) ∷ []) (is_both a b out) (is_both b a out)
+and_clauses a b out =
+    by_pair a b (are_equal a out) ((neg_ℤ out ∷ []) ∷ []) (is_both a b out) (is_both b a out)
 
 -- the clauses that define the literal `out` of a new variable as the exclusive or of two literals
 abbrev pub xor_clauses : ℤ → ℤ → ℤ → List (List ℤ)
-xor_clauses a b out = by_pair a b ((neg_ℤ out ∷ []) ∷ []) ((out ∷ []) ∷ []) (is_one a b out) (is_one b a out)
+xor_clauses a b out =
+    by_pair a b ((neg_ℤ out ∷ []) ∷ []) ((out ∷ []) ∷ []) (is_one a b out) (is_one b a out)
 
 -- a gate with its two input literals
 pub record Wired : Type 0 where
@@ -117,11 +123,16 @@ Agree n v w = (k : ℕ) → k ≤ n → v k ≡ w k
 
 -- a model of a formula, extended by the values of a block's gates, is a model with the block added
 abbrev pub BlockKeeps : Type 0
-BlockKeeps = (f : Formula) (gs : List Wired) (v : Valuation) → IsOver f → IsTrue (is_block f.vars gs) → IsTrue (satisfies v f.clauses)
-    → IsTrue (satisfies (extended v f.vars gs) (after_gates f gs).clauses) × Agree f.vars v (extended v f.vars gs)
+BlockKeeps =
+    (f : Formula) (gs : List Wired) (v : Valuation) → IsOver f → IsTrue (is_block f.vars gs)
+    → IsTrue (satisfies v f.clauses)
+    → IsTrue (satisfies (extended v f.vars gs) (after_gates f gs).clauses)
+    × Agree f.vars v (extended v f.vars gs)
 
 -- a model with a block is a model without it, and gives the block's variables their gates' values
 abbrev pub BlockDecides : Type 0
 BlockDecides =
-    (f : Formula) (gs : List Wired) (v w : Valuation) → IsOver f → IsTrue (is_block f.vars gs) → IsTrue (satisfies w (after_gates f gs).clauses)
-    → Agree f.vars v w → IsTrue (satisfies w f.clauses) × Agree (f.vars + length gs) (extended v f.vars gs) w
+    (f : Formula) (gs : List Wired) (v w : Valuation) → IsOver f → IsTrue (is_block f.vars gs)
+    → IsTrue (satisfies w (after_gates f gs).clauses)
+    → Agree f.vars v w
+    → IsTrue (satisfies w f.clauses) × Agree (f.vars + length gs) (extended v f.vars gs) w

@@ -24,6 +24,11 @@ no_memory_status : (status : ℕ) (j k : SinkTells) → SaysNoMemory status j k 
 no_memory_status status j k (inl h) = inr h.0
 no_memory_status status j k (inr h) = inl h.0
 
+-- what holds of the files that a shelf tells, if it tells them
+pub if_told : (o : Option Files) (P : Files → Type 0) → ((files : Files) → o ≡ Some files → P files) → IfSome o P
+if_told None P h = tt
+if_told (Some files) P h = h files refl
+
 module _ {A : Type 0} (m : Meaning A) where
   no_more_status : (a : Answer A) (status : ℕ) (j k : SinkTells) → SaysNoMore a status j k → (status ≡ 8) ⊎ (status ≡ 9)
   no_more_status (WriteFault name) status j k h = inl h.0
@@ -202,10 +207,6 @@ module _ {A : Type 0} (m : Meaning A) where
           ]
           | inr fault ↦ inr (inr fault)
         ]
-
-    if_told : (o : Option Files) (P : Files → Type 0) → ((files : Files) → o ≡ Some files → P files) → IfSome o P
-    if_told None P h = tt
-    if_told (Some files) P h = h files refl
 
     pub every_run_over : IfSome old.held (λ files. RunsOver m (texts_under files m.inputs) status j k)
     every_run_over = if_told old.held (λ files. RunsOver m (texts_under files m.inputs) status j k) run_over

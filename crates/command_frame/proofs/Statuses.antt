@@ -23,7 +23,7 @@ is_or_not (suc m) (suc n) = elim (is_or_not m n) [
 ]
 
 -- a status is one of a fault or it isn't
-fault_or_not : (status : ℕ) → IsFaultStatus status ⊎ (IsFaultStatus status → ⊥)
+pub fault_or_not : (status : ℕ) → IsFaultStatus status ⊎ (IsFaultStatus status → ⊥)
 fault_or_not status = elim (is_or_not status 7) [
   | inl seven ↦ inl (inl seven)
   | inr no7 ↦ elim (is_or_not status 8) [

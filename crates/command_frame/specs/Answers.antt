@@ -37,7 +37,9 @@ read_line name = codes "read fault: " ++ (name ++ codes "\n")
 
 abbrev pub limit_line : Limit → List ℕ
 limit_line limit = codes "limit "
-    ++ (limit.kind ++ (codes "-bytes " ++ (decimal (limit.most + 1) ++ (codes " of " ++ (decimal limit.most ++ codes "\n")))))
+    ++ (limit.kind
+    ++ (codes "-bytes "
+    ++ (decimal (limit.most + 1) ++ (codes " of " ++ (decimal limit.most ++ codes "\n")))))
 
 abbrev pub write_line : List ℕ → List ℕ
 write_line name = codes "write fault: " ++ (name ++ codes "\n")

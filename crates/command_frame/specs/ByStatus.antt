@@ -13,20 +13,25 @@ IsStatus status wanted = (status ≡ wanted) ⊎ IsFaultStatus status
 
 -- an outcome with this status comes of the bytes, and its text was put
 abbrev pub PutsOutcome : {A : Type 0} → Meaning A → Texts → Status → SinkTells → SinkTells → Type 0
-PutsOutcome {A} m t s before after = (outcome : A) × AreWithin m.inputs t × m.ComesOf t outcome × (m.status_of outcome ≡ s)
+PutsOutcome {A} m t s before after =
+    (outcome : A) × AreWithin m.inputs t × m.ComesOf t outcome × (m.status_of outcome ≡ s)
     × (text : List ℕ) × m.IsTextOf outcome text × Wrote before after text
 
 -- the first input that is too long was told
 abbrev pub PutsLimit : {A : Type 0} → Meaning A → Texts → SinkTells → SinkTells → Type 0
-PutsLimit m t before after = (limit : Limit) × IsTooLong m.inputs t limit × Wrote before after (limit_line limit)
+PutsLimit m t before after =
+    (limit : Limit) × IsTooLong m.inputs t limit × Wrote before after (limit_line limit)
 
 -- all outcomes that come of the same bytes are said alike
 abbrev pub Decides : {A : Type 0} → Meaning A → Texts → Type 0
 Decides {A} m t = (one other : A) → m.ComesOf t one → m.ComesOf t other → IsSaidAs m one other
 
 -- a run over inputs that decide what is said
-pub record RunsAsDecided {A : Type 0} (m : Meaning A) (t : Texts) (status : ℕ) (before after : SinkTells) : Type 0 where
+pub record RunsAsDecided {A : Type 0} (m : Meaning A) (t : Texts) (status : ℕ)
+    (before after : SinkTells) : Type 0 where
   -- but for devices and memory, an answer to these bytes was put
-  pub answer : (IsFaultStatus status → ⊥) → (a : Answer A) × IsAnswerTo m t a × Puts m a status before after
+  pub answer : (IsFaultStatus status → ⊥)
+      → (a : Answer A) × IsAnswerTo m t a × Puts m a status before after
   -- and each answer to them is what was put
-  pub exactly : (a : Answer A) → IsAnswerTo m t a → Puts m a status before after ⊎ IsFaultStatus status
+  pub exactly : (a : Answer A) → IsAnswerTo m t a
+      → Puts m a status before after ⊎ IsFaultStatus status

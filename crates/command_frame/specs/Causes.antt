@@ -44,5 +44,6 @@ pub record IsSaidAs {A : Type 0} (m : Meaning A) (one other : A) : Type 0 where
 -- an answer to these bytes; every other outcome for them has only texts of this one, and its status
 abbrev pub IsOnlyAnswer : {A : Type 0} → Meaning A → Texts → Answer A → Type 0
 IsOnlyAnswer {A} m t (Gives outcome) =
-    AreWithin m.inputs t × m.ComesOf t outcome × ((other : A) → m.ComesOf t other → IsSaidAs m outcome other)
+    AreWithin m.inputs t × m.ComesOf t outcome
+    × ((other : A) → m.ComesOf t other → IsSaidAs m outcome other)
 IsOnlyAnswer m t a = IsAnswerTo m t a

@@ -40,7 +40,8 @@ GaveInput (InPieces name) old new bytes = GaveReading old new name bytes
 -- the shelf failed to give an input, or one of any length had too many bytes to count
 abbrev pub FailedInput : Wanted → ShelfTells → ShelfTells → Type 0
 FailedInput (Whole limit name) old new = FailedToGive old new name limit.most
-FailedInput (Entire name) old new = FailedToGive old new name no_limit ⊎ WasTooLong old new name no_limit
+FailedInput (Entire name) old new =
+    FailedToGive old new name no_limit ⊎ WasTooLong old new name no_limit
 FailedInput (InPieces name) old new = FailedReading old new name
 
 -- the input has this limit, and was longer than that
@@ -88,5 +89,6 @@ AreWithin _ _ = ⊥
 
 -- the first bytes that are longer than their input's limit are longer than this one
 abbrev pub IsTooLong : List Wanted → Texts → Limit → Type 0
-IsTooLong (w ∷ ws) (t ∷ ts) limit = IsPastLimit w t limit ⊎ (IsWithinLimit w t × IsTooLong ws ts limit)
+IsTooLong (w ∷ ws) (t ∷ ts) limit =
+    IsPastLimit w t limit ⊎ (IsWithinLimit w t × IsTooLong ws ts limit)
 IsTooLong _ _ limit = ⊥

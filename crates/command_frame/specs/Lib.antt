@@ -4,5 +4,6 @@ pub mod Meaning
 pub mod Answers
 pub mod Causes
 pub mod Run
+pub mod End
 pub mod ByStatus
 pub mod helpers

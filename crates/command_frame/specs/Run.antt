@@ -13,12 +13,14 @@ kept_by m (Gives outcome) = m.keeps_of outcome
 kept_by m _ = []
 
 -- every run of a command
-pub record Runs {A : Type 0} (m : Meaning A) (old new : ShelfTells) (status : ℕ) (before after : SinkTells) : Type 0 where
+pub record Runs {A : Type 0} (m : Meaning A) (old new : ShelfTells) (status : ℕ)
+    (before after : SinkTells) : Type 0 where
   -- the answer has its cause, and was put with its status, as far as the sink and memory allowed
   pub answer : (a : Answer A) × IsCause m old new a × Says m a status before after
   -- unless a put, a keep or memory fails, the answer was put and all its keeps were made
   pub whole : status ≢ 8 → status ≢ 9
-      → (a : Answer A) × IsCause m old new a × Puts m a status before after × (new.held ≡ put_all (kept_by m a) old.held)
+      → (a : Answer A) × IsCause m old new a × Puts m a status before after
+      × (new.held ≡ put_all (kept_by m a) old.held)
   -- without memory, a first part of an outcome's keeps was made, maybe none or all
   pub no_memory : status ≡ 9 → HoldsSome m old new
   -- after a failed put, likewise; or the next keep failed, which may leave a prefix of its bytes
@@ -28,8 +30,11 @@ pub record Runs {A : Type 0} (m : Meaning A) (old new : ShelfTells) (status : �
       → (status ≡ 8) × LosesOne m old new name
 
 -- a run over inputs with these bytes
-pub record RunsOver {A : Type 0} (m : Meaning A) (t : Texts) (status : ℕ) (before after : SinkTells) : Type 0 where
+pub record RunsOver {A : Type 0} (m : Meaning A) (t : Texts) (status : ℕ)
+    (before after : SinkTells) : Type 0 where
   -- unless a device or memory fails, it puts an answer to these bytes
-  pub answer : (IsFaultStatus status → ⊥) → (a : Answer A) × IsAnswerTo m t a × Puts m a status before after
+  pub answer : (IsFaultStatus status → ⊥)
+      → (a : Answer A) × IsAnswerTo m t a × Puts m a status before after
   -- unless a device or memory fails, it puts the only answer, if there is only one
-  pub exactly : (a : Answer A) → IsOnlyAnswer m t a → Puts m a status before after ⊎ IsFaultStatus status
+  pub exactly : (a : Answer A) → IsOnlyAnswer m t a
+      → Puts m a status before after ⊎ IsFaultStatus status

@@ -1,6 +1,6 @@
 -- The forms of inputs, and why an input isn't of its form.
 use Rattle.std.specs.Prelude.{◌≡◌, ℕ, List}
-use Rattle.memory_models.specs.declared.model.Model.{Model}
+use Rattle.run_log.specs.memory_models.declared.model.Model.{Model}
 use Rattle.run_log.specs.Logs.{StoredLog}
 use Rattle.path_log.specs.Faults.{BreaksAt}
 use Rattle.path_log.specs.Texts.{IsOfOther}
@@ -22,7 +22,8 @@ IsWhy P Memory = Unit {0}
 -- the program isn't of its form, or it is and the log isn't
 abbrev pub IsUnread : (program log : List ℕ) → Refusal → Type 0
 IsUnread program log (Program fault) = IsRefusal program fault
-IsUnread program log (Log (Form offset)) = (code : Code) × IsCodeOf program code × BreaksAt log offset
+IsUnread program log (Log (Form offset)) =
+    (code : Code) × IsCodeOf program code × BreaksAt log offset
 IsUnread program log _ = ⊥
 
 -- the log is of another program

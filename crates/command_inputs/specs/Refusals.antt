@@ -20,12 +20,16 @@ program_line fault = codes "program refused: " ++ (text_fault_text fault ++ code
 abbrev pub log_line : LogRefusal → List ℕ
 log_line (Form offset) = codes "log refused: form at " ++ (decimal offset ++ codes "\n")
 log_line OtherProgram = codes "log refused: other program\n"
-log_line (Unfit name misfit) = codes "log refused: " ++ (misfit_text misfit ++ (codes " " ++ (name_text name ++ codes "\n")))
+log_line (Unfit name misfit) =
+    codes "log refused: " ++ (misfit_text misfit ++ (codes " " ++ (name_text name ++ codes "\n")))
 
 -- the log has this many of these, which are too many
 abbrev pub over_line : LogPart → (number : ℕ) → List ℕ
 over_line part number =
-    codes "limit " ++ (part_text part ++ (codes " " ++ (decimal number ++ (codes " of " ++ (decimal (limit_of part) ++ codes "\n")))))
+    codes "limit "
+    ++ (part_text part
+    ++ (codes " "
+    ++ (decimal number ++ (codes " of " ++ (decimal (limit_of part) ++ codes "\n")))))
 
 abbrev pub schedule_line : ℕ → List ℕ
 schedule_line line = codes "schedule refused: line " ++ (decimal line ++ codes "\n")

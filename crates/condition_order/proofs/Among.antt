@@ -11,10 +11,10 @@ use Rattle.path_walk.specs.declared.event.EventKind.{EventKind}
 use Rattle.path_walk.specs.declared.event.EventKind.TheVariants as kind
 use Rattle.path_walk.specs.declared.event.Sleep.{Sleep}
 use Rattle.order_formula.specs.Worlds.{World}
-use Rattle.sym_exec.specs.Executed.{Symbolic}
-use Rattle.lawful_order.specs.Events.{Of, all_events, all_sleeps, ender_of}
-use Rattle.lawful_order.specs.Conditions.{is_signal, is_broadcast, IsSleep, IsSignal, IsBroadcast}
-use Rattle.lawful_order.specs.Lawful.{IsWorldOf}
+use Rattle.order_events.specs.sym_exec.Executed.{Symbolic}
+use Rattle.order_events.specs.lawful_order.Events.{Of, all_events, all_sleeps, ender_of}
+use Rattle.order_events.specs.lawful_order.Conditions.{is_signal, is_broadcast, IsSleep, IsSignal, IsBroadcast}
+use Rattle.order_events.specs.lawful_order.Lawful.{IsWorldOf}
 use Rattle.condition_order.specs.declared.wait.Wait.{Wait}
 use Rattle.condition_order.specs.declared.wait.Ender.{Ender}
 use Rattle.condition_order.specs.Conditions.{ender_by, enders, wait_of, all_waits, sleeps_on}

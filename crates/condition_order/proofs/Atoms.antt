@@ -13,7 +13,7 @@ use Rattle.order_formula.specs.declared.formula.Body.{Body}
 use Rattle.order_formula.specs.declared.formula.Body.TheVariants as body
 use Rattle.order_formula.specs.declared.formula.Conjunct.{Conjunct}
 use Rattle.order_formula.specs.Formulas.{AtomIsOf, BodyIsOf, ConjunctIsOf, IsOf}
-use Rattle.lawful_order.specs.Events.{all_events}
+use Rattle.order_events.specs.lawful_order.Events.{all_events}
 use Rattle.condition_order.specs.declared.wait.Wait.{Wait}
 use Rattle.condition_order.specs.declared.wait.Ender.{Ender}
 use Rattle.condition_order.specs.Conditions.{holds, fails, begun, ended, ended_before, woken, not_both, ends_no_later, cases_before, cases_one, not_lost, wait_formula}

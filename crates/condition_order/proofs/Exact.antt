@@ -7,14 +7,14 @@ use Rattle.std.proofs.lemmas.Bool.{false≢true, cases_order}
 use Rattle.std.proofs.lemmas.Option.{none-some, same_Some}
 use Rattle.path_walk.specs.Paths.{Paths}
 use Rattle.path_walk.specs.declared.event.Sleep.{Sleep}
-use Rattle.sym_terms.specs.declared.node.Node.{Node}
-use Rattle.sym_exec.specs.Executed.{Symbolic}
+use Rattle.order_formula.specs.sym_terms.declared.node.Node.{Node}
+use Rattle.order_events.specs.sym_exec.Executed.{Symbolic}
 use Rattle.order_formula.specs.declared.group.Group.TheVariants.{Condition}
 use Rattle.order_formula.specs.Groups.{HoldsIn, IsExactly}
 use Rattle.order_formula.specs.Worlds.{World, position}
-use Rattle.lawful_order.specs.Events.{Of, all_events, all_sleeps, number_of, ender_of}
-use Rattle.lawful_order.specs.Conditions.{IsSleep, IsSignal, IsBroadcast, Waits, ConditionRule}
-use Rattle.lawful_order.specs.Lawful.{IsWorldOf}
+use Rattle.order_events.specs.lawful_order.Events.{Of, all_events, all_sleeps, number_of, ender_of}
+use Rattle.order_events.specs.lawful_order.Conditions.{IsSleep, IsSignal, IsBroadcast, Waits, ConditionRule}
+use Rattle.order_events.specs.lawful_order.Lawful.{IsWorldOf}
 use Rattle.condition_order.specs.declared.wait.Wait.{Wait}
 use Rattle.condition_order.specs.declared.wait.Ender.{Ender}
 use Rattle.condition_order.specs.Conditions.{enders, wait_of, all_waits, sleeps_on, formula_of, condition_formula}

@@ -7,7 +7,7 @@ use Rattle.std.proofs.lemmas.List.Elements.{Contains-append_cases}
 use Rattle.order_formula.specs.declared.formula.Conjunct.{Conjunct}
 use Rattle.order_formula.specs.declared.group.Group.TheVariants.{Condition}
 use Rattle.path_walk.specs.Paths.{Paths}
-use Rattle.lawful_order.specs.Events.{all_events}
+use Rattle.order_events.specs.lawful_order.Events.{all_events}
 use Rattle.condition_order.specs.declared.wait.Wait.{Wait}
 use Rattle.condition_order.specs.declared.wait.Ender.{Ender}
 use Rattle.condition_order.specs.Conditions.{enders, sleeps_on, all_waits, begun, ended, ended_before, woken, not_both, ends_no_later, not_lost, wait_formula, formula_of, condition_formula}

@@ -8,12 +8,12 @@ use Rattle.std.proofs.lemmas.Bool.{false≢true, ltb-true, lt-ltb, ne_eqb, or_ca
 use Rattle.std.proofs.lemmas.Option.{same_Some}
 use Rattle.std.proofs.lemmas.List.Elements.{Contains-append_left, Contains-append_right, Contains-append_cases}
 use Rattle.std.proofs.lemmas.List.Folds.{list_any-append}
-use Rattle.sym_terms.specs.declared.node.Node.{Node}
+use Rattle.order_formula.specs.sym_terms.declared.node.Node.{Node}
 use Rattle.order_formula.specs.declared.literal.Atom.TheVariants.{Before, Ends}
 use Rattle.order_formula.specs.declared.formula.Conjunct.{Conjunct}
 use Rattle.order_formula.specs.Worlds.{World, position, is_before, is_ended}
 use Rattle.order_formula.specs.Truth.{case_at, body_at}
-use Rattle.lawful_order.specs.Events.{ender_of}
+use Rattle.order_events.specs.lawful_order.Events.{ender_of}
 use Rattle.condition_order.specs.declared.wait.Wait.{Wait}
 use Rattle.condition_order.specs.declared.wait.Ender.{Ender}
 use Rattle.condition_order.specs.Conditions.{holds, fails, begun, ended, ended_before, woken, not_both, ends_no_later, cases_before, cases_one, not_lost, wait_formula}

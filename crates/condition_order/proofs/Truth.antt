@@ -4,12 +4,12 @@ use Rattle.std.specs.Prelude.{nat_eq}
 use Rattle.std.specs.Bool.{beq}
 use Rattle.std.specs.Option.{option_eq}
 use Rattle.std.proofs.lemmas.Bool.{false≢true, ltb-true, lt-ltb, eqb-true, eq-eqb}
-use Rattle.sym_terms.specs.declared.node.Node.{Node}
+use Rattle.order_formula.specs.sym_terms.declared.node.Node.{Node}
 use Rattle.order_formula.specs.declared.literal.Atom.{Atom}
 use Rattle.order_formula.specs.declared.formula.Body.TheVariants.{Any}
 use Rattle.order_formula.specs.Worlds.{World, position, is_before, is_ended}
 use Rattle.order_formula.specs.Truth.{atom_at, case_at, body_at}
-use Rattle.lawful_order.specs.Events.{ender_of}
+use Rattle.order_events.specs.lawful_order.Events.{ender_of}
 use Rattle.condition_order.specs.Conditions.{holds, fails}
 
 pub before_to : (w : World) (a b : ℕ) → is_before w a b ≡ true → position w a < position w b

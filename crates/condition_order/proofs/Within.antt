@@ -10,8 +10,8 @@ use Rattle.order_formula.specs.declared.formula.Body.{Body}
 use Rattle.order_formula.specs.declared.formula.Body.TheVariants as body
 use Rattle.order_formula.specs.Orders.{Order, AtomIsIn, BodyIsIn, ConjunctIsIn}
 use Rattle.order_formula.specs.Worlds.{World}
-use Rattle.lawful_order.specs.Events.{Of, Has, all_events, all_sleeps, number_of}
-use Rattle.lawful_order.specs.Whole.{AreWhole}
+use Rattle.order_events.specs.lawful_order.Events.{Of, Has, all_events, all_sleeps, number_of}
+use Rattle.order_events.specs.lawful_order.Whole.{AreWhole}
 use Rattle.order_events.proofs.Parts.{each_in}
 use Rattle.order_events.proofs.Lists.{at_in, of_flat_map}
 use Rattle.order_events.proofs.Numbers.{of_all_from, has_number}

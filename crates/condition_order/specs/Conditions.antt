@@ -11,8 +11,8 @@ use Rattle.order_formula.specs.declared.literal.Literal.{Literal}
 use Rattle.order_formula.specs.declared.formula.Body.TheVariants.{Any}
 use Rattle.order_formula.specs.declared.formula.Conjunct.{Conjunct}
 use Rattle.order_formula.specs.declared.group.Group.TheVariants.{Condition}
-use Rattle.lawful_order.specs.Events.{Of, all_events, all_sleeps}
-use Rattle.lawful_order.specs.Conditions.{is_signal, is_broadcast}
+use Rattle.order_events.specs.lawful_order.Events.{Of, all_events, all_sleeps}
+use Rattle.order_events.specs.lawful_order.Conditions.{is_signal, is_broadcast}
 use Rattle.order_events.specs.Parts.{number_in, one_of}
 use Rattle.condition_order.specs.declared.wait.Wait.{Wait}
 use Rattle.condition_order.specs.declared.wait.Ender.{Ender}
@@ -62,7 +62,9 @@ module _ (x : Wait) where
 
   -- if g ends the sleep, g comes after the sleep has begun
   abbrev pub begun : Ender → Conjunct
-  begun g = one_of (Condition x.condition) (fails (Ends x.sleep g.event) ∷ holds (Before x.begins g.event) ∷ [])
+  begun g =
+      one_of (Condition x.condition)
+      (fails (Ends x.sleep g.event) ∷ holds (Before x.begins g.event) ∷ [])
 
   -- one of the enders ends the sleep
   abbrev pub ended : List Ender → Conjunct
@@ -70,7 +72,9 @@ module _ (x : Wait) where
 
   -- if g ends the sleep, g comes before the event `wake`
   abbrev pub ended_before : ℕ → Ender → Conjunct
-  ended_before wake g = one_of (Condition x.condition) (fails (Ends x.sleep g.event) ∷ holds (Before g.event wake) ∷ [])
+  ended_before wake g =
+      one_of (Condition x.condition)
+      (fails (Ends x.sleep g.event) ∷ holds (Before g.event wake) ∷ [])
 
   -- if the thread wakes, one of the enders ends the sleep before that
   abbrev pub woken : List Ender → List Conjunct
@@ -78,7 +82,8 @@ module _ (x : Wait) where
 
   -- g doesn't end both this sleep and the sleep r
   abbrev pub not_both : Ender → ℕ → Conjunct
-  not_both g r = one_of (Condition x.condition) (fails (Ends x.sleep g.event) ∷ fails (Ends r g.event) ∷ [])
+  not_both g r =
+      one_of (Condition x.condition) (fails (Ends x.sleep g.event) ∷ fails (Ends r g.event) ∷ [])
 
   -- a signal that ends this sleep ends none of rs with a higher number
   abbrev pub ends_no_later : List ℕ → Ender → List Conjunct
@@ -86,16 +91,20 @@ module _ (x : Wait) where
 
   -- the cases in which another ender ends the sleep before g
   abbrev pub cases_before : List Ender → Ender → List (List Literal)
-  cases_before es g = map (λ h. holds (Ends x.sleep h.event) ∷ holds (Before h.event g.event) ∷ []) (filter (λ h. not (h.event == g.event)) es)
+  cases_before es g =
+      map (λ h. holds (Ends x.sleep h.event) ∷ holds (Before h.event g.event) ∷ [])
+      (filter (λ h. not (h.event == g.event)) es)
 
   -- g isn't lost: if the sleep waits at g, a broadcast g ends it, and a signal g ends one of rs
   abbrev pub not_lost : List Ender → List ℕ → Ender → Conjunct
   not_lost es rs g =
-      about ((fails (Before x.begins g.event) ∷ []) ∷ cases_before es g ++ cases_one g (if g.all then x.sleep ∷ [] else rs))
+      about ((fails (Before x.begins g.event) ∷ []) ∷ cases_before es g
+      ++ cases_one g (if g.all then x.sleep ∷ [] else rs))
 
   -- all conjuncts of the sleep, given the enders and the sleeps of its condition
   abbrev pub wait_formula : List Ender → List ℕ → List Conjunct
-  wait_formula es rs = map begun es ++ (woken es ++ (flat_map (ends_no_later rs) es ++ map (not_lost es rs) es))
+  wait_formula es rs =
+      map begun es ++ (woken es ++ (flat_map (ends_no_later rs) es ++ map (not_lost es rs) es))
 
 -- the conjuncts of one wait
 abbrev pub formula_of : List (Of Event) → List Wait → Wait → List Conjunct

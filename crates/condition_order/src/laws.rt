@@ -2,18 +2,18 @@
 ghost use Rattle.std.specs.Prelude.{◌≡◌, ℕ, List, length};
 ghost use Rattle.std.specs.List.{All, Contains};
 ghost use Rattle.path_walk.specs.Paths.{Paths};
-ghost use Rattle.sym_terms.specs.declared.node.Node.{Node};
-ghost use Rattle.sym_exec.specs.Executed.{Symbolic};
+ghost use Rattle.order_formula.specs.sym_terms.declared.node.Node.{Node};
+ghost use Rattle.order_events.specs.sym_exec.Executed.{Symbolic};
 ghost use Rattle.order_formula.specs.declared.formula.Conjunct.{Conjunct};
 ghost use Rattle.order_formula.specs.declared.group.Group.TheVariants.{Condition};
 ghost use Rattle.order_formula.specs.Formulas.{IsOf};
 ghost use Rattle.order_formula.specs.Groups.{IsExactly};
 ghost use Rattle.order_formula.specs.Orders.{Order, ConjunctIsIn};
 ghost use Rattle.order_formula.specs.Worlds.{World};
-ghost use Rattle.lawful_order.specs.Events.{all_events, all_sleeps};
-ghost use Rattle.lawful_order.specs.Whole.{AreWhole};
-ghost use Rattle.lawful_order.specs.Lawful.{IsWorldOf};
-ghost use Rattle.lawful_order.specs.Conditions.{ConditionRule};
+ghost use Rattle.order_events.specs.lawful_order.Events.{all_events, all_sleeps};
+ghost use Rattle.order_events.specs.lawful_order.Whole.{AreWhole};
+ghost use Rattle.order_events.specs.lawful_order.Lawful.{IsWorldOf};
+ghost use Rattle.order_events.specs.lawful_order.Conditions.{ConditionRule};
 ghost use Rattle.condition_order.specs.Conditions.{condition_formula};
 
 /// All conjuncts about a condition are true in a world exactly when its sleeps end as the

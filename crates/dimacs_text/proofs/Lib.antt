@@ -1,3 +1,4 @@
+pub use Rattle.tc_decimal.proofs as tc_decimal
 pub mod Breaks
 pub mod FirstFalse
 pub mod Firsts

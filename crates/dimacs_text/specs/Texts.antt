@@ -6,7 +6,8 @@ use Rattle.cnf_core.specs.Clauses.{Formula}
 
 -- the header: the number of variables and the number of clauses
 abbrev pub header : Formula → List ℕ
-header f = codes "p cnf " ++ (decimal f.vars ++ (codes " " ++ (decimal (length f.clauses) ++ codes "\n")))
+header f =
+    codes "p cnf " ++ (decimal f.vars ++ (codes " " ++ (decimal (length f.clauses) ++ codes "\n")))
 
 -- a literal, followed by a space
 abbrev pub literal_text : ℤ → List ℕ

@@ -1,7 +1,7 @@
 //! The world of a run.
 ghost use Rattle.std.specs.Prelude.{◌≡◌, ◌≤◌, length, IfOk};
-ghost use Rattle.tc_limits.specs.declared.limits.TheConstants.{EVENTS};
-ghost use Rattle.lawful_order.specs.Events.{all_events, all_sleeps};
+ghost use Rattle.tc_code.specs.tc_limits.declared.limits.TheConstants.{EVENTS};
+ghost use Rattle.order_events.specs.lawful_order.Events.{all_events, all_sleeps};
 
 use crate::machine::Machine;
 use crate::run::Run;

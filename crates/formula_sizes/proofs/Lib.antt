@@ -1,3 +1,4 @@
+pub use Rattle.switch_order.proofs as switch_order
 pub mod Sums
 pub mod Terms
 pub mod Own

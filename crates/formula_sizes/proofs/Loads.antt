@@ -4,20 +4,20 @@ use Rattle.std.specs.Prelude.{option_and_then, option_map, option_to_list, if◌
 use Rattle.std.specs.List.{cons_option, filter_map}
 use Rattle.std.specs.Option.{option_map_or}
 use Rattle.std.proofs.lemmas.List.Sums.{sum_by-cons}
-use Rattle.tc_code.specs.Code.{Code}
-use Rattle.path_walk.specs.Paths.{Paths}
-use Rattle.path_walk.specs.declared.event.Event.{Event}
-use Rattle.sym_terms.specs.declared.node.Node.{Node}
-use Rattle.sym_terms.specs.declared.node.Node.TheVariants.{Constant, Symbol}
-use Rattle.sym_exec.specs.Executed.{Symbolic}
-use Rattle.sym_exec.specs.declared.symbolic.Access.{Access}
-use Rattle.order_formula.specs.declared.formula.Conjunct.{Conjunct}
-use Rattle.lawful_order.specs.Cells.{value_at_start}
-use Rattle.lawful_order.specs.Events.{Of, all_events}
-use Rattle.order_cells.specs.Same.{same_test}
-use Rattle.read_write.specs.Accesses.{all_accesses}
-use Rattle.read_write.specs.Reading.{may_be_seen, test_of, needs_of, read_needs, candidate_of, conjunct_of, read_formula}
-use Rattle.bit_terms.specs.Sizes.{node_size, terms_size}
+use Rattle.clap_system.specs.tc_code.Code.{Code}
+use Rattle.clap_system.specs.path_walk.Paths.{Paths}
+use Rattle.clap_system.specs.path_walk.declared.event.Event.{Event}
+use Rattle.bit_blast.specs.sym_terms.declared.node.Node.{Node}
+use Rattle.bit_blast.specs.sym_terms.declared.node.Node.TheVariants.{Constant, Symbol}
+use Rattle.clap_system.specs.sym_exec.Executed.{Symbolic}
+use Rattle.clap_system.specs.sym_exec.declared.symbolic.Access.{Access}
+use Rattle.bit_blast.specs.order_formula.declared.formula.Conjunct.{Conjunct}
+use Rattle.clap_system.specs.lawful_order.Cells.{value_at_start}
+use Rattle.clap_system.specs.lawful_order.Events.{Of, all_events}
+use Rattle.clap_system.specs.order_cells.Same.{same_test}
+use Rattle.clap_system.specs.read_write.Accesses.{all_accesses}
+use Rattle.clap_system.specs.read_write.Reading.{may_be_seen, test_of, needs_of, read_needs, candidate_of, conjunct_of, read_formula}
+use Rattle.bit_blast.specs.bit_terms.Sizes.{node_size, terms_size}
 use Rattle.bit_blast.specs.Sizes.{read_size, size_of}
 use Rattle.formula_sizes.proofs.Own.{conjunct_size, test_size}
 use Rattle.formula_sizes.proofs.Sums.{regroup, times_le, of_flat, of_filter_map}

@@ -1,22 +1,22 @@
 -- The bounds at the limits together are below the number of variables and clauses that can be numbered.
 use Rattle.std.proofs.Common.{ℕ, ◌+◌, ◌*◌, ◌≤◌, Bool, List, [], ◌∷◌, ◌++◌, fold, map, length, arith, sum_by}
 use Rattle.std.proofs.lemmas.List.Sums.{sum_by-append, sum_by-cons}
-use Rattle.run_log.specs.Logs.{Log}
-use Rattle.tc_limits.specs.declared.limits.TheConstants.{THREADS, STEPS, EVENTS}
-use Rattle.tc_code.specs.Code.{Code}
-use Rattle.path_walk.specs.Paths.{Paths, paths_of}
-use Rattle.store_buffers.specs.Pending.{Binding}
-use Rattle.sym_terms.specs.Terms.{with_node}
-use Rattle.sym_terms.specs.declared.node.Node.{Node}
-use Rattle.sym_exec.specs.Executed.{Course, Executed, Symbolic, executed}
-use Rattle.order_formula.specs.Orders.{Order, order_without_questions}
-use Rattle.order_formula.proofs.Asked.{grows_formula}
-use Rattle.lawful_order.specs.Events.{all_events, all_sleeps}
-use Rattle.memory_order.specs.Own.{own_formula, own_needs}
-use Rattle.sync_order.specs.Sync.{sync_formula}
-use Rattle.read_write.specs.Reading.{read_formula, read_needs}
-use Rattle.bit_order.specs.Comparators as order
-use Rattle.bit_terms.specs.Sizes.{terms_size}
+use Rattle.clap_system.specs.run_log.Logs.{Log}
+use Rattle.clap_system.specs.tc_limits.declared.limits.TheConstants.{THREADS, STEPS, EVENTS}
+use Rattle.clap_system.specs.tc_code.Code.{Code}
+use Rattle.clap_system.specs.path_walk.Paths.{Paths, paths_of}
+use Rattle.clap_system.specs.store_buffers.Pending.{Binding}
+use Rattle.bit_blast.specs.sym_terms.Terms.{with_node}
+use Rattle.bit_blast.specs.sym_terms.declared.node.Node.{Node}
+use Rattle.clap_system.specs.sym_exec.Executed.{Course, Executed, Symbolic, executed}
+use Rattle.bit_blast.specs.order_formula.Orders.{Order, order_without_questions}
+use Rattle.bit_blast.proofs.order_formula.Asked.{grows_formula}
+use Rattle.clap_system.specs.lawful_order.Events.{all_events, all_sleeps}
+use Rattle.clap_system.specs.memory_order.Own.{own_formula, own_needs}
+use Rattle.clap_system.specs.sync_order.Sync.{sync_formula}
+use Rattle.clap_system.specs.read_write.Reading.{read_formula, read_needs}
+use Rattle.switch_order.specs.bit_order.Comparators as order
+use Rattle.bit_blast.specs.bit_terms.Sizes.{terms_size}
 use Rattle.bit_blast.specs.Sizes.{size_of}
 use Rattle.clap_system.specs.Systems.{System, system_of}
 use Rattle.clap_system.specs.Tests.{test_conjunct, test_formula}

@@ -6,8 +6,8 @@ use Rattle.std.proofs.Math.Nat.{add-mul, mul_assoc, mul-le-mul}
 use Rattle.std.proofs.lemmas.List.{length-append, length-map}
 use Rattle.std.proofs.lemmas.List.Elements.{All-cons, All-head, All-nil, All-tail, All-weaker}
 use Rattle.std.proofs.lemmas.List.Sums.{sum_by-append, sum_by-cons}
-use Rattle.lawful_order.specs.Events.{all_from}
-use Rattle.order_events.specs.Parts.{of_each}
+use Rattle.clap_system.specs.lawful_order.Events.{all_from}
+use Rattle.clap_system.specs.order_events.Parts.{of_each}
 
 pub times_le : (a b c d : ℕ) → a ≤ c → b ≤ d → a * b ≤ c * d
 times_le a b c d p q = mul-le-mul {n₁ = a} {m₁ = b} {n₂ = c} {m₂ = d} p q

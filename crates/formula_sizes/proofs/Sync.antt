@@ -4,15 +4,15 @@ use Rattle.std.specs.Prelude.{filter, option_to_list, if◌then◌else◌}
 use Rattle.std.specs.List.{All, flat_map}
 use Rattle.std.proofs.lemmas.List.Elements.{All-weaker}
 use Rattle.std.proofs.lemmas.List.Sums.{sum_by-append, sum_by-cons}
-use Rattle.path_walk.specs.Paths.{Walk, Paths}
-use Rattle.path_walk.specs.declared.event.Event.{Event}
-use Rattle.path_walk.specs.declared.event.Link.{Link}
-use Rattle.path_walk.specs.declared.event.Region.{Region}
-use Rattle.order_formula.specs.declared.formula.Conjunct.{Conjunct}
-use Rattle.order_formula.specs.declared.literal.Literal.{Literal}
-use Rattle.lawful_order.specs.Events.{Of, all_events, all_sleeps}
-use Rattle.sync_order.specs.Children.{is_child, is_exit, created_before, exit_before, exited_before, create_conjuncts, join_conjuncts, links_formula, children_formula}
-use Rattle.sync_order.specs.Mutexes.{of_pairs, exclude, release_literal, excludes, exclusive, all_regions, mutexes_formula}
+use Rattle.clap_system.specs.path_walk.Paths.{Walk, Paths}
+use Rattle.clap_system.specs.path_walk.declared.event.Event.{Event}
+use Rattle.clap_system.specs.path_walk.declared.event.Link.{Link}
+use Rattle.clap_system.specs.path_walk.declared.event.Region.{Region}
+use Rattle.bit_blast.specs.order_formula.declared.formula.Conjunct.{Conjunct}
+use Rattle.bit_blast.specs.order_formula.declared.literal.Literal.{Literal}
+use Rattle.clap_system.specs.lawful_order.Events.{Of, all_events, all_sleeps}
+use Rattle.clap_system.specs.sync_order.Children.{is_child, is_exit, created_before, exit_before, exited_before, create_conjuncts, join_conjuncts, links_formula, children_formula}
+use Rattle.clap_system.specs.sync_order.Mutexes.{of_pairs, exclude, release_literal, excludes, exclusive, all_regions, mutexes_formula}
 use Rattle.bit_blast.specs.Sizes.{literal_size, case_size, size_of}
 use Rattle.formula_sizes.proofs.Own.{conjunct_size}
 use Rattle.formula_sizes.proofs.Sums.{times_le, each_times, of_map, of_flat, of_all, filter_few, length_all}

@@ -5,28 +5,28 @@ use Rattle.std.specs.List.{list_any}
 use Rattle.std.specs.Option.{option_map_or}
 use Rattle.std.proofs.lemmas.List.{length_push}
 use Rattle.std.proofs.lemmas.List.Sums.{sum_by-append, sum_by-cons}
-use Rattle.int_ops.specs.declared.arith.UnOp.{UnOp}
-use Rattle.int_ops.specs.declared.arith.UnOp.TheVariants as un
-use Rattle.int_ops.specs.declared.arith.BinOp.{BinOp}
-use Rattle.int_ops.specs.declared.arith.BinOp.TheVariants as bin
-use Rattle.tc_code.specs.Code.{Code, instr_at, line_at}
-use Rattle.tc_code.specs.Expr as expr
-use Rattle.tc_code.specs.Expr.{Expr}
-use Rattle.tc_code.specs.declared.instr.Instr.{Instr}
-use Rattle.tc_code.specs.declared.instr.Instr.TheVariants.{Set, Load, LoadAt, Store, StoreAt, Inside, Branch, Create, Assert, Nonzero, InRange, Swap, Cas, Exit}
-use Rattle.path_walk.specs.Events.{operators, operators_of}
-use Rattle.path_walk.specs.Paths.{Walk, Paths}
-use Rattle.path_walk.specs.Steps.{steps_at, step_at}
-use Rattle.sym_terms.specs.Terms.{same_node, with_node}
-use Rattle.sym_terms.specs.declared.node.Node.{Node}
-use Rattle.sym_terms.specs.declared.node.Node.TheVariants.{Constant, Symbol, Unary, Binary}
-use Rattle.sym_exec.specs.Making.{Made, AllMade, term_of_node, expr_term, with_expr, range_test, last_index, replaced_term}
-use Rattle.sym_exec.specs.Thread.{Doing, term_in, with_term, symbol_in, after_instr, wanted_of, after_step, after_all}
-use Rattle.sym_exec.specs.Executed.{Course, Executed, fails_at, thread_started, thread_done, with_thread, nothing, executed}
-use Rattle.sym_exec.specs.declared.symbolic.Test.{Test}
-use Rattle.sym_exec.specs.declared.symbolic.Access.{Access}
-use Rattle.bit_ops.specs.Sizes.{unary_size, binary_size}
-use Rattle.bit_terms.specs.Sizes.{node_size, terms_size}
+use Rattle.switch_order.specs.int_ops.declared.arith.UnOp.{UnOp}
+use Rattle.switch_order.specs.int_ops.declared.arith.UnOp.TheVariants as un
+use Rattle.switch_order.specs.int_ops.declared.arith.BinOp.{BinOp}
+use Rattle.switch_order.specs.int_ops.declared.arith.BinOp.TheVariants as bin
+use Rattle.clap_system.specs.tc_code.Code.{Code, instr_at, line_at}
+use Rattle.clap_system.specs.tc_code.Expr as expr
+use Rattle.clap_system.specs.tc_code.Expr.{Expr}
+use Rattle.clap_system.specs.tc_code.declared.instr.Instr.{Instr}
+use Rattle.clap_system.specs.tc_code.declared.instr.Instr.TheVariants.{Set, Load, LoadAt, Store, StoreAt, Inside, Branch, Create, Assert, Nonzero, InRange, Swap, Cas, Exit}
+use Rattle.clap_system.specs.path_walk.Events.{operators, operators_of}
+use Rattle.clap_system.specs.path_walk.Paths.{Walk, Paths}
+use Rattle.clap_system.specs.path_walk.Steps.{steps_at, step_at}
+use Rattle.bit_blast.specs.sym_terms.Terms.{same_node, with_node}
+use Rattle.bit_blast.specs.sym_terms.declared.node.Node.{Node}
+use Rattle.bit_blast.specs.sym_terms.declared.node.Node.TheVariants.{Constant, Symbol, Unary, Binary}
+use Rattle.clap_system.specs.sym_exec.Making.{Made, AllMade, term_of_node, expr_term, with_expr, range_test, last_index, replaced_term}
+use Rattle.clap_system.specs.sym_exec.Thread.{Doing, term_in, with_term, symbol_in, after_instr, wanted_of, after_step, after_all}
+use Rattle.clap_system.specs.sym_exec.Executed.{Course, Executed, fails_at, thread_started, thread_done, with_thread, nothing, executed}
+use Rattle.clap_system.specs.sym_exec.declared.symbolic.Test.{Test}
+use Rattle.clap_system.specs.sym_exec.declared.symbolic.Access.{Access}
+use Rattle.bit_blast.specs.bit_ops.Sizes.{unary_size, binary_size}
+use Rattle.bit_blast.specs.bit_terms.Sizes.{node_size, terms_size}
 
 unary_most : (op : UnOp) → unary_size op ≤ 28_868
 unary_most un.Neg = omega arith

@@ -6,18 +6,18 @@ use Rattle.std.specs.Option.{option_map_or}
 use Rattle.std.proofs.lemmas.List.{length-map}
 use Rattle.std.proofs.lemmas.List.FromFn.{length-enumerate_from}
 use Rattle.std.proofs.lemmas.List.Sums.{sum_by-append, sum_by-cons}
-use Rattle.path_walk.specs.Paths.{Walk, Paths}
-use Rattle.path_walk.specs.declared.event.Blocked.{Blocked}
-use Rattle.path_walk.specs.declared.event.Blocked.TheVariants.{Lock, Wake, Join}
-use Rattle.path_walk.specs.declared.event.Event.{Event}
-use Rattle.path_walk.specs.declared.event.Sleep.{Sleep}
-use Rattle.order_formula.specs.declared.literal.Atom.TheVariants.{Before, Ends}
-use Rattle.lawful_order.specs.Events.{Of, all_events, all_sleeps}
-use Rattle.condition_order.specs.declared.wait.Ender.{Ender}
-use Rattle.condition_order.specs.Conditions.{ender_by, enders, sleeps_on, cases_one, begun, ended, ended_before, holds, fails, woken, not_both, ends_no_later, cases_before}
-use Rattle.condition_order.specs.Conditions.{not_lost, wait_formula, formula_of, wait_of, condition_formula, all_waits}
-use Rattle.sync_order.specs.Stuck as stuck
-use Rattle.sync_order.specs.Stuck.{cases_if, unended, not_ended_literal, sleeping, is_held, has_exited, stuck_at, stuck_formula}
+use Rattle.clap_system.specs.path_walk.Paths.{Walk, Paths}
+use Rattle.clap_system.specs.path_walk.declared.event.Blocked.{Blocked}
+use Rattle.clap_system.specs.path_walk.declared.event.Blocked.TheVariants.{Lock, Wake, Join}
+use Rattle.clap_system.specs.path_walk.declared.event.Event.{Event}
+use Rattle.clap_system.specs.path_walk.declared.event.Sleep.{Sleep}
+use Rattle.bit_blast.specs.order_formula.declared.literal.Atom.TheVariants.{Before, Ends}
+use Rattle.clap_system.specs.lawful_order.Events.{Of, all_events, all_sleeps}
+use Rattle.clap_system.specs.condition_order.declared.wait.Ender.{Ender}
+use Rattle.clap_system.specs.condition_order.Conditions.{ender_by, enders, sleeps_on, cases_one, begun, ended, ended_before, holds, fails, woken, not_both, ends_no_later, cases_before}
+use Rattle.clap_system.specs.condition_order.Conditions.{not_lost, wait_formula, formula_of, wait_of, condition_formula, all_waits}
+use Rattle.clap_system.specs.sync_order.Stuck as stuck
+use Rattle.clap_system.specs.sync_order.Stuck.{cases_if, unended, not_ended_literal, sleeping, is_held, has_exited, stuck_at, stuck_formula}
 use Rattle.bit_blast.specs.Sizes.{literal_size, case_size, size_of}
 use Rattle.formula_sizes.proofs.Own.{conjunct_size}
 use Rattle.formula_sizes.proofs.Loads.{filter_map_few}

@@ -6,24 +6,24 @@ use Rattle.std.specs.Option.{option_map_or}
 use Rattle.std.specs.Result.{result_unwrap_or}
 use Rattle.std.proofs.lemmas.List.Elements.{All-cons, All-head, All-nil, All-tail}
 use Rattle.std.proofs.lemmas.List.Sums.{sum_by-cons}
-use Rattle.run_log.specs.Logs.{Log}
-use Rattle.tc_base.specs.Paths.{Path, ThreadPath, path_under}
-use Rattle.tc_base.specs.Names.{Name}
-use Rattle.tc_limits.specs.declared.limits.TheConstants.{STEPS}
-use Rattle.tc_code.specs.Code.{Code, line_at}
-use Rattle.tc_code.specs.declared.instr.Instr.{Instr}
-use Rattle.tc_code.specs.declared.instr.Instr.TheVariants.{Load, LoadAt, Store, StoreAt, Swap, Cas}
-use Rattle.path_walk.specs.Events.{kind_with, events_of, region_of, regions_of, sleep_by, sleeps_of, create_by, join_by}
-use Rattle.path_walk.specs.Fits.{ending_of, fails_in}
-use Rattle.path_walk.specs.Marks.{Marks, marks_after_instr, marked_from, marks_at_start}
-use Rattle.path_walk.specs.Paths.{Walk, walk_of, function_in, steps_in, operators_in}
-use Rattle.path_walk.specs.Steps.{Step, places_from, places_of}
-use Rattle.path_walk.specs.declared.ending.Ending.{Ending}
-use Rattle.path_walk.specs.declared.event.Event.{Event}
-use Rattle.path_walk.specs.declared.event.EventKind.{EventKind}
-use Rattle.path_walk.specs.declared.fault.Misfit.{Misfit}
-use Rattle.path_walk.specs.declared.fault.Misfit.TheVariants as misfit
-use Rattle.path_walk.proofs.Places.{count, fits_from}
+use Rattle.clap_system.specs.run_log.Logs.{Log}
+use Rattle.clap_system.specs.tc_base.Paths.{Path, ThreadPath, path_under}
+use Rattle.clap_system.specs.tc_base.Names.{Name}
+use Rattle.clap_system.specs.tc_limits.declared.limits.TheConstants.{STEPS}
+use Rattle.clap_system.specs.tc_code.Code.{Code, line_at}
+use Rattle.clap_system.specs.tc_code.declared.instr.Instr.{Instr}
+use Rattle.clap_system.specs.tc_code.declared.instr.Instr.TheVariants.{Load, LoadAt, Store, StoreAt, Swap, Cas}
+use Rattle.clap_system.specs.path_walk.Events.{kind_with, events_of, region_of, regions_of, sleep_by, sleeps_of, create_by, join_by}
+use Rattle.clap_system.specs.path_walk.Fits.{ending_of, fails_in}
+use Rattle.clap_system.specs.path_walk.Marks.{Marks, marks_after_instr, marked_from, marks_at_start}
+use Rattle.clap_system.specs.path_walk.Paths.{Walk, walk_of, function_in, steps_in, operators_in}
+use Rattle.clap_system.specs.path_walk.Steps.{Step, places_from, places_of}
+use Rattle.clap_system.specs.path_walk.declared.ending.Ending.{Ending}
+use Rattle.clap_system.specs.path_walk.declared.event.Event.{Event}
+use Rattle.clap_system.specs.path_walk.declared.event.EventKind.{EventKind}
+use Rattle.clap_system.specs.path_walk.declared.fault.Misfit.{Misfit}
+use Rattle.clap_system.specs.path_walk.declared.fault.Misfit.TheVariants as misfit
+use Rattle.clap_system.proofs.path_walk.Places.{count, fits_from}
 use Rattle.formula_sizes.proofs.Loads.{filter_map_few}
 use Rattle.formula_sizes.proofs.Sync.{HasFew}
 use Rattle.formula_sizes.proofs.Terms.{cells_of, operators_at, cells_at, operators_along, steps_along, cells_along}

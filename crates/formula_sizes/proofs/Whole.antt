@@ -3,22 +3,22 @@ use Rattle.std.proofs.Common.{◌≡◌, ℕ, ◌+◌, ◌*◌, ◌≤◌, Bool,
 use Rattle.std.specs.Prelude.{sum, min, ◌-◌, ◌^◌}
 use Rattle.std.proofs.lemmas.List.{length-map}
 use Rattle.std.proofs.lemmas.List.Sums.{sum_by-append, sum_by-cons}
-use Rattle.run_log.specs.Logs.{Log}
-use Rattle.tc_base.specs.Paths.{ThreadPath}
-use Rattle.tc_limits.specs.declared.limits.TheConstants.{THREADS, STEPS, EVENTS, OPERATORS}
-use Rattle.tc_code.specs.Code.{Code}
-use Rattle.path_walk.specs.Paths.{Walk, Paths, walk_of, paths_of, operators_in}
-use Rattle.store_buffers.specs.Pending.{Binding}
-use Rattle.sym_terms.specs.declared.node.Node.{Node}
-use Rattle.sym_exec.specs.Executed.{Course, executed}
-use Rattle.lawful_order.specs.Events.{all_events, all_sleeps}
-use Rattle.read_write.specs.Accesses.{all_accesses}
-use Rattle.read_write.specs.Reading.{read_formula}
-use Rattle.condition_order.specs.Conditions.{condition_formula}
-use Rattle.sync_order.specs.Children.{children_formula}
-use Rattle.sync_order.specs.Mutexes.{mutexes_formula}
-use Rattle.sync_order.specs.Stuck.{stuck_formula}
-use Rattle.sync_order.specs.Sync.{sync_formula}
+use Rattle.clap_system.specs.run_log.Logs.{Log}
+use Rattle.clap_system.specs.tc_base.Paths.{ThreadPath}
+use Rattle.clap_system.specs.tc_limits.declared.limits.TheConstants.{THREADS, STEPS, EVENTS, OPERATORS}
+use Rattle.clap_system.specs.tc_code.Code.{Code}
+use Rattle.clap_system.specs.path_walk.Paths.{Walk, Paths, walk_of, paths_of, operators_in}
+use Rattle.clap_system.specs.store_buffers.Pending.{Binding}
+use Rattle.bit_blast.specs.sym_terms.declared.node.Node.{Node}
+use Rattle.clap_system.specs.sym_exec.Executed.{Course, executed}
+use Rattle.clap_system.specs.lawful_order.Events.{all_events, all_sleeps}
+use Rattle.clap_system.specs.read_write.Accesses.{all_accesses}
+use Rattle.clap_system.specs.read_write.Reading.{read_formula}
+use Rattle.clap_system.specs.condition_order.Conditions.{condition_formula}
+use Rattle.clap_system.specs.sync_order.Children.{children_formula}
+use Rattle.clap_system.specs.sync_order.Mutexes.{mutexes_formula}
+use Rattle.clap_system.specs.sync_order.Stuck.{stuck_formula}
+use Rattle.clap_system.specs.sync_order.Sync.{sync_formula}
 use Rattle.bit_blast.specs.Sizes.{read_size, size_of}
 use Rattle.formula_sizes.specs.Small.{IsWithin, IsSmall, HasSmall}
 use Rattle.formula_sizes.proofs.Own.{conjunct_size, own_size, own_needs_size}

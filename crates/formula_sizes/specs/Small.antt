@@ -2,19 +2,19 @@
 -- terms: in variables, and in clauses.
 use Rattle.std.specs.Prelude.{◌+◌, ◌*◌, ◌<◌, ◌≤◌, Bool, List, length, sum_by}
 use Rattle.std.specs.List.{All}
-use Rattle.run_log.specs.Logs.{Log}
-use Rattle.tc_limits.specs.declared.limits.TheConstants.{THREADS, STEPS, EVENTS, OPERATORS}
-use Rattle.tc_code.specs.Code.{Code}
-use Rattle.path_walk.specs.Paths.{Paths, paths_of}
-use Rattle.store_buffers.specs.Pending.{Binding}
-use Rattle.sym_terms.specs.declared.node.Node.{Node}
-use Rattle.sym_exec.specs.Executed.{Symbolic, Executed}
-use Rattle.memory_order.specs.Own.{own_formula, own_needs}
-use Rattle.sync_order.specs.Sync.{sync_formula}
-use Rattle.read_write.specs.Reading.{read_formula, read_needs}
-use Rattle.bit_terms.specs.Sizes.{terms_size}
+use Rattle.clap_system.specs.run_log.Logs.{Log}
+use Rattle.clap_system.specs.tc_limits.declared.limits.TheConstants.{THREADS, STEPS, EVENTS, OPERATORS}
+use Rattle.clap_system.specs.tc_code.Code.{Code}
+use Rattle.clap_system.specs.path_walk.Paths.{Paths, paths_of}
+use Rattle.clap_system.specs.store_buffers.Pending.{Binding}
+use Rattle.bit_blast.specs.sym_terms.declared.node.Node.{Node}
+use Rattle.clap_system.specs.sym_exec.Executed.{Symbolic, Executed}
+use Rattle.clap_system.specs.memory_order.Own.{own_formula, own_needs}
+use Rattle.clap_system.specs.sync_order.Sync.{sync_formula}
+use Rattle.clap_system.specs.read_write.Reading.{read_formula, read_needs}
+use Rattle.bit_blast.specs.bit_terms.Sizes.{terms_size}
 use Rattle.bit_blast.specs.Sizes.{size_of, whole_size}
-use Rattle.cnf_core.specs.declared.cnf.TheConstants.{LIMIT}
+use Rattle.switch_order.specs.cnf_core.declared.cnf.TheConstants.{LIMIT}
 use Rattle.switch_order.specs.Sizes as levels
 use Rattle.clap_system.specs.Systems.{System}
 

@@ -4,14 +4,14 @@
 #![tactic(auto)]
 
 ghost use Rattle.std.specs.Prelude.{◌≤◌, Bool, List, [], length};
-ghost use Rattle.run_log.specs.Logs.{Log};
-ghost use Rattle.tc_limits.specs.declared.limits.TheConstants.{EVENTS};
-ghost use Rattle.tc_code.specs.Code.{Code};
-ghost use Rattle.path_walk.specs.Paths.{paths_of};
-ghost use Rattle.store_buffers.specs.Pending.{Binding};
-ghost use Rattle.sym_terms.specs.declared.node.Node.{Node};
-ghost use Rattle.sym_exec.specs.Executed.{executed};
-ghost use Rattle.lawful_order.specs.Events.{all_events, all_sleeps};
+ghost use Rattle.clap_system.specs.run_log.Logs.{Log};
+ghost use Rattle.clap_system.specs.tc_limits.declared.limits.TheConstants.{EVENTS};
+ghost use Rattle.clap_system.specs.tc_code.Code.{Code};
+ghost use Rattle.clap_system.specs.path_walk.Paths.{paths_of};
+ghost use Rattle.clap_system.specs.store_buffers.Pending.{Binding};
+ghost use Rattle.bit_blast.specs.sym_terms.declared.node.Node.{Node};
+ghost use Rattle.clap_system.specs.sym_exec.Executed.{executed};
+ghost use Rattle.clap_system.specs.lawful_order.Events.{all_events, all_sleeps};
 ghost use Rattle.clap_system.specs.Systems.{system_of};
 ghost use Rattle.formula_sizes.specs.Small.{ClausesHaveRoom, IsWithin, IsSmall, HasSmall};
 

@@ -74,7 +74,8 @@ signs_differ _ _ = false
 -- the quotient, rounded toward zero and wrapped; 0 if the divisor is 0
 abbrev pub quotient : ℤ → ℤ → ℤ
 quotient a b =
-    if int_eq b (pos 0) then pos 0 else wrapped (with_sign (signs_differ a b) (unsigned_abs a / unsigned_abs b))
+    if int_eq b (pos 0) then pos 0
+    else wrapped (with_sign (signs_differ a b) (unsigned_abs a / unsigned_abs b))
 
 -- the remainder, with the sign of the dividend; 0 if the divisor is 0
 abbrev pub remainder : ℤ → ℤ → ℤ

@@ -1,0 +1,1 @@
+pub use Rattle.sym_exec.proofs.run_laws

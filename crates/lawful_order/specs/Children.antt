@@ -1,9 +1,9 @@
 -- A thread's events come after its create, and a join comes after the thread's exit.
 use Rattle.std.specs.Prelude.{◌≡◌, ℕ}
-use Rattle.path_walk.specs.Paths.{Paths}
-use Rattle.path_walk.specs.declared.event.Event.{Event}
-use Rattle.path_walk.specs.declared.event.EventKind.TheVariants as kind
-use Rattle.path_walk.specs.declared.event.Link.{Link}
+use Rattle.sym_exec.specs.path_walk.Paths.{Paths}
+use Rattle.sym_exec.specs.path_walk.declared.event.Event.{Event}
+use Rattle.sym_exec.specs.path_walk.declared.event.EventKind.TheVariants as kind
+use Rattle.sym_exec.specs.path_walk.declared.event.Link.{Link}
 use Rattle.order_formula.specs.Worlds.{World}
 use Rattle.lawful_order.specs.Events.{HasEvent, Creates, Joins, IsChild, IsBefore}
 
@@ -16,6 +16,8 @@ module _ (paths : Paths) (w : World) where
     pub before : IsBefore paths w c exit.step t step
 
   pub record ChildRule (c : ℕ) : Type 0 where
-    pub created : (t : ℕ) (l : Link) (x : Event) → Creates paths t l → IsChild paths t l.child c → HasEvent paths c x
+    pub created : (t : ℕ) (l : Link) (x : Event) → Creates paths t l → IsChild paths t l.child c
+        → HasEvent paths c x
         → IsBefore paths w t l.step c x.step
-    pub joined : (t : ℕ) (l : Link) → Joins paths t l → IsChild paths t l.child c → HasExited c t l.step
+    pub joined : (t : ℕ) (l : Link) → Joins paths t l → IsChild paths t l.child c
+        → HasExited c t l.step

@@ -1,11 +1,11 @@
 -- A signal wakes one of the threads that wait on its condition, if any; a broadcast wakes all.
 -- There are no spurious wakeups, and a signal without a waiting thread is lost.
 use Rattle.std.specs.Prelude.{◌≡◌, ◌⊎◌, ℕ, ◌<◌, ◌==◌, Bool, true, false, Some, slice_get}
-use Rattle.path_walk.specs.Paths.{Paths}
-use Rattle.path_walk.specs.declared.event.Event.{Event}
-use Rattle.path_walk.specs.declared.event.EventKind.{EventKind}
-use Rattle.path_walk.specs.declared.event.EventKind.TheVariants as kind
-use Rattle.path_walk.specs.declared.event.Sleep.{Sleep}
+use Rattle.sym_exec.specs.path_walk.Paths.{Paths}
+use Rattle.sym_exec.specs.path_walk.declared.event.Event.{Event}
+use Rattle.sym_exec.specs.path_walk.declared.event.EventKind.{EventKind}
+use Rattle.sym_exec.specs.path_walk.declared.event.EventKind.TheVariants as kind
+use Rattle.sym_exec.specs.path_walk.declared.event.Sleep.{Sleep}
 use Rattle.order_formula.specs.Worlds.{World, position}
 use Rattle.lawful_order.specs.Events.{Of, all_events, all_sleeps, place_of, ender_of}
 
@@ -41,12 +41,15 @@ module _ (paths : Paths) (w : World) where
 
   pub record ConditionRule (c : ℕ) : Type 0 where
     -- the event that ends a sleep comes after the sleep has begun
-    pub ends : (s g : ℕ) (x : Of Sleep) → IsSleep s x c → ender_of w s ≡ Some g → place_of paths w x.thread x.it.step < position w g
+    pub ends : (s g : ℕ) (x : Of Sleep) → IsSleep s x c → ender_of w s ≡ Some g
+        → place_of paths w x.thread x.it.step < position w g
     -- a thread wakes only after an event has ended its sleep
     pub wakes : (s k : ℕ) (x : Of Sleep) → IsSleep s x c → x.it.wake ≡ Some k
         → (g : ℕ) × (ender_of w s ≡ Some g) × (position w g < place_of paths w x.thread k)
     -- a signal ends at most one sleep, and it ends one if any sleep waits
     pub one : (s r g : ℕ) → IsSignal g c → ender_of w s ≡ Some g → ender_of w r ≡ Some g → s ≡ r
-    pub some : (s g : ℕ) (x : Of Sleep) → IsSignal g c → IsSleep s x c → Waits s x g → (r : ℕ) × (ender_of w r ≡ Some g)
+    pub some : (s g : ℕ) (x : Of Sleep) → IsSignal g c → IsSleep s x c → Waits s x g
+        → (r : ℕ) × (ender_of w r ≡ Some g)
     -- a broadcast ends every sleep that waits
-    pub each : (s g : ℕ) (x : Of Sleep) → IsBroadcast g c → IsSleep s x c → Waits s x g → ender_of w s ≡ Some g
+    pub each : (s g : ℕ) (x : Of Sleep) → IsBroadcast g c → IsSleep s x c → Waits s x g
+        → ender_of w s ≡ Some g

@@ -1,12 +1,12 @@
 -- The numbers of the paths' events and sleeps, and their positions in a world.
 use Rattle.std.specs.Prelude.{◌≡◌, ℕ, ◌+◌, ◌<◌, ◌==◌, ◌&&◌, List, [], ◌∷◌, ◌++◌, map, Option, Some, slice_get, get_or, None}
 use Rattle.std.specs.List.{Contains, position_or_len}
-use Rattle.tc_base.specs.Names.{child}
-use Rattle.path_walk.specs.Paths.{Walk, Paths}
-use Rattle.path_walk.specs.declared.event.Event.{Event}
-use Rattle.path_walk.specs.declared.event.Region.{Region}
-use Rattle.path_walk.specs.declared.event.Sleep.{Sleep}
-use Rattle.path_walk.specs.declared.event.Link.{Link}
+use Rattle.store_buffers.specs.tc_base.Names.{child}
+use Rattle.sym_exec.specs.path_walk.Paths.{Walk, Paths}
+use Rattle.sym_exec.specs.path_walk.declared.event.Event.{Event}
+use Rattle.sym_exec.specs.path_walk.declared.event.Region.{Region}
+use Rattle.sym_exec.specs.path_walk.declared.event.Sleep.{Sleep}
+use Rattle.sym_exec.specs.path_walk.declared.event.Link.{Link}
 use Rattle.order_formula.specs.Worlds.{World, position}
 
 -- an item of a thread, with the thread's index in the paths
@@ -17,7 +17,8 @@ pub record Of (X : Type 0) : Type 0 where
 -- the items of all threads, one thread after another
 abbrev pub all_from : {W X : Type 0} → (W → List X) → ℕ → List W → List (Of X)
 all_from has t [] = []
-all_from has t (w ∷ ws) = map (λ x. record { thread = t; it = x }) (has w) ++ all_from has (t + 1) ws
+all_from has t (w ∷ ws) =
+    map (λ x. record { thread = t; it = x }) (has w) ++ all_from has (t + 1) ws
 
 -- all events, and all sleeps; the index of an event or sleep is its number
 abbrev pub all_events : Paths → List (Of Event)
@@ -50,7 +51,8 @@ module _ (paths : Paths) (t : ℕ) where
 -- `thread` is the child `number` of `parent`
 abbrev pub IsChild : Paths → (parent number thread : ℕ) → Type 0
 IsChild paths t k c =
-    (p : Walk) × (q : Walk) × (slice_get paths.threads t ≡ Some p) × (slice_get paths.threads c ≡ Some q) × (q.name ≡ child p.name k)
+    (p : Walk) × (q : Walk) × (slice_get paths.threads t ≡ Some p)
+    × (slice_get paths.threads c ≡ Some q) × (q.name ≡ child p.name k)
 
 -- the position of a thread's step in a world, and that one step comes before another
 module _ (paths : Paths) (w : World) where

@@ -1,10 +1,10 @@
 -- Lawful orders of paths under a memory model: the orders of the runs that follow the paths.
 use Rattle.std.specs.Prelude.{◌≡◌, ◌⊎◌, ℕ, Bool, List, length, Some}
-use Rattle.tc_code.specs.Code.{Code}
-use Rattle.path_walk.specs.Paths.{Paths}
-use Rattle.path_walk.specs.declared.event.Sleep.{Sleep}
+use Rattle.sym_exec.specs.tc_code.Code.{Code}
+use Rattle.sym_exec.specs.path_walk.Paths.{Paths}
+use Rattle.sym_exec.specs.path_walk.declared.event.Sleep.{Sleep}
 use Rattle.store_buffers.specs.Pending.{Binding}
-use Rattle.sym_terms.specs.declared.node.Node.{Node}
+use Rattle.order_formula.specs.sym_terms.declared.node.Node.{Node}
 use Rattle.sym_exec.specs.Executed.{Symbolic}
 use Rattle.order_formula.specs.Worlds.{World}
 use Rattle.order_formula.specs.declared.group.Group.{Group}
@@ -23,9 +23,11 @@ pub record IsWorldOf (paths : Paths) (symbolic : Symbolic) (w : World) : Type 0 
   pub events : length w.positions ≡ length (all_events paths)
   pub loads : length w.loads ≡ symbolic.loads
   pub sleeps : length w.enders ≡ length (all_sleeps paths)
-  pub enders : (s g c : ℕ) (x : Of Sleep) → IsSleep paths w s x c → ender_of w s ≡ Some g → IsSignal paths w g c ⊎ IsBroadcast paths w g c
+  pub enders : (s g c : ℕ) (x : Of Sleep) → IsSleep paths w s x c → ender_of w s ≡ Some g
+      → IsSignal paths w g c ⊎ IsBroadcast paths w g c
 
-module _ (buffered : Bool) (bound : Binding) (code : Code) (paths : Paths) (symbolic : Symbolic) (nodes : List Node) (w : World) where
+module _ (buffered : Bool) (bound : Binding) (code : Code) (paths : Paths) (symbolic : Symbolic)
+    (nodes : List Node) (w : World) where
   -- the rule of a group
   abbrev pub MeetsRule : Group → Type 0
   MeetsRule (Own t) = OwnRule buffered bound paths symbolic nodes w t

@@ -1,7 +1,7 @@
 -- At most one thread holds a mutex at a time.
 use Rattle.std.specs.Prelude.{◌≡◌, ◌⊎◌, ◌≢◌, ℕ, Some}
-use Rattle.path_walk.specs.Paths.{Paths}
-use Rattle.path_walk.specs.declared.event.Region.{Region}
+use Rattle.sym_exec.specs.path_walk.Paths.{Paths}
+use Rattle.sym_exec.specs.path_walk.declared.event.Region.{Region}
 use Rattle.order_formula.specs.Worlds.{World}
 use Rattle.lawful_order.specs.Events.{HasRegion, IsBefore}
 
@@ -11,5 +11,6 @@ module _ (paths : Paths) (w : World) where
   IsLeftBefore t r u s = (k : ℕ) × (r.to ≡ Some k) × IsBefore paths w t k u s.«from»
 
   pub record MutexRule (m : ℕ) : Type 0 where
-    pub exclusive : (t u : ℕ) (r s : Region) → HasRegion paths t r → HasRegion paths u s → r.mutex ≡ m → s.mutex ≡ m
+    pub exclusive : (t u : ℕ) (r s : Region) → HasRegion paths t r → HasRegion paths u s
+        → r.mutex ≡ m → s.mutex ≡ m
         → (t ≢ u) ⊎ (r.«from» ≢ s.«from») → IsLeftBefore t r u s ⊎ IsLeftBefore u s t r

@@ -2,10 +2,10 @@
 -- own path, or the cell's initial value if there is none.
 use Rattle.std.specs.Prelude.{◌≡◌, ◌⊎◌, ℕ, ◌<◌, List, IsSome, Some, slice_get, true}
 use Rattle.std.specs.List.{Contains}
-use Rattle.tc_code.specs.Code.{Code}
-use Rattle.path_walk.specs.Paths.{Paths}
-use Rattle.path_walk.specs.declared.event.Event.{Event}
-use Rattle.sym_terms.specs.declared.node.Node.{Node}
+use Rattle.sym_exec.specs.tc_code.Code.{Code}
+use Rattle.sym_exec.specs.path_walk.Paths.{Paths}
+use Rattle.sym_exec.specs.path_walk.declared.event.Event.{Event}
+use Rattle.order_formula.specs.sym_terms.declared.node.Node.{Node}
 use Rattle.sym_exec.specs.Alone.{Asked, asked_in}
 use Rattle.sym_exec.specs.Executed.{Course, Symbolic}
 use Rattle.sym_exec.specs.declared.symbolic.Access.{Access}
@@ -14,7 +14,8 @@ use Rattle.lawful_order.specs.Cells.{is_same_cell, value_at_start}
 use Rattle.lawful_order.specs.Events.{HasEvent, IsBefore}
 
 abbrev pub HasAccess : Symbolic → ℕ → Access → Type 0
-HasAccess symbolic t a = (c : Course) × (slice_get symbolic.threads t ≡ Some c) × Contains c.accesses a
+HasAccess symbolic t a =
+    (c : Course) × (slice_get symbolic.threads t ≡ Some c) × Contains c.accesses a
 
 module _ (code : Code) (paths : Paths) (symbolic : Symbolic) (nodes : List Node) (w : World) where
   -- the values that an access takes and writes
@@ -31,7 +32,8 @@ module _ (code : Code) (paths : Paths) (symbolic : Symbolic) (nodes : List Node)
   -- a takes the value of b, the last write that it sees
   pub record TakesFrom (t : ℕ) (a : Access) (u : ℕ) (b : Access) : Type 0 where
     pub sees : Sees t a u b
-    pub last : (v : ℕ) (c : Access) → Sees t a v c → ((v ≡ u) × (c ≡ b)) ⊎ IsBefore paths w v c.step u b.step
+    pub last : (v : ℕ) (c : Access) → Sees t a v c
+        → ((v ≡ u) × (c ≡ b)) ⊎ IsBefore paths w v c.step u b.step
     pub takes : (asks a).takes ≡ (asks b).writes
 
   -- a sees no write, and takes its cell's initial value
@@ -41,5 +43,6 @@ module _ (code : Code) (paths : Paths) (symbolic : Symbolic) (nodes : List Node)
 
   -- each load of thread t at `line` takes the last write that it sees, or the initial value
   pub record ReadRule (t line : ℕ) : Type 0 where
-    pub loads : (a : Access) (x : Event) → HasAccess symbolic t a → IsSome a.takes → HasEvent paths t x → x.step ≡ a.step → x.line ≡ line
+    pub loads : (a : Access) (x : Event) → HasAccess symbolic t a → IsSome a.takes
+        → HasEvent paths t x → x.step ≡ a.step → x.line ≡ line
         → ((u : ℕ) × (b : Access) × TakesFrom t a u b) ⊎ TakesFirst t a

@@ -1,12 +1,12 @@
 -- For the log of a deadlock: at the end, no thread that hasn't exited can go on.
 use Rattle.std.specs.Prelude.{◌≡◌, ◌⊎◌, ℕ, Option, Some, None, slice_get}
-use Rattle.path_walk.specs.Paths.{Walk, Paths}
-use Rattle.path_walk.specs.declared.event.Blocked.{Blocked}
-use Rattle.path_walk.specs.declared.event.Blocked.TheVariants.{Lock, Wake, Join}
-use Rattle.path_walk.specs.declared.event.Event.{Event}
-use Rattle.path_walk.specs.declared.event.EventKind.TheVariants as kind
-use Rattle.path_walk.specs.declared.event.Region.{Region}
-use Rattle.path_walk.specs.declared.event.Sleep.{Sleep}
+use Rattle.sym_exec.specs.path_walk.Paths.{Walk, Paths}
+use Rattle.sym_exec.specs.path_walk.declared.event.Blocked.{Blocked}
+use Rattle.sym_exec.specs.path_walk.declared.event.Blocked.TheVariants.{Lock, Wake, Join}
+use Rattle.sym_exec.specs.path_walk.declared.event.Event.{Event}
+use Rattle.sym_exec.specs.path_walk.declared.event.EventKind.TheVariants as kind
+use Rattle.sym_exec.specs.path_walk.declared.event.Region.{Region}
+use Rattle.sym_exec.specs.path_walk.declared.event.Sleep.{Sleep}
 use Rattle.order_formula.specs.Worlds.{World}
 use Rattle.lawful_order.specs.Events.{Of, HasEvent, HasRegion, IsChild, all_sleeps, ender_of}
 
@@ -21,11 +21,14 @@ module _ (paths : Paths) (w : World) where
 
   -- no event ends the sleep that a thread's step begins
   abbrev pub SleepsOn : (t step : ℕ) → Type 0
-  SleepsOn t k = (s : ℕ) (x : Of Sleep) → slice_get (all_sleeps paths) s ≡ Some x → x.thread ≡ t → x.it.step ≡ k → ender_of w s ≡ None
+  SleepsOn t k =
+      (s : ℕ) (x : Of Sleep) → slice_get (all_sleeps paths) s ≡ Some x → x.thread ≡ t
+      → x.it.step ≡ k → ender_of w s ≡ None
 
   -- the child `child` of the thread t doesn't exit
   abbrev pub RunsOn : (t child : ℕ) → Type 0
-  RunsOn t k = (c : ℕ) (x : Event) → IsChild paths t k c → HasEvent paths c x → x.kind ≡ kind.Exit → ⊥
+  RunsOn t k =
+      (c : ℕ) (x : Event) → IsChild paths t k c → HasEvent paths c x → x.kind ≡ kind.Exit → ⊥
 
   abbrev pub CannotGoOn : ℕ → Blocked → Type 0
   CannotGoOn t (Lock m) = IsHeld m
@@ -34,4 +37,5 @@ module _ (paths : Paths) (w : World) where
 
   -- if the thread t is blocked at the end, it can't go on
   pub record StuckRule (t : ℕ) : Type 0 where
-    pub stuck : (q : Walk) (b : Blocked) → slice_get paths.threads t ≡ Some q → q.blocked ≡ Some b → CannotGoOn t b
+    pub stuck : (q : Walk) (b : Blocked) → slice_get paths.threads t ≡ Some q → q.blocked ≡ Some b
+        → CannotGoOn t b

@@ -4,30 +4,30 @@ use Rattle.std.proofs.Common.{◌≡◌, ◌∙◌, ℕ, ℤ, ◌<◌, Bool, not
 use Rattle.std.specs.Prelude.{◌==◌, ◌⊎◌, IsSome, slice_get, option_map}
 use Rattle.std.specs.List.{Contains}
 use Rattle.std.specs.Option.{IfSome, option_eq}
-use Rattle.tc_code.specs.Code.{Code}
-use Rattle.tc_code.specs.Step.{cell_at, is_nonzero}
-use Rattle.path_walk.specs.Paths.{Paths}
-use Rattle.path_walk.specs.declared.event.Event.{Event}
-use Rattle.store_buffers.specs.Pending.{Binding}
-use Rattle.sym_terms.specs.declared.node.Node.{Node}
-use Rattle.sym_terms.specs.Values.{value_of}
-use Rattle.sym_terms.proofs.Folds.{keep}
-use Rattle.sym_exec.specs.Alone.{Asked, asked_in, cell_by, outcome_by}
-use Rattle.sym_exec.specs.Executed.{Course, Symbolic}
-use Rattle.sym_exec.specs.declared.symbolic.Access.{Access}
-use Rattle.sym_exec.specs.declared.symbolic.Cell.{Cell}
-use Rattle.sym_exec.specs.declared.symbolic.Cell.TheVariants.{Fixed, Element}
-use Rattle.sym_exec.specs.declared.symbolic.Test.{Test}
-use Rattle.order_formula.specs.Worlds.{World}
-use Rattle.order_formula.specs.declared.group.Group.{Group}
-use Rattle.order_formula.specs.declared.group.Group.TheVariants.{Own, Child, Read, Mutex, Condition, Test as tested, Stuck}
-use Rattle.lawful_order.specs.Cells.{is_same_cell}
-use Rattle.lawful_order.specs.Lawful.{MeetsRule}
-use Rattle.lawful_order.specs.Memory.{cell_of, is_pending, is_store, may_overtake, same_cell, OwnRule}
-use Rattle.lawful_order.specs.Reads.{HasAccess, ReadRule, Sees, TakesFrom, TakesFirst}
-use Rattle.lawful_order.specs.Tests.{TestRule}
-use Rattle.order_cells.proofs.Stay.{same_stays}
-use Rattle.order_cells.specs.Terms.{AccessIsOf, CellIsOf, HaveTerms}
+use Rattle.memory_order.specs.tc_code.Code.{Code}
+use Rattle.memory_order.specs.tc_code.Step.{cell_at, is_nonzero}
+use Rattle.memory_order.specs.path_walk.Paths.{Paths}
+use Rattle.memory_order.specs.path_walk.declared.event.Event.{Event}
+use Rattle.memory_order.specs.store_buffers.Pending.{Binding}
+use Rattle.memory_order.specs.sym_terms.declared.node.Node.{Node}
+use Rattle.memory_order.specs.sym_terms.Values.{value_of}
+use Rattle.memory_order.proofs.sym_terms.Folds.{keep}
+use Rattle.memory_order.specs.sym_exec.Alone.{Asked, asked_in, cell_by, outcome_by}
+use Rattle.memory_order.specs.sym_exec.Executed.{Course, Symbolic}
+use Rattle.memory_order.specs.sym_exec.declared.symbolic.Access.{Access}
+use Rattle.memory_order.specs.sym_exec.declared.symbolic.Cell.{Cell}
+use Rattle.memory_order.specs.sym_exec.declared.symbolic.Cell.TheVariants.{Fixed, Element}
+use Rattle.memory_order.specs.sym_exec.declared.symbolic.Test.{Test}
+use Rattle.memory_order.specs.order_formula.Worlds.{World}
+use Rattle.memory_order.specs.order_formula.declared.group.Group.{Group}
+use Rattle.memory_order.specs.order_formula.declared.group.Group.TheVariants.{Own, Child, Read, Mutex, Condition, Test as tested, Stuck}
+use Rattle.memory_order.specs.lawful_order.Cells.{is_same_cell}
+use Rattle.memory_order.specs.lawful_order.Lawful.{MeetsRule}
+use Rattle.memory_order.specs.lawful_order.Memory.{cell_of, is_pending, is_store, may_overtake, same_cell, OwnRule}
+use Rattle.memory_order.specs.lawful_order.Reads.{HasAccess, ReadRule, Sees, TakesFrom, TakesFirst}
+use Rattle.memory_order.specs.lawful_order.Tests.{TestRule}
+use Rattle.memory_order.proofs.order_cells.Stay.{same_stays}
+use Rattle.memory_order.specs.order_cells.Terms.{AccessIsOf, CellIsOf, HaveTerms}
 use Rattle.memory_order.proofs.Stay.{cell_within}
 
 module _ (buffered : Bool) (bound : Binding) (code : Code) (paths : Paths) (symbolic : Symbolic) (w : World) where

@@ -4,16 +4,16 @@
 
 ghost use Rattle.std.specs.Prelude.{◌↔◌, ◌++◌, ◌<◌, ℕ, Bool, List, Some, length, slice_get, ◌≡◌};
 ghost use Rattle.std.specs.List.{Contains};
-ghost use Rattle.tc_code.specs.Code.{Code};
-ghost use Rattle.path_walk.specs.Paths.{Paths};
-ghost use Rattle.store_buffers.specs.Pending.{Binding};
-ghost use Rattle.sym_terms.specs.declared.node.Node.{Node};
-ghost use Rattle.sym_exec.specs.Executed.{Course, Symbolic};
-ghost use Rattle.sym_exec.specs.declared.symbolic.Test.{Test};
-ghost use Rattle.order_formula.specs.Worlds.{World};
-ghost use Rattle.order_formula.specs.declared.group.Group.{Group};
-ghost use Rattle.lawful_order.specs.Lawful.{MeetsRule};
-ghost use Rattle.order_cells.specs.Terms.{HaveTerms};
+ghost use Rattle.memory_order.specs.tc_code.Code.{Code};
+ghost use Rattle.memory_order.specs.path_walk.Paths.{Paths};
+ghost use Rattle.memory_order.specs.store_buffers.Pending.{Binding};
+ghost use Rattle.memory_order.specs.sym_terms.declared.node.Node.{Node};
+ghost use Rattle.memory_order.specs.sym_exec.Executed.{Course, Symbolic};
+ghost use Rattle.memory_order.specs.sym_exec.declared.symbolic.Test.{Test};
+ghost use Rattle.memory_order.specs.order_formula.Worlds.{World};
+ghost use Rattle.memory_order.specs.order_formula.declared.group.Group.{Group};
+ghost use Rattle.memory_order.specs.lawful_order.Lawful.{MeetsRule};
+ghost use Rattle.memory_order.specs.order_cells.Terms.{HaveTerms};
 
 /// If accesses and tests name only existing terms, adding terms doesn't change whether an order
 /// meets the rule of a group.

@@ -4,17 +4,17 @@ use Rattle.std.specs.FinMap as fin
 use Rattle.std.proofs.lemmas.Bool.{and_parts}
 use Rattle.std.proofs.lemmas.List.Folds.{list_any-append}
 use Rattle.std.proofs.lemmas.Option.{same_Some}
-use Rattle.list_laws.specs.Lists.{is_nil}
-use Rattle.tc_base.specs.Names.{Name, child}
-use Rattle.tc_base.specs.States.{Local}
-use Rattle.tc_base.specs.declared.request.Request.TheVariants.{Await}
-use Rattle.tc_code.specs.Code.{Code}
-use Rattle.tc_code.specs.Step.{holds}
-use Rattle.store_buffers.specs.Pending.{stores, Binding}
-use Rattle.run_laws.proofs.Owners.{owners_hold}
-use Rattle.run_history.specs.History.{Deed, Did, pending}
-use Rattle.run_history.specs.Locals.{locals_in}
-use Rattle.run_history.specs.Told.{is_exit_of, has_exited_in}
+use Rattle.run_follows.specs.list_laws.Lists.{is_nil}
+use Rattle.run_follows.specs.tc_base.Names.{Name, child}
+use Rattle.run_follows.specs.tc_base.States.{Local}
+use Rattle.run_follows.specs.tc_base.declared.request.Request.TheVariants.{Await}
+use Rattle.run_follows.specs.tc_code.Code.{Code}
+use Rattle.run_follows.specs.tc_code.Step.{holds}
+use Rattle.run_follows.specs.store_buffers.Pending.{stores, Binding}
+use Rattle.run_follows.proofs.run_laws.Owners.{owners_hold}
+use Rattle.run_follows.specs.run_history.History.{Deed, Did, pending}
+use Rattle.run_follows.specs.run_history.Locals.{locals_in}
+use Rattle.run_follows.specs.run_history.Told.{is_exit_of, has_exited_in}
 use Rattle.run_follows.specs.Machine.{Machine}
 use Rattle.run_follows.specs.Follow.{AllFollow, moves_for}
 use Rattle.least_runs.proofs.Reached.{reaches, has}

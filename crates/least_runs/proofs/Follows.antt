@@ -7,22 +7,22 @@ use Rattle.std.specs.FinSet as set
 use Rattle.std.proofs.lemmas.Bool.{false≢true, and_parts, and_from, le-ltb}
 use Rattle.std.proofs.lemmas.Option.{none-some}
 use Rattle.std.proofs.lemmas.List.Sums.{sum_by-append}
-use Rattle.store_buffers.specs.Buffers.{newest}
-use Rattle.list_laws.specs.Lists.{is_nil}
-use Rattle.tc_base.specs.Names.{Name, child}
-use Rattle.tc_base.specs.States.{Local}
-use Rattle.tc_base.specs.declared.request.Request.{Request}
-use Rattle.tc_base.specs.declared.request.Request.TheVariants.{Silent, Read, Write, Exchange, CompareExchange, Bar, Acquire, EndWait}
-use Rattle.tc_base.specs.declared.request.Request.TheVariants.{WakeOne, Start, Await, Finish}
-use Rattle.tc_code.specs.Step.{request, instr_of, drains_first}
-use Rattle.store_buffers.specs.Pending.{stores}
-use Rattle.run_laws.proofs.Names.{tells_names, same_self}
-use Rattle.run_history.specs.History.{Deed, Did, Drained, same, drains, has_drained, pending}
-use Rattle.run_history.specs.Locals.{locals_in}
-use Rattle.run_history.specs.Told.{owner_in, waiting_in, is_step_of, steps_in, failed_in}
-use Rattle.run_history.specs.pending.Deeds.{IsIssuedIn, is_bar_between, MayDrainNext}
-use Rattle.run_history.proofs.of_pending.Apart.{Named}
-use Rattle.run_history.proofs.of_pending.In.{In, in_append, in_left, in_right, in_at, in_split}
+use Rattle.run_follows.specs.store_buffers.Buffers.{newest}
+use Rattle.run_follows.specs.list_laws.Lists.{is_nil}
+use Rattle.run_follows.specs.tc_base.Names.{Name, child}
+use Rattle.run_follows.specs.tc_base.States.{Local}
+use Rattle.run_follows.specs.tc_base.declared.request.Request.{Request}
+use Rattle.run_follows.specs.tc_base.declared.request.Request.TheVariants.{Silent, Read, Write, Exchange, CompareExchange, Bar, Acquire, EndWait}
+use Rattle.run_follows.specs.tc_base.declared.request.Request.TheVariants.{WakeOne, Start, Await, Finish}
+use Rattle.run_follows.specs.tc_code.Step.{request, instr_of, drains_first}
+use Rattle.run_follows.specs.store_buffers.Pending.{stores}
+use Rattle.run_follows.proofs.run_laws.Names.{tells_names, same_self}
+use Rattle.run_follows.specs.run_history.History.{Deed, Did, Drained, same, drains, has_drained, pending}
+use Rattle.run_follows.specs.run_history.Locals.{locals_in}
+use Rattle.run_follows.specs.run_history.Told.{owner_in, waiting_in, is_step_of, steps_in, failed_in}
+use Rattle.run_follows.specs.run_history.pending.Deeds.{IsIssuedIn, is_bar_between, MayDrainNext}
+use Rattle.run_follows.proofs.run_history.of_pending.Apart.{Named}
+use Rattle.run_follows.proofs.run_history.of_pending.In.{In, in_append, in_left, in_right, in_at, in_split}
 use Rattle.run_follows.specs.Machine.{Machine}
 use Rattle.run_follows.specs.Follow.{seen_in, is_let_in, is_allowed_in, may_do_in, taken_in, OtherIs, IsNextStep, MayFollow, AllFollow}
 use Rattle.run_follows.specs.Logged.{path_by, path_told}

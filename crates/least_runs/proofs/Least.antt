@@ -3,13 +3,13 @@ use Rattle.std.proofs.Common.{◌≡◌, ◌∙◌, ◌⊎◌, inl, inr, ℕ, ze
 use Rattle.std.proofs.Common.{Option, Some, refl, sym, ap, subst, arith, append-nil, append_assoc}
 use Rattle.std.proofs.lemmas.Bool.{false≢true, and_parts, eqb-true}
 use Rattle.std.proofs.lemmas.List.{length-append}
-use Rattle.tc_base.specs.Names.{Name}
-use Rattle.tc_base.specs.declared.request.Request.{Request}
-use Rattle.tc_code.specs.Code.{Code}
-use Rattle.store_buffers.specs.helpers.Lists.{not_nil}
-use Rattle.run_laws.proofs.Names.{same_self}
-use Rattle.run_history.specs.History.{Deed, Did, Drained, same}
-use Rattle.run_history.specs.Told.{steps_in, failed_in}
+use Rattle.run_follows.specs.tc_base.Names.{Name}
+use Rattle.run_follows.specs.tc_base.declared.request.Request.{Request}
+use Rattle.run_follows.specs.tc_code.Code.{Code}
+use Rattle.run_follows.specs.store_buffers.helpers.Lists.{not_nil}
+use Rattle.run_follows.proofs.run_laws.Names.{same_self}
+use Rattle.run_follows.specs.run_history.History.{Deed, Did, Drained, same}
+use Rattle.run_follows.specs.run_history.Told.{steps_in, failed_in}
 use Rattle.run_follows.specs.Machine.{Machine}
 use Rattle.run_follows.specs.Follow.{AllFollow}
 use Rattle.run_follows.specs.Logged.{path_told}

@@ -5,19 +5,19 @@ use Rattle.std.specs.Option.{option_map_or}
 use Rattle.std.specs.FinMap as fin
 use Rattle.std.proofs.lemmas.Cmp.{nat_list_cmp_total}
 use Rattle.std.proofs.lemmas.List.Sums.{fold-append}
-use Rattle.tc_base.specs.Names.{Name, ByName, child}
-use Rattle.tc_base.specs.States.{Local}
-use Rattle.tc_base.specs.declared.request.Request.{Request}
-use Rattle.tc_base.specs.declared.request.Request.TheVariants.{Silent, Start}
-use Rattle.tc_code.specs.Code.{Code}
-use Rattle.tc_code.specs.Step.{instr_of}
-use Rattle.tc_code.specs.declared.instr.Instr.{Instr}
-use Rattle.run_laws.proofs.Names.{get_put_apart}
-use Rattle.run_history.specs.History.{Deed, Did, Drained, same}
-use Rattle.run_history.specs.Locals.{after_step, with_child, after_deed, locals_in}
-use Rattle.run_history.specs.Told.{children_in}
-use Rattle.run_history.proofs.Threads.{children_are}
-use Rattle.run_history.proofs.of_pending.In.{In}
+use Rattle.run_follows.specs.tc_base.Names.{Name, ByName, child}
+use Rattle.run_follows.specs.tc_base.States.{Local}
+use Rattle.run_follows.specs.tc_base.declared.request.Request.{Request}
+use Rattle.run_follows.specs.tc_base.declared.request.Request.TheVariants.{Silent, Start}
+use Rattle.run_follows.specs.tc_code.Code.{Code}
+use Rattle.run_follows.specs.tc_code.Step.{instr_of}
+use Rattle.run_follows.specs.tc_code.declared.instr.Instr.{Instr}
+use Rattle.run_follows.proofs.run_laws.Names.{get_put_apart}
+use Rattle.run_follows.specs.run_history.History.{Deed, Did, Drained, same}
+use Rattle.run_follows.specs.run_history.Locals.{after_step, with_child, after_deed, locals_in}
+use Rattle.run_follows.specs.run_history.Told.{children_in}
+use Rattle.run_follows.proofs.run_history.Threads.{children_are}
+use Rattle.run_follows.proofs.run_history.of_pending.In.{In}
 use Rattle.run_follows.specs.Machine.{Machine}
 use Rattle.run_follows.specs.Follow.{AllFollow}
 use Rattle.least_runs.proofs.Reached.{reaches, has}

@@ -8,25 +8,25 @@ use Rattle.std.specs.FinMap as fin
 use Rattle.std.proofs.lemmas.List.{same_from_push}
 use Rattle.std.proofs.lemmas.List.Sums.{fold-append, sum_by-append}
 use Rattle.std.proofs.lemmas.Option.{none-some, same_Some}
-use Rattle.tc_base.specs.Paths.{Path}
-use Rattle.tc_base.specs.Names.{Name, ByName, child}
-use Rattle.tc_base.specs.States.{Local, Thread}
-use Rattle.tc_base.specs.declared.request.Request.{Request}
-use Rattle.tc_base.specs.declared.request.Request.TheVariants.{Silent, WakeOne, Start, Fail}
-use Rattle.tc_code.specs.Code.{Code}
-use Rattle.tc_code.specs.Step.{request, instr_of, local_after}
-use Rattle.tc_code.specs.declared.instr.Instr.{Instr}
-use Rattle.tc_code.specs.declared.instr.Instr.TheVariants.{Branch, Exit}
-use Rattle.run_laws.proofs.After.{branch_is}
-use Rattle.run_laws.proofs.Basics.{none_unless}
-use Rattle.run_laws.proofs.Created.{reached_is_created}
-use Rattle.run_laws.proofs.Names.{same_or_apart, get_put, get_put_apart, child_apart, child_not_main}
-use Rattle.run_history.specs.History.{Deed, Did, Drained}
-use Rattle.run_history.specs.Locals.{after_step, with_child, after_deed, locals_in}
-use Rattle.run_history.specs.Told.{is_step_of, steps_in, is_start_of, children_in, fails, failed_in}
-use Rattle.run_history.proofs.Last.{is_last}
-use Rattle.run_history.proofs.Threads.{children_are, none_done}
-use Rattle.run_history.proofs.of_pending.In.{In, in_at}
+use Rattle.run_follows.specs.tc_base.Paths.{Path}
+use Rattle.run_follows.specs.tc_base.Names.{Name, ByName, child}
+use Rattle.run_follows.specs.tc_base.States.{Local, Thread}
+use Rattle.run_follows.specs.tc_base.declared.request.Request.{Request}
+use Rattle.run_follows.specs.tc_base.declared.request.Request.TheVariants.{Silent, WakeOne, Start, Fail}
+use Rattle.run_follows.specs.tc_code.Code.{Code}
+use Rattle.run_follows.specs.tc_code.Step.{request, instr_of, local_after}
+use Rattle.run_follows.specs.tc_code.declared.instr.Instr.{Instr}
+use Rattle.run_follows.specs.tc_code.declared.instr.Instr.TheVariants.{Branch, Exit}
+use Rattle.run_follows.proofs.run_laws.After.{branch_is}
+use Rattle.run_follows.proofs.run_laws.Basics.{none_unless}
+use Rattle.run_follows.proofs.run_laws.Created.{reached_is_created}
+use Rattle.run_follows.proofs.run_laws.Names.{same_or_apart, get_put, get_put_apart, child_apart, child_not_main}
+use Rattle.run_follows.specs.run_history.History.{Deed, Did, Drained}
+use Rattle.run_follows.specs.run_history.Locals.{after_step, with_child, after_deed, locals_in}
+use Rattle.run_follows.specs.run_history.Told.{is_step_of, steps_in, is_start_of, children_in, fails, failed_in}
+use Rattle.run_follows.proofs.run_history.Last.{is_last}
+use Rattle.run_follows.proofs.run_history.Threads.{children_are, none_done}
+use Rattle.run_follows.proofs.run_history.of_pending.In.{In, in_at}
 use Rattle.run_follows.specs.Machine.{Machine}
 use Rattle.run_follows.specs.Follow.{AllFollow, OtherIs, moves_for}
 use Rattle.run_follows.specs.Logged.{path_by, path_told}

@@ -9,16 +9,16 @@ use Rattle.std.proofs.lemmas.List.Elements.{filter_map-append}
 use Rattle.std.proofs.lemmas.List.Folds.{list_any-append}
 use Rattle.std.proofs.lemmas.List.Sums.{sum_by-append}
 use Rattle.std.proofs.lemmas.Option.{none-some, same_Some}
-use Rattle.tc_base.specs.Names.{Name, main}
-use Rattle.tc_base.specs.States.{Local, Thread, State}
-use Rattle.tc_code.specs.Run.{run, run_from}
-use Rattle.tc_code.proofs.Facts.{run_from-append}
-use Rattle.run_laws.specs.Alone.{after_steps, taken_from}
-use Rattle.run_laws.proofs.GoesAlone.{threads_go_alone}
-use Rattle.run_history.specs.History.{Deed, same}
-use Rattle.run_history.specs.Locals.{locals_in}
-use Rattle.run_history.specs.Told.{creates, is_thread_in, is_step_of, steps_in}
-use Rattle.run_history.proofs.Threads.{number_is}
+use Rattle.run_follows.specs.tc_base.Names.{Name, main}
+use Rattle.run_follows.specs.tc_base.States.{Local, Thread, State}
+use Rattle.run_follows.specs.tc_code.Run.{run, run_from}
+use Rattle.run_follows.proofs.tc_code.Facts.{run_from-append}
+use Rattle.run_follows.specs.run_laws.Alone.{after_steps, taken_from}
+use Rattle.run_follows.proofs.run_laws.GoesAlone.{threads_go_alone}
+use Rattle.run_follows.specs.run_history.History.{Deed, same}
+use Rattle.run_follows.specs.run_history.Locals.{locals_in}
+use Rattle.run_follows.specs.run_history.Told.{creates, is_thread_in, is_step_of, steps_in}
+use Rattle.run_follows.proofs.run_history.Threads.{number_is}
 use Rattle.run_follows.specs.Machine.{Machine}
 use Rattle.run_follows.specs.Follow.{AllFollow, move_for, moves_for}
 use Rattle.run_follows.proofs.Enabled.{Tells, told}

@@ -2,7 +2,7 @@
 use Rattle.std.proofs.Common.{◌≡◌, ◌∙◌, ◌⊎◌, inl, inr, ◌+◌, Bool, false, ◌||◌, cond, arith, List, [], ◌∷◌, ◌++◌, Option, Some, None, refl, sym, ap}
 use Rattle.std.specs.Prelude.{fold, unwrap_or}
 use Rattle.std.specs.List.{filter_map, cons_option, list_any, last_or, count_by}
-use Rattle.run_history.proofs.Lists.{last_or-push}
+use Rattle.run_follows.proofs.run_history.Lists.{last_or-push}
 
 -- without an element that gives nothing, a filtered map is the same
 pub skip_map : {X Y : Type 0} (f : X → Option Y) (xs : List X) (x : X) (ys : List X) → f x ≡ None → filter_map f (xs ++ x ∷ ys) ≡ filter_map f (xs ++ ys)

@@ -6,17 +6,17 @@ use Rattle.std.specs.List.{filter_map, cons_option, last_or}
 use Rattle.std.proofs.Math.Bool.{and-false}
 use Rattle.std.proofs.lemmas.Bool.{false≢true}
 use Rattle.std.proofs.lemmas.List.Elements.{filter_map-append, filter_agree}
-use Rattle.tc_base.specs.Names.{Name}
-use Rattle.store_buffers.specs.Buffers.{newest}
-use Rattle.tc_base.specs.declared.request.Request.{Request}
-use Rattle.tc_base.specs.declared.request.Request.TheVariants.{Silent, Write, Exchange, CompareExchange, Bar, Acquire, Release, BeginWait, EndWait}
-use Rattle.tc_base.specs.declared.request.Request.TheVariants.{WakeOne, WakeAll, Start, Finish, Fail}
-use Rattle.tc_code.specs.Code.{Code}
-use Rattle.tc_code.specs.Step.{NameSet}
-use Rattle.run_laws.proofs.Names.{same_other}
-use Rattle.run_history.specs.History.{Deed, Did, same, issue_of, drains, has_drained, pending}
-use Rattle.run_history.specs.Told.{reaches, value_in, owner_by, owner_in, waiting_after, waiting_in, is_step_of, steps_in, is_start_of, children_in}
-use Rattle.run_history.specs.Told.{is_exit_of, has_exited_in, fails, failed_in}
+use Rattle.run_follows.specs.tc_base.Names.{Name}
+use Rattle.run_follows.specs.store_buffers.Buffers.{newest}
+use Rattle.run_follows.specs.tc_base.declared.request.Request.{Request}
+use Rattle.run_follows.specs.tc_base.declared.request.Request.TheVariants.{Silent, Write, Exchange, CompareExchange, Bar, Acquire, Release, BeginWait, EndWait}
+use Rattle.run_follows.specs.tc_base.declared.request.Request.TheVariants.{WakeOne, WakeAll, Start, Finish, Fail}
+use Rattle.run_follows.specs.tc_code.Code.{Code}
+use Rattle.run_follows.specs.tc_code.Step.{NameSet}
+use Rattle.run_follows.proofs.run_laws.Names.{same_other}
+use Rattle.run_follows.specs.run_history.History.{Deed, Did, same, issue_of, drains, has_drained, pending}
+use Rattle.run_follows.specs.run_history.Told.{reaches, value_in, owner_by, owner_in, waiting_after, waiting_in, is_step_of, steps_in, is_start_of, children_in}
+use Rattle.run_follows.specs.run_history.Told.{is_exit_of, has_exited_in, fails, failed_in}
 use Rattle.least_runs.proofs.Used.{IsUnused}
 use Rattle.least_runs.proofs.Skips.{skip_map, skip_any, skip_count, skip_fold, last_of_skips}
 

@@ -4,14 +4,14 @@ use Rattle.std.specs.Option.{option_map_or}
 use Rattle.std.specs.List.{list_any}
 use Rattle.std.proofs.lemmas.Bool.{false≢true, eqb-true}
 use Rattle.std.proofs.lemmas.Option.{none-some, same_Some}
-use Rattle.tc_base.specs.Names.{Name, child}
-use Rattle.tc_base.specs.declared.request.Request.{Request}
-use Rattle.tc_base.specs.declared.request.Request.TheVariants.{Silent, Read, Write, Exchange, CompareExchange, Bar, Acquire, Release, BeginWait, EndWait}
-use Rattle.tc_base.specs.declared.request.Request.TheVariants.{WakeOne, WakeAll, Start, Await, OrderStores, Finish, Fail}
-use Rattle.run_laws.proofs.Names.{same_self}
-use Rattle.run_history.specs.History.{Deed, Did}
-use Rattle.run_history.specs.Told.{steps_in}
-use Rattle.run_history.proofs.of_pending.In.{In, in_at, in_any}
+use Rattle.run_follows.specs.tc_base.Names.{Name, child}
+use Rattle.run_follows.specs.tc_base.declared.request.Request.{Request}
+use Rattle.run_follows.specs.tc_base.declared.request.Request.TheVariants.{Silent, Read, Write, Exchange, CompareExchange, Bar, Acquire, Release, BeginWait, EndWait}
+use Rattle.run_follows.specs.tc_base.declared.request.Request.TheVariants.{WakeOne, WakeAll, Start, Await, OrderStores, Finish, Fail}
+use Rattle.run_follows.proofs.run_laws.Names.{same_self}
+use Rattle.run_follows.specs.run_history.History.{Deed, Did}
+use Rattle.run_follows.specs.run_history.Told.{steps_in}
+use Rattle.run_follows.proofs.run_history.of_pending.In.{In, in_at, in_any}
 use Rattle.least_runs.specs.Unused.{is_await_of, is_unused}
 
 -- no thread joins this one

@@ -2,12 +2,12 @@
 use Rattle.std.specs.Prelude.{◌==◌, Bool, true, false, not, ◌&&◌, Option, List}
 use Rattle.std.specs.List.{list_any}
 use Rattle.std.specs.Option.{option_map_or}
-use Rattle.tc_base.specs.Names.{Name, child}
-use Rattle.tc_base.specs.declared.request.Request.{Request}
-use Rattle.tc_base.specs.declared.request.Request.TheVariants.{Silent, Read, Bar, Acquire, EndWait}
-use Rattle.tc_base.specs.declared.request.Request.TheVariants.{Start, Await, OrderStores, Finish}
-use Rattle.run_history.specs.History.{Deed, Did, Drained, same}
-use Rattle.run_history.specs.Told.{steps_in}
+use Rattle.run_follows.specs.tc_base.Names.{Name, child}
+use Rattle.run_follows.specs.tc_base.declared.request.Request.{Request}
+use Rattle.run_follows.specs.tc_base.declared.request.Request.TheVariants.{Silent, Read, Bar, Acquire, EndWait}
+use Rattle.run_follows.specs.tc_base.declared.request.Request.TheVariants.{Start, Await, OrderStores, Finish}
+use Rattle.run_follows.specs.run_history.History.{Deed, Did, Drained, same}
+use Rattle.run_follows.specs.run_history.Told.{steps_in}
 
 -- whether a deed is a join of this thread
 abbrev pub is_await_of : Name → Deed → Bool

@@ -6,16 +6,16 @@
 
 ghost use Rattle.std.specs.Prelude.{◌≡◌, ◌≢◌, ℕ, ℤ, Bool, true, List, ◌∷◌, ◌++◌, Option, Some};
 ghost use Rattle.std.specs.FinMap as fin;
-ghost use Rattle.tc_base.specs.Names.{Name, child};
-ghost use Rattle.tc_base.specs.States.{Local};
-ghost use Rattle.tc_base.specs.declared.request.Request.{Request};
-ghost use Rattle.tc_base.specs.declared.request.Request.TheVariants.{Await};
-ghost use Rattle.tc_code.specs.Code.{Code};
-ghost use Rattle.tc_code.specs.Step.{holds};
-ghost use Rattle.store_buffers.specs.Pending.{Binding};
-ghost use Rattle.run_history.specs.History.{Deed, Did};
-ghost use Rattle.run_history.specs.Locals.{locals_in};
-ghost use Rattle.run_history.specs.Told.{steps_in, has_exited_in, failed_in};
+ghost use Rattle.run_follows.specs.tc_base.Names.{Name, child};
+ghost use Rattle.run_follows.specs.tc_base.States.{Local};
+ghost use Rattle.run_follows.specs.tc_base.declared.request.Request.{Request};
+ghost use Rattle.run_follows.specs.tc_base.declared.request.Request.TheVariants.{Await};
+ghost use Rattle.run_follows.specs.tc_code.Code.{Code};
+ghost use Rattle.run_follows.specs.tc_code.Step.{holds};
+ghost use Rattle.run_follows.specs.store_buffers.Pending.{Binding};
+ghost use Rattle.run_follows.specs.run_history.History.{Deed, Did};
+ghost use Rattle.run_follows.specs.run_history.Locals.{locals_in};
+ghost use Rattle.run_follows.specs.run_history.Told.{steps_in, has_exited_in, failed_in};
 ghost use Rattle.run_follows.specs.Machine.{Machine};
 ghost use Rattle.run_follows.specs.Follow.{AllFollow};
 ghost use Rattle.run_follows.specs.Logged.{path_told};

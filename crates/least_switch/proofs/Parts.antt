@@ -7,7 +7,7 @@ use Rattle.std.proofs.lemmas.List.FromFn.{map-range_with_len_more}
 use Rattle.std.specs.Prelude.{if◌then◌else◌}
 use Rattle.std.specs.List.{range_with_len}
 use Rattle.run_log.specs.Logs.{Log}
-use Rattle.tc_limits.specs.declared.limits.TheConstants.{EVENTS, STEPS}
+use Rattle.schedule_file.specs.tc_limits.declared.limits.TheConstants.{EVENTS, STEPS}
 use Rattle.tc_code.specs.Code.{Code}
 use Rattle.tc_code.specs.Lawful.{IsLawful}
 use Rattle.store_buffers.specs.Pending.{Binding}
@@ -17,7 +17,7 @@ use Rattle.sym_exec.specs.Executed.{Symbolic}
 use Rattle.order_formula.specs.Orders.{ConjunctIsIn, Order}
 use Rattle.order_formula.specs.declared.formula.Conjunct.{Conjunct}
 use Rattle.std.specs.List.{All}
-use Rattle.lawful_order.specs.Events.{all_events}
+use Rattle.order_events.specs.lawful_order.Events.{all_events}
 use Rattle.cnf_core.specs.Clauses.{Formula}
 use Rattle.cnf_core.specs.declared.cnf.TheConstants.{LIMIT}
 use Rattle.bit_order.specs.Comparators.{pairs_among}

@@ -2,9 +2,9 @@
 use Rattle.std.proofs.Common.{◌≡◌, ◌∙◌, ℕ, ◌<◌, ◌≤◌, Bool, false, List, [], sym, ap, subst, arith}
 use Rattle.std.specs.Prelude.{IsTrue, if◌then◌else◌}
 use Rattle.std.specs.List.{All}
-use Rattle.tc_base.specs.Buffers.{BufferOps}
+use Rattle.run_log.specs.tc_base.Buffers.{BufferOps}
 use Rattle.run_log.specs.Logs.{Log}
-use Rattle.memory_models.specs.declared.model.Model.{Model}
+use Rattle.run_log.specs.memory_models.declared.model.Model.{Model}
 use Rattle.tc_code.specs.Code.{Code}
 use Rattle.tc_code.specs.Lawful.{IsLawful}
 use Rattle.store_buffers.specs.Laws.{Laws}
@@ -18,16 +18,16 @@ use Rattle.bit_order.proofs.Meaning.{values-say-worlds}
 use Rattle.bit_blast.specs.Blasted.{impossible}
 use Rattle.bit_blast.specs.Contended.{contended}
 use Rattle.bit_blast.proofs.Completed.{completed_events}
-use Rattle.path_laws.specs.Setting.{setting_of}
-use Rattle.world_plan.specs.Going.{IsLawfulWorld}
+use Rattle.schedule_decode.specs.path_laws.Setting.{setting_of}
+use Rattle.schedule_decode.specs.world_plan.Going.{IsLawfulWorld}
 use Rattle.schedule_decode.specs.Decodable.{IsDecodable}
 use Rattle.clap_system.specs.Systems.{system_of}
-use Rattle.orders_are_runs.proofs.Systems.{grows, possible_is_lawful}
+use Rattle.clap_solve.proofs.orders_are_runs.Systems.{grows, possible_is_lawful}
 use Rattle.clap_solve.specs.Clauses.{blasted_by}
 use Rattle.clap_solve.specs.Posed.{IsGiven, Posed, posed_of}
 use Rattle.clap_solve.specs.Solved.{IsWithin}
 use Rattle.clap_solve.proofs.Meaning as solve
-use Rattle.switch_runs.specs.Worlds.{world_switches}
+use Rattle.switch_clauses.specs.switch_runs.Worlds.{world_switches}
 use Rattle.switch_clauses.proofs.Meaning.{IsSaid, ready, says}
 use Rattle.least_switch.specs.declared.bounded.Bounded.{Bounded}
 use Rattle.least_switch.specs.helpers.Bounded.{IsBounded}

@@ -1,15 +1,15 @@
 -- The result of a search is an answer about the log.
 use Rattle.std.proofs.Common.{◌≡◌, ◌∙◌, ℕ, zero, suc, ◌-◌, ◌<◌, ◌≤◌, Bool, true, false, List, Some, None, ap, subst, sym, arith}
 use Rattle.std.specs.List.{All}
-use Rattle.tc_base.specs.Buffers.{BufferOps}
+use Rattle.run_log.specs.tc_base.Buffers.{BufferOps}
 use Rattle.run_log.specs.Logs.{Log}
-use Rattle.memory_models.specs.declared.model.Model.{Model}
-use Rattle.tc_base.specs.declared.moves.Move.{Move}
+use Rattle.run_log.specs.memory_models.declared.model.Model.{Model}
+use Rattle.run_log.specs.tc_base.declared.moves.Move.{Move}
 use Rattle.tc_code.specs.Code.{Code}
 use Rattle.tc_code.specs.Run.{Reproduces}
 use Rattle.store_buffers.specs.Laws.{Laws}
 use Rattle.store_buffers.specs.Pending.{Binding}
-use Rattle.run_follows.specs.Follow.{moves_for}
+use Rattle.schedule_decode.specs.run_follows.Follow.{moves_for}
 use Rattle.run_log.specs.Logs.{is_log}
 use Rattle.path_walk.specs.Fits.{Fits}
 use Rattle.path_walk.specs.Paths.{Paths, paths_of}
@@ -17,8 +17,8 @@ use Rattle.schedule_file.specs.declared.schedule.Schedule.{Schedule}
 use Rattle.sym_terms.specs.declared.node.Node.{Node}
 use Rattle.sym_exec.specs.Executed.{Symbolic}
 use Rattle.order_formula.specs.Worlds.{World}
-use Rattle.path_laws.specs.Setting.{setting_of}
-use Rattle.world_plan.specs.Plan.{plan}
+use Rattle.schedule_decode.specs.path_laws.Setting.{setting_of}
+use Rattle.schedule_decode.specs.world_plan.Plan.{plan}
 use Rattle.refute_check.specs.Refutations.{IsClosed}
 use Rattle.refute_check.specs.declared.line.Line.{Line}
 use Rattle.cnf_core.specs.Clauses.{Formula}
@@ -29,9 +29,9 @@ use Rattle.schedule_decode.specs.Decodable.{IsDecodable}
 use Rattle.clap_solve.specs.Clauses.{clauses_of}
 use Rattle.clap_solve.specs.Posed.{IsGiven, Posed, posed_of}
 use Rattle.clap_solve.proofs.Meaning.{closed_is_impossible}
-use Rattle.switch_runs.specs.Switches.{switches}
-use Rattle.switch_runs.specs.Worlds.{world_switches}
-use Rattle.switch_runs.proofs.Laws as of_runs
+use Rattle.switch_clauses.specs.switch_runs.Switches.{switches}
+use Rattle.switch_clauses.specs.switch_runs.Worlds.{world_switches}
+use Rattle.switch_clauses.proofs.switch_runs.Laws as of_runs
 use Rattle.switch_clauses.specs.Clauses.{switch_clauses}
 use Rattle.switch_clauses.proofs.Meaning.{closed_is_more}
 use Rattle.least_switch.specs.Least.{HasSwitches, IsLeast}

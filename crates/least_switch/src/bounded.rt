@@ -1,10 +1,10 @@
 //! The clauses of a log with a bound on context switches.
 ghost use Rattle.std.specs.Prelude.{◌≡◌, ◌≤◌, ◌<◌, false, length, IfOk, IfErr, OnOk};
 ghost use Rattle.std.specs.List.{All};
-ghost use Rattle.tc_limits.specs.declared.limits.TheConstants.{EVENTS};
+ghost use Rattle.schedule_file.specs.tc_limits.declared.limits.TheConstants.{EVENTS};
 ghost use Rattle.order_formula.specs.Formulas.{IsOf};
 ghost use Rattle.order_formula.specs.Orders.{ConjunctIsIn};
-ghost use Rattle.lawful_order.specs.Events.{all_events};
+ghost use Rattle.order_events.specs.lawful_order.Events.{all_events};
 ghost use Rattle.clap_system.specs.Faults.{IsBuildFault};
 ghost use Rattle.least_switch.specs.helpers.Bounded.{IsBounded};
 ghost use Rattle.least_switch.specs.helpers.Levels.{AreBounded, IsAskable};

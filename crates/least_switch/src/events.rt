@@ -1,10 +1,10 @@
 //! The data for counting switches: the thread of each event, and the failing event.
 ghost use Rattle.std.specs.Prelude.{◌≡◌, ◌==◌, ◌&&◌, ◌<◌, ◌≤◌, All, IfOk, length, option_map};
 ghost use Rattle.std.specs.List.{find, position_or_len};
-ghost use Rattle.tc_limits.specs.declared.limits.TheConstants.{EVENTS};
-ghost use Rattle.lawful_order.specs.Events.{all_events};
-ghost use Rattle.world_plan.specs.Plan.{is_failure};
-ghost use Rattle.switch_runs.specs.Worlds.{failing_of, threads_of, world_switches};
+ghost use Rattle.schedule_file.specs.tc_limits.declared.limits.TheConstants.{EVENTS};
+ghost use Rattle.order_events.specs.lawful_order.Events.{all_events};
+ghost use Rattle.schedule_decode.specs.world_plan.Plan.{is_failure};
+ghost use Rattle.switch_clauses.specs.switch_runs.Worlds.{failing_of, threads_of, world_switches};
 
 use order_events::{Events, Placed};
 use order_formula::World;

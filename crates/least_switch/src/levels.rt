@@ -1,14 +1,14 @@
 //! The clauses of a formula with a bound on context switches.
 ghost use Rattle.std.specs.Prelude.{◌≡◌, ◌+◌, ◌≤◌, ◌<◌, IfOk, length};
 ghost use Rattle.std.specs.List.{All, range_with_len};
-ghost use Rattle.tc_limits.specs.declared.limits.TheConstants.{EVENTS};
+ghost use Rattle.schedule_file.specs.tc_limits.declared.limits.TheConstants.{EVENTS};
 ghost use Rattle.cnf_core.specs.declared.cnf.TheConstants.{LIMIT};
 ghost use Rattle.order_formula.specs.Formulas.{IsOf};
 ghost use Rattle.order_formula.specs.Orders.{ConjunctIsIn, IsOrder};
-ghost use Rattle.lawful_order.specs.Events.{all_events};
+ghost use Rattle.order_events.specs.lawful_order.Events.{all_events};
 ghost use Rattle.bit_blast.specs.Blasted.{blast};
 ghost use Rattle.bit_blast.specs.Sizes.{whole_size};
-ghost use Rattle.bit_gates.specs.Folded.{HasRoom};
+ghost use Rattle.bit_order.specs.bit_gates.Folded.{HasRoom};
 ghost use Rattle.switch_order.specs.Sizes.{size_of};
 ghost use Rattle.switch_clauses.specs.Clauses.{asked_of_all};
 ghost use Rattle.least_switch.specs.helpers.Levels.{AreLevelled, StandsOnOrder};

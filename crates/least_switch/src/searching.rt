@@ -1,6 +1,6 @@
 //! Repeated searches, each for fewer context switches.
 ghost use Rattle.std.specs.Prelude.{◌≡◌, ◌≤◌, IfOk, IfErr};
-ghost use Rattle.tc_limits.specs.declared.limits.TheConstants.{BUDGET};
+ghost use Rattle.schedule_file.specs.tc_limits.declared.limits.TheConstants.{BUDGET};
 ghost use Rattle.clap_system.specs.Faults.{IsBuildFault};
 ghost use Rattle.clap_solve.specs.Posed.{IsGiven};
 ghost use Rattle.least_switch.specs.Least.{IsLeast};

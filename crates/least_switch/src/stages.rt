@@ -1,7 +1,7 @@
 //! One search: for any schedule of a log, or for one with a bound on context switches.
 ghost use Rattle.std.specs.Prelude.{◌≤◌, IfOk, IfErr, length};
-ghost use Rattle.tc_limits.specs.declared.limits.TheConstants.{BUDGET, EVENTS};
-ghost use Rattle.lawful_order.specs.Events.{all_events};
+ghost use Rattle.schedule_file.specs.tc_limits.declared.limits.TheConstants.{BUDGET, EVENTS};
+ghost use Rattle.order_events.specs.lawful_order.Events.{all_events};
 ghost use Rattle.cdcl_core.specs.Solving.{Solves};
 ghost use Rattle.clap_system.specs.Faults.{IsBuildFault};
 ghost use Rattle.clap_solve.specs.Posed.{IsGiven};

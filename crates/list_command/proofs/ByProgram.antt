@@ -5,8 +5,8 @@ use Rattle.tc_code.specs.Listing.{listing_of}
 use Rattle.tc_compile.specs.Programs.{IsCodeOf, IsRefusal}
 use Rattle.tc_compile.proofs.OnePrograms.{one_code, one_refusal, refused_no_code}
 use Rattle.tc_io.specs.Outside.{Files, SinkTells, Wrote, bytes_at}
-use Rattle.tc_limits.specs.declared.limits.TheConstants.{PROGRAM_BYTES}
-use Rattle.tc_parser.specs.declared.fault.TextFault.{TextFault}
+use Rattle.tc_code.specs.tc_limits.declared.limits.TheConstants.{PROGRAM_BYTES}
+use Rattle.tc_compile.specs.tc_parser.declared.fault.TextFault.{TextFault}
 use Rattle.command_frame.specs.Answers.{IsFaultStatus, limit_line, number_of}
 use Rattle.command_frame.specs.ByStatus.{Decides}
 use Rattle.command_frame.specs.Inputs.{IsTooLong, Limit, Whole}

@@ -1,5 +1,4 @@
 //! The command.
-ghost use Rattle.std.specs.Prelude.{◌≡◌};
 ghost use Rattle.list_command.specs.Listing.{list_of};
 
 use command_frame::{Command, Keep, Status, Work};
@@ -9,20 +8,9 @@ use tc_code::{Code, listing};
 use tc_compile::{CompileFault, compile};
 
 /// Lists the code of a program.
-#[derive(Drop)]
+#[derive(Clone, Copy)]
 pub struct List<'a> {
     pub program: ProgramFile<'a>,
-}
-
-impl<'a> List<'a> {
-    /// Of the program of this name.
-    pub fn new(name: &'a str) -> List<'a>
-        ensures { result.program.name.now ≡ name.entry.now }
-    {
-        List {
-            program: ProgramFile { name },
-        }
-    }
 }
 
 impl<'a> Command for List<'a> {

@@ -14,11 +14,11 @@ use command_frame::run;
 use std::alloc::Global;
 use tc_io::{Shelf, Sink};
 
-/// Lists the code of the program of this name.
-pub fn list<H: Shelf, K: Sink>(alloc: Global, program: &str, shelf: &mut H, sink: &mut K) -> u8
-    ensures runs { Runs (list_of program.now) (H.tells shelf.old) (H.tells shelf.new) result (K.tells sink.old) (K.tells sink.new) }
-    ensures answers { IfSome (H.tells shelf.old).held (λ files. ListAnswers (bytes_at files program.now) result (K.tells sink.old) (K.tells sink.new)) }
+/// Lists the code of a program.
+pub fn list<H: Shelf, K: Sink>(alloc: Global, list: &List<'_>, shelf: &mut H, sink: &mut K) -> u8
+    ensures runs { Runs (list_of list.now.program.name.now) (H.tells shelf.old) (H.tells shelf.new) result (K.tells sink.old) (K.tells sink.new) }
+    ensures answers { IfSome (H.tells shelf.old).held (λ files. ListAnswers (bytes_at files list.now.program.name.now) result
+        (K.tells sink.old) (K.tells sink.new)) }
 {
-    let list = List::new(program);
-    run(alloc, &list, shelf, sink)
+    run(alloc, list, shelf, sink)
 }

@@ -5,7 +5,7 @@ use Rattle.std.proofs.lemmas.List.{length-append}
 use Rattle.tc_code.specs.Code.{Code, instr_at}
 use Rattle.tc_code.specs.declared.instr.Instr.{Instr}
 use Rattle.tc_code.specs.declared.instr.Instr.TheVariants.{Create}
-use Rattle.path_walk.specs.Steps.{Onward, onward}
+use Rattle.thread_paths.specs.path_walk.Steps.{Onward, onward}
 use Rattle.log_walk.specs.Told.{Told, told_by, told_from}
 
 -- a step adds at most one child

@@ -26,7 +26,8 @@ is_deep t = nat_lt DEPTH (length t.name)
 -- threads are left out, and the report says why: one has too many outcomes, more steps than a log
 -- holds or too long a name, or there are more threads than there is room for
 pub data IsLeftOut (most room : ℕ) (out : LeftOut) (ts : List ThreadPath) : Type 0 where
-  Outcomes : out.outcomes ≡ true → list_any (has_many_outcomes most) ts ≡ true → IsLeftOut most room out ts
+  Outcomes : out.outcomes ≡ true → list_any (has_many_outcomes most) ts ≡ true
+      → IsLeftOut most room out ts
   Steps : out.steps ≡ true → list_any has_many_steps ts ≡ true → IsLeftOut most room out ts
   Depth : out.depth ≡ true → list_any is_deep ts ≡ true → IsLeftOut most room out ts
   Threads : out.threads ≡ true → room < length ts → IsLeftOut most room out ts
@@ -49,8 +50,10 @@ AreNotAfter None us = ⊥
 AreNotAfter (Some ts) us = are_from ts us ≡ true
 
 -- the search found the first threads to come that make up a log, apart from those left out
-pub record IsFirst (code : Code) (bounds : Bounds) (last : Option (List ThreadPath)) (given : Given) : Type 0 where
+pub record IsFirst (code : Code) (bounds : Bounds) (last : Option (List ThreadPath))
+    (given : Given) : Type 0 where
   pub is_one : IfSome given.threads (IsOne code bounds)
   pub to_come : IfSome given.threads (λ ts. are_to_come last ts ≡ true)
-  pub others : (us : List ThreadPath) → MakeUp code bounds.kind (all code bounds.kind) us → are_to_come last us ≡ true
+  pub others : (us : List ThreadPath) → MakeUp code bounds.kind (all code bounds.kind) us
+      → are_to_come last us ≡ true
       → AreNotAfter given.threads us ⊎ IsLeftOut bounds.most THREADS given.out us

@@ -7,7 +7,8 @@ use Rattle.thread_paths.specs.Order.{comes_from}
 abbrev pub are_from : List ThreadPath → List ThreadPath → Bool
 are_from [] ts = true
 are_from (_ ∷ _) [] = false
-are_from (g ∷ gs) (t ∷ ts) = comes_from g.path t.path && (not (comes_from t.path g.path) || are_from gs ts)
+are_from (g ∷ gs) (t ∷ ts) =
+    comes_from g.path t.path && (not (comes_from t.path g.path) || are_from gs ts)
 
 -- whether threads come after those given last, if there are any
 abbrev pub are_to_come : Option (List ThreadPath) → List ThreadPath → Bool

@@ -100,7 +100,8 @@ module _ (code : Code) (kind : Kind) where
   -- only main is awaited
   abbrev pub all : Rest
   all = record {
-    awaited = record { name = main; function = length code.functions - 1; end = open_end kind; waited = false } ∷ [];
+    awaited =
+        record { name = main; function = length code.functions - 1; end = open_end kind; waited = false } ∷ [];
     ends = false;
     held = replicate code.mutexes false;
     waited = replicate code.mutexes false;
@@ -120,7 +121,8 @@ module _ (code : Code) (kind : Kind) where
   abbrev pub leave : List Awaited → Rest → Path → Option Rest
   leave [] rest p = None
   leave (c ∷ others) rest p =
-      if meet rest.held (told code c.function p).held || is_free code c (told code c.function p) then None else Some (rest_by rest c others (told code c.function p))
+      if meet rest.held (told code c.function p).held || is_free code c (told code c.function p)
+      then None else Some (rest_by rest c others (told code c.function p))
 
   -- the first awaited thread may take this path
   pub record Takes (rest : Rest) (t : ThreadPath) (later : Rest) : Type 0 where

@@ -6,7 +6,7 @@ use Rattle.tc_code.specs.Code.{Code, instr_at}
 use Rattle.tc_code.specs.Step.{handles_of}
 use Rattle.tc_code.specs.declared.instr.Instr.{Instr}
 use Rattle.tc_code.specs.declared.instr.Instr.TheVariants.{Lock, Unlock, Sleep, Wake, Create, Join}
-use Rattle.path_walk.specs.Steps.{Onward, onward, is_site}
+use Rattle.thread_paths.specs.path_walk.Steps.{Onward, onward, is_site}
 
 pub record Told : Type 0 where
   -- for each mutex, whether the thread holds it
@@ -46,9 +46,11 @@ changed t (Wake c m) = record t { held = slice_set t.held m true }
 changed t (Unlock m) = record t { held = slice_set t.held m false }
 changed t (Sleep c m) = record t { held = slice_set t.held m false }
 changed t (Create h f es) =
-    record t { children = slice_set t.children h (length t.created + 1); created = t.created ++ f ∷ [] }
+    record t
+    { children = slice_set t.children h (length t.created + 1); created = t.created ++ f ∷ [] }
 changed t (Join h) =
-    record t { children = slice_set t.children h 0; joined = t.joined ++ slice_index_or t.children h 0 ∷ [] }
+    record t
+    { children = slice_set t.children h 0; joined = t.joined ++ slice_index_or t.children h 0 ∷ [] }
 changed t _ = t
 
 -- after an instruction that leads to this place
@@ -60,7 +62,8 @@ abbrev pub told_from : Code → ℕ → ℕ → List Bool → Told → Told
 told_from code f zero outcomes t = t
 told_from code f (suc n) outcomes t =
     option_map_or
-    (λ i. option_map_or (λ (on : Onward). told_from code f n on.outcomes (told_by t i on.place)) (onward t.place i outcomes) t)
+    (λ i. option_map_or (λ (on : Onward). told_from code f n on.outcomes (told_by t i on.place))
+    (onward t.place i outcomes) t)
     (instr_at code f t.place) t
 
 -- what a path through a function determines

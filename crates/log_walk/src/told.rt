@@ -1,7 +1,7 @@
 //! What a thread's path determines: its mutexes, its children and its end.
 ghost use Rattle.std.specs.Prelude.{◌≡◌, ◌+◌, ◌<◌, ◌^◌, drop, option_map, length, slice_set, IfOk};
 ghost use Rattle.tc_code.specs.Code.{instr_at};
-ghost use Rattle.path_walk.specs.Steps.{onward, branched, is_site};
+ghost use Rattle.thread_paths.specs.path_walk.Steps.{onward, branched, is_site};
 ghost use Rattle.log_walk.specs.Told.{untold, is_create, changed, told_by, told};
 ghost use Rattle.log_walk.specs.helpers.Searches.{position_of};
 

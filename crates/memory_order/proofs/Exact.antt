@@ -20,9 +20,9 @@ use Rattle.order_formula.specs.Worlds.{World}
 use Rattle.order_formula.specs.declared.formula.Conjunct.{Conjunct}
 use Rattle.order_formula.specs.declared.group.Group.TheVariants.{Own}
 use Rattle.order_formula.specs.declared.literal.Literal.{Literal}
-use Rattle.lawful_order.specs.Events.{Of, HasEvent, IsBefore, all_events, place_of}
-use Rattle.lawful_order.specs.Memory.{OwnRule, is_kept, is_pending}
-use Rattle.lawful_order.specs.Whole.{AreWhole, IsExecutedBy}
+use Rattle.order_cells.specs.lawful_order.Events.{Of, HasEvent, IsBefore, all_events, place_of}
+use Rattle.order_cells.specs.lawful_order.Memory.{OwnRule, is_kept, is_pending}
+use Rattle.order_cells.specs.lawful_order.Whole.{AreWhole, IsExecutedBy}
 use Rattle.order_events.proofs.Lists.{in_front, in_back, of_cons, in_map, of_map, in_flat_map, of_flat_map, in_filter, of_filter, in_at, at_in}
 use Rattle.order_events.proofs.Parts.{of_one, in_option, of_option, in_if, of_if, in_each, in_of_each, one_holds, some_holds, step_before, before_holds}
 use Rattle.order_events.proofs.Parts.{is_unwanted, unwanted_is}

@@ -18,10 +18,10 @@ use Rattle.sym_exec.specs.declared.symbolic.Access.{Access}
 use Rattle.sym_exec.specs.declared.symbolic.Cell.{Cell}
 use Rattle.order_formula.specs.Truth.{passes_at}
 use Rattle.order_formula.specs.Worlds.{World}
-use Rattle.lawful_order.specs.Cells.{is_same_cell}
-use Rattle.lawful_order.specs.Events.{HasEvent}
-use Rattle.lawful_order.specs.Memory.{cell_of, is_store, may_overtake, same_cell, is_kept}
-use Rattle.lawful_order.specs.Whole.{IsExecutedBy}
+use Rattle.order_cells.specs.lawful_order.Cells.{is_same_cell}
+use Rattle.order_cells.specs.lawful_order.Events.{HasEvent}
+use Rattle.order_cells.specs.lawful_order.Memory.{cell_of, is_store, may_overtake, same_cell, is_kept}
+use Rattle.order_cells.specs.lawful_order.Whole.{IsExecutedBy}
 use Rattle.order_events.proofs.Lists.{of_nil, of_cons}
 use Rattle.order_cells.specs.Same.{known_same, same_test}
 use Rattle.order_cells.proofs.Told.{told, tested, either}

@@ -1,3 +1,5 @@
+pub use Rattle.order_cells.proofs as order_cells
+pub use Rattle.sym_terms.proofs as sym_terms
 pub mod Twos
 pub mod Keeping
 pub mod Exact

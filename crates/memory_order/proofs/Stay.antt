@@ -18,9 +18,9 @@ use Rattle.sym_exec.specs.declared.symbolic.Access.{Access}
 use Rattle.sym_exec.specs.declared.symbolic.Cell.{Cell}
 use Rattle.order_formula.specs.declared.formula.Conjunct.{Conjunct}
 use Rattle.order_formula.specs.declared.group.Group.TheVariants.{Own}
-use Rattle.lawful_order.specs.Events.{Of, all_events}
-use Rattle.lawful_order.specs.Memory.{cell_of}
-use Rattle.lawful_order.specs.Reads.{HasAccess}
+use Rattle.order_cells.specs.lawful_order.Events.{Of, all_events}
+use Rattle.order_cells.specs.lawful_order.Memory.{cell_of}
+use Rattle.order_cells.specs.lawful_order.Reads.{HasAccess}
 use Rattle.order_cells.specs.Same.{known_same, same_test}
 use Rattle.order_cells.specs.Terms.{CellIsOf, HaveTerms}
 use Rattle.order_cells.proofs.Needs.{id_stays}

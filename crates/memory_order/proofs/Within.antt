@@ -10,7 +10,7 @@ use Rattle.sym_exec.specs.Executed.{Symbolic}
 use Rattle.order_formula.specs.Formulas.{ConjunctIsOf, IsOf, LiteralIsOf}
 use Rattle.order_formula.specs.Orders.{Order, ConjunctIsIn, LiteralIsIn}
 use Rattle.order_formula.specs.declared.formula.Conjunct.{Conjunct}
-use Rattle.lawful_order.specs.Events.{HasEvent, all_events, number_of}
+use Rattle.order_cells.specs.lawful_order.Events.{HasEvent, all_events, number_of}
 use Rattle.order_cells.proofs.Needs.{id_within}
 use Rattle.order_events.proofs.Lists.{at_in}
 use Rattle.order_events.proofs.Parts.{each_in}

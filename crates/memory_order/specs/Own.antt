@@ -15,8 +15,8 @@ use Rattle.order_formula.specs.declared.formula.Conjunct.{Conjunct}
 use Rattle.order_formula.specs.declared.group.Group.TheVariants.{Own}
 use Rattle.order_formula.specs.declared.literal.Atom.TheVariants.{Test}
 use Rattle.order_formula.specs.declared.literal.Literal.{Literal}
-use Rattle.lawful_order.specs.Events.{Of, all_events}
-use Rattle.lawful_order.specs.Memory.{cell_of, is_store, may_overtake}
+use Rattle.order_cells.specs.lawful_order.Events.{Of, all_events}
+use Rattle.order_cells.specs.lawful_order.Memory.{cell_of, is_store, may_overtake}
 use Rattle.order_cells.specs.Same.{known_same, same_test}
 use Rattle.order_events.specs.Parts.{of_each, comes_before, one_of}
 use Rattle.memory_order.specs.Twos.{Two, twos}
@@ -32,26 +32,34 @@ is_settled buffered k = not (buffered && is_store k)
 -- whether x stays before a later y of its thread, given whether both are to the same cell
 abbrev pub keeps : (buffered : Bool) → Binding → (same_cell : Bool) → (x y : Event) → Bool
 keeps buffered bound same x y =
-    is_settled buffered x.kind || (not (may_overtake y.kind) || is_store y.kind && bound same (not (x.bars == y.bars)))
+    is_settled buffered x.kind
+    || (not (may_overtake y.kind) || is_store y.kind && bound same (not (x.bars == y.bars)))
 
 -- the cells of two events of a thread
 abbrev pub cells_of : Symbolic → (t : ℕ) → (x y : Event) → Option (Cell × Cell)
-cells_of symbolic t x y = option_and_then (λ a. option_and_then (λ b. Some (a, b)) (cell_of symbolic t y.step)) (cell_of symbolic t x.step)
+cells_of symbolic t x y =
+    option_and_then (λ a. option_and_then (λ b. Some (a, b)) (cell_of symbolic t y.step))
+    (cell_of symbolic t x.step)
 
 module _ (buffered : Bool) (bound : Binding) (symbolic : Symbolic) (nodes : List Node) (t : ℕ) where
   -- whether x stays before y, whatever the indexes of their cells are
   abbrev pub is_always_kept : (x y : Event) → Bool
-  is_always_kept x y = keeps buffered bound (unwrap_or (option_and_then (λ c. known_same nodes c.0 c.1) (cells_of symbolic t x y)) false) x y
+  is_always_kept x y =
+      keeps buffered bound
+      (unwrap_or
+      (option_and_then (λ c. known_same nodes c.0 c.1) (cells_of symbolic t x y)) false) x y
 
   -- whether the first always stays before the second, and no event between them implies it
   abbrev pub is_kept_next : Two Event → Bool
   is_kept_next p =
-      is_always_kept p.first p.second && not (list_any (λ z. is_always_kept p.first z && is_always_kept z p.second) p.between)
+      is_always_kept p.first p.second
+      && not (list_any (λ z. is_always_kept p.first z && is_always_kept z p.second) p.between)
 
   -- the test that two indexes are equal, if the first stays before the second only then
   abbrev pub kept_test : Two Event → Option Node
   kept_test p =
-      if keeps buffered bound true p.first p.second && not (keeps buffered bound false p.first p.second)
+      if keeps buffered bound true p.first p.second
+      && not (keeps buffered bound false p.first p.second)
       then option_and_then (λ c. same_test nodes c.0 c.1) (cells_of symbolic t p.first p.second)
       else None
 
@@ -64,7 +72,8 @@ module _ (buffered : Bool) (bound : Binding) (symbolic : Symbolic) (nodes : List
 
 -- the nodes that the formula needs
 abbrev pub own_needs : (buffered : Bool) → Binding → Paths → Symbolic → List Node → List Node
-own_needs buffered bound paths symbolic nodes = of_each (thread_tests buffered bound symbolic nodes) paths.threads
+own_needs buffered bound paths symbolic nodes =
+    of_each (thread_tests buffered bound symbolic nodes) paths.threads
 
 -- the literal that the test of a term doesn't pass
 abbrev pub fails : ℕ → Literal
@@ -74,15 +83,19 @@ fails term = record { atom = Test term; wanted = false }
 abbrev pub in_order : List (Of Event) → (t : ℕ) → Two Event → Literal
 in_order events t p = comes_before events t p.first.step t p.second.step
 
-module _ (buffered : Bool) (bound : Binding) (events : List (Of Event)) (symbolic : Symbolic) (nodes : List Node) (t : ℕ) where
+module _ (buffered : Bool) (bound : Binding) (events : List (Of Event)) (symbolic : Symbolic)
+    (nodes : List Node) (t : ℕ) where
   -- the first event comes before the second, if it is kept and no event between them implies it
   abbrev pub next_formula : Two Event → List Conjunct
-  next_formula p = if is_kept_next buffered bound symbolic nodes t p then one_of (Own t) (in_order events t p ∷ []) ∷ [] else []
+  next_formula p =
+      if is_kept_next buffered bound symbolic nodes t p
+      then one_of (Own t) (in_order events t p ∷ []) ∷ [] else []
 
   -- the first event comes before the second if the test of their indexes passes
   abbrev pub tested_formula : Two Event → List Conjunct
   tested_formula p =
-      map (λ test. one_of (Own t) (fails (id_of nodes test) ∷ in_order events t p ∷ [])) (two_tests buffered bound symbolic nodes t p)
+      map (λ test. one_of (Own t) (fails (id_of nodes test) ∷ in_order events t p ∷ []))
+      (two_tests buffered bound symbolic nodes t p)
 
   abbrev pub two_formula : Two Event → List Conjunct
   two_formula p = next_formula p ++ tested_formula p
@@ -93,7 +106,8 @@ module _ (buffered : Bool) (bound : Binding) (events : List (Of Event)) (symboli
 
 -- the event x comes before the failing event f
 abbrev pub before_failing : List (Of Event) → (x f : Of Event) → Conjunct
-before_failing events x f = one_of (Own x.thread) (comes_before events x.thread x.it.step f.thread f.it.step ∷ [])
+before_failing events x f =
+    one_of (Own x.thread) (comes_before events x.thread x.it.step f.thread f.it.step ∷ [])
 
 -- whether an event comes before the failing one: all others except stores in buffers
 abbrev pub is_before_failing : (buffered : Bool) → Of Event → Bool
@@ -101,8 +115,10 @@ is_before_failing buffered x = is_settled buffered x.it.kind && not (is_failing 
 
 abbrev pub failing_formula : (buffered : Bool) → List (Of Event) → List Conjunct
 failing_formula buffered events =
-    flat_map (λ x. map (before_failing events x) (filter (λ f. is_failing f.it.kind) events)) (filter (is_before_failing buffered) events)
+    flat_map (λ x. map (before_failing events x) (filter (λ f. is_failing f.it.kind) events))
+    (filter (is_before_failing buffered) events)
 
 abbrev pub own_formula : (buffered : Bool) → Binding → Paths → Symbolic → List Node → List Conjunct
 own_formula buffered bound paths symbolic nodes =
-    of_each (thread_formula buffered bound (all_events paths) symbolic nodes) paths.threads ++ failing_formula buffered (all_events paths)
+    of_each (thread_formula buffered bound (all_events paths) symbolic nodes) paths.threads
+    ++ failing_formula buffered (all_events paths)

@@ -4,7 +4,7 @@ ghost use Rattle.std.specs.List.{find, list_any};
 ghost use Rattle.sym_terms.specs.Terms.{with_node, id_of};
 ghost use Rattle.sym_terms.specs.declared.node.Node.{Node};
 ghost use Rattle.sym_exec.specs.Making.{Grows};
-ghost use Rattle.lawful_order.specs.Memory as memory;
+ghost use Rattle.order_cells.specs.lawful_order.Memory as memory;
 ghost use Rattle.order_cells.specs.Same as cells;
 ghost use Rattle.order_cells.specs.Terms.{HaveTerms};
 ghost use Rattle.memory_order.specs.Own as spec;

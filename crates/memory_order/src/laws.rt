@@ -14,9 +14,9 @@ ghost use Rattle.order_formula.specs.Orders.{Order, ConjunctIsIn};
 ghost use Rattle.order_formula.specs.Worlds.{World};
 ghost use Rattle.order_formula.specs.declared.formula.Conjunct.{Conjunct};
 ghost use Rattle.order_formula.specs.declared.group.Group.TheVariants.{Own};
-ghost use Rattle.lawful_order.specs.Events.{all_events};
-ghost use Rattle.lawful_order.specs.Memory.{OwnRule};
-ghost use Rattle.lawful_order.specs.Whole.{AreWhole, IsExecutedBy};
+ghost use Rattle.order_cells.specs.lawful_order.Events.{all_events};
+ghost use Rattle.order_cells.specs.lawful_order.Memory.{OwnRule};
+ghost use Rattle.order_cells.specs.lawful_order.Whole.{AreWhole, IsExecutedBy};
 ghost use Rattle.order_cells.specs.Terms.{HaveTerms};
 ghost use Rattle.memory_order.specs.Own.{own_formula, own_needs};
 

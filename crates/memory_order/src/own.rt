@@ -1,13 +1,13 @@
 //! The conjuncts of threads' own events.
 ghost use Rattle.std.specs.Prelude.{◌≡◌, ◌≤◌, ◌++◌, ◌∷◌, List, [], length, fold, map, filter, IfOk, OnOk};
 ghost use Rattle.std.specs.List.{flat_map};
-ghost use Rattle.tc_limits.specs.declared.limits.TheConstants.{EVENTS};
+ghost use Rattle.path_walk.specs.tc_limits.declared.limits.TheConstants.{EVENTS};
 ghost use Rattle.sym_terms.specs.Terms.{with_node};
 ghost use Rattle.sym_terms.specs.declared.node.Node.{Node};
 ghost use Rattle.sym_exec.specs.Making.{Grows};
 ghost use Rattle.order_formula.specs.Orders as orders;
 ghost use Rattle.order_formula.specs.Orders.{with_formula};
-ghost use Rattle.lawful_order.specs.Events.{all_events};
+ghost use Rattle.order_cells.specs.lawful_order.Events.{all_events};
 ghost use Rattle.order_cells.specs.Terms.{HaveTerms};
 ghost use Rattle.order_events.specs.Parts as parts;
 ghost use Rattle.order_events.specs.Parts.{of_each};

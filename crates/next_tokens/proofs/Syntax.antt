@@ -6,7 +6,7 @@ use Rattle.tc_lexer.specs.Text.{AreTokens}
 use Rattle.tc_lexer.proofs.OneReading.{one_tokens}
 use Rattle.tc_tree.specs.Grammar.{IsSpelled, IsSyntaxFault}
 use Rattle.tc_tree.specs.Words.{words_of}
-use Rattle.tc_grammar.proofs.Faults.{one_syntax_fault}
+use Rattle.tc_parser.proofs.tc_grammar.Faults.{one_syntax_fault}
 use Rattle.tc_parser.specs.Programs.{IsTextFault, place_at}
 use Rattle.tc_parser.specs.declared.fault.ParseFault.TheVariants.{Syntax}
 use Rattle.tc_parser.specs.declared.fault.TextFault.TheVariants.{Parse}

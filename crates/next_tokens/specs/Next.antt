@@ -15,17 +15,23 @@ use Rattle.tc_tree.specs.Words.{kind_word}
 use Rattle.next_tokens.specs.declared.stuck.Stuck.{Stuck}
 
 abbrev pub all_keywords : List AnyKeyword
-all_keywords = Int ∷ Mutex ∷ Cond ∷ Thread ∷ Main ∷ Tid ∷ If ∷ Else ∷ While ∷ Create ∷ Join ∷ Lock ∷ Unlock ∷ Wait ∷ Signal
+all_keywords =
+    Int ∷ Mutex ∷ Cond ∷ Thread ∷ Main ∷ Tid ∷ If ∷ Else ∷ While ∷ Create ∷ Join ∷ Lock ∷ Unlock
+    ∷ Wait ∷ Signal
     ∷ Broadcast ∷ Fence ∷ Assert ∷ Swap ∷ Cas ∷ Stbar ∷ []
 
 abbrev pub all_signs : List AnySign
-all_signs = OpenParen ∷ CloseParen ∷ OpenBracket ∷ CloseBracket ∷ OpenBrace ∷ CloseBrace ∷ Comma ∷ Semicolon ∷ Assign
-    ∷ Plus ∷ Minus ∷ Star ∷ Slash ∷ Percent ∷ Bang ∷ Tilde ∷ Less ∷ LessEqual ∷ Greater ∷ GreaterEqual ∷ EqualEqual
+all_signs =
+    OpenParen ∷ CloseParen ∷ OpenBracket ∷ CloseBracket ∷ OpenBrace ∷ CloseBrace ∷ Comma
+    ∷ Semicolon ∷ Assign
+    ∷ Plus ∷ Minus ∷ Star ∷ Slash ∷ Percent ∷ Bang ∷ Tilde ∷ Less ∷ LessEqual ∷ Greater
+    ∷ GreaterEqual ∷ EqualEqual
     ∷ BangEqual ∷ ShiftLeft ∷ ShiftRight ∷ And ∷ Caret ∷ Or ∷ AndAnd ∷ OrOr ∷ []
 
 -- each kind of token once; 0 represents every number
 abbrev pub all_kinds : List TokenKind
-all_kinds = kind.Name ∷ kind.Number (pos 0) ∷ (map kind.Keyword all_keywords ++ map kind.Sign all_signs)
+all_kinds =
+    kind.Name ∷ kind.Number (pos 0) ∷ (map kind.Keyword all_keywords ++ map kind.Sign all_signs)
 
 -- a token of this kind, as the grammar sees it
 abbrev pub sample : TokenKind → Word
@@ -39,7 +45,8 @@ GoesOnWith before k = Begins 3 (before ++ sample k ∷ [])
 abbrev pub ArePicked : {A : Type 0} → (A → Type 0) → List A → List A → Type 0
 ArePicked {A} P [] picked = picked ≡ []
 ArePicked {A} P (x ∷ xs) picked =
-    (P x × (rest : List A) × (picked ≡ x ∷ rest) × ArePicked P xs rest) ⊎ ((P x → ⊥) × ArePicked P xs picked)
+    (P x × (rest : List A) × (picked ≡ x ∷ rest) × ArePicked P xs rest)
+    ⊎ ((P x → ⊥) × ArePicked P xs picked)
 
 -- the words are a program
 abbrev pub AreProgram : List Word → Type 0

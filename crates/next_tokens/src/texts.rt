@@ -1,6 +1,6 @@
 //! The tokens that are possible where a text stops being a program.
 ghost use Rattle.std.specs.Prelude.{◌≡◌, ◌≤◌, length, IfOk};
-ghost use Rattle.tc_limits.specs.declared.limits.TheConstants.{PROGRAM_BYTES};
+ghost use Rattle.tc_lexer.specs.tc_limits.declared.limits.TheConstants.{PROGRAM_BYTES};
 ghost use Rattle.tc_lexer.specs.Text.{AreTokens};
 ghost use Rattle.tc_tree.specs.Words.{words_of};
 ghost use Rattle.tc_parser.specs.Programs.{IsTextFault};

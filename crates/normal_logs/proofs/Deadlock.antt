@@ -1,28 +1,28 @@
 -- In a deadlock each blocked thread has a cause.
 use Rattle.std.proofs.Common.{◌≡◌, ◌∙◌, ℕ, true, false, length, List, Some, IsSome, sym, ap, subst, arith}
 use Rattle.std.proofs.lemmas.Bool.{false≢true}
-use Rattle.tc_base.specs.Names.{Name, child}
-use Rattle.tc_base.specs.declared.failing.Failing.TheVariants.{Deadlock}
-use Rattle.tc_base.specs.declared.moves.Move.{Move}
-use Rattle.tc_code.specs.Run.{Reproduces}
-use Rattle.run_laws.proofs.Basics.{some_value}
-use Rattle.run_history.specs.History.{Deed, history}
-use Rattle.run_history.specs.Told.{owner_in, steps_in, has_exited_in}
-use Rattle.run_follows.specs.blocked.Stuck.{IsBlockedIn}
-use Rattle.path_walk.specs.Paths.{Walk}
-use Rattle.path_walk.specs.declared.event.Blocked.{Blocked}
-use Rattle.path_walk.specs.declared.event.Blocked.TheVariants.{Lock, Wake, Join}
-use Rattle.path_laws.specs.Setting.{Setting}
-use Rattle.path_laws.specs.events.Done.{IsOpenAfter}
-use Rattle.path_laws.specs.history.Along.{IsThread, PathThread, path_thread}
-use Rattle.path_laws.specs.stuck.Blocked.{asked_at}
-use Rattle.path_laws.proofs.of_events.Owners.{took_it, region_owned}
-use Rattle.path_laws.proofs.of_events.Waiters.{exits_told}
-use Rattle.path_laws.proofs.of_stuck.Stuck.{blocked_is_left}
+use Rattle.tc_record.specs.tc_base.Names.{Name, child}
+use Rattle.tc_record.specs.tc_base.declared.failing.Failing.TheVariants.{Deadlock}
+use Rattle.tc_record.specs.tc_base.declared.moves.Move.{Move}
+use Rattle.tc_record.specs.tc_code.Run.{Reproduces}
+use Rattle.least_runs.proofs.run_laws.Basics.{some_value}
+use Rattle.least_runs.specs.run_history.History.{Deed, history}
+use Rattle.least_runs.specs.run_history.Told.{owner_in, steps_in, has_exited_in}
+use Rattle.least_runs.specs.run_follows.blocked.Stuck.{IsBlockedIn}
+use Rattle.tc_record.specs.path_walk.Paths.{Walk}
+use Rattle.tc_record.specs.path_walk.declared.event.Blocked.{Blocked}
+use Rattle.tc_record.specs.path_walk.declared.event.Blocked.TheVariants.{Lock, Wake, Join}
+use Rattle.tc_record.specs.path_laws.Setting.{Setting}
+use Rattle.tc_record.specs.path_laws.events.Done.{IsOpenAfter}
+use Rattle.tc_record.specs.path_laws.history.Along.{IsThread, PathThread, path_thread}
+use Rattle.tc_record.specs.path_laws.stuck.Blocked.{asked_at}
+use Rattle.tc_record.proofs.path_laws.of_events.Owners.{took_it, region_owned}
+use Rattle.tc_record.proofs.path_laws.of_events.Waiters.{exits_told}
+use Rattle.tc_record.proofs.path_laws.of_stuck.Stuck.{blocked_is_left}
 use Rattle.normal_logs.specs.Ends.{IsHeldAtEnd, NeverExits}
 use Rattle.normal_logs.specs.Normal.{HasCause}
 use Rattle.normal_logs.proofs.Reproduced.{done}
-use Rattle.path_laws.proofs.of_history.Logged.{history_again}
+use Rattle.tc_record.proofs.path_laws.of_history.Logged.{history_again}
 
 module _ {B : Type 0} (setting : Setting B) (moves : List Move) (again : Reproduces setting.ops setting.code setting.log moves) where
   open setting use {ops, code, log}

@@ -4,18 +4,18 @@ use Rattle.std.specs.Prelude.{option_and_then}
 use Rattle.std.specs.List.{last_or}
 use Rattle.std.proofs.lemmas.Bool.{false≢true}
 use Rattle.std.proofs.lemmas.Option.{none-some}
-use Rattle.tc_base.specs.Names.{Name, child}
-use Rattle.tc_base.specs.declared.request.Request.{Request}
-use Rattle.tc_base.specs.declared.request.Request.TheVariants.{Silent, Start, Await, Finish}
-use Rattle.run_laws.proofs.Names.{is_same, same_self}
-use Rattle.run_history.specs.History.{Deed, Did, Drained}
-use Rattle.run_history.specs.Told.{steps_in, is_exit_of}
-use Rattle.run_history.proofs.of_pending.In.{in_at, in_any}
-use Rattle.run_follows.specs.Follow.{StepsAreOfThreads}
-use Rattle.path_walk.specs.declared.event.EventKind.TheVariants as kind
-use Rattle.path_laws.specs.Deeds.{kind_of}
-use Rattle.path_laws.proofs.of_events.Steps.{step_at}
-use Rattle.path_laws.proofs.of_stuck.Rests.{mapped_from}
+use Rattle.tc_record.specs.tc_base.Names.{Name, child}
+use Rattle.tc_record.specs.tc_base.declared.request.Request.{Request}
+use Rattle.tc_record.specs.tc_base.declared.request.Request.TheVariants.{Silent, Start, Await, Finish}
+use Rattle.least_runs.proofs.run_laws.Names.{is_same, same_self}
+use Rattle.least_runs.specs.run_history.History.{Deed, Did, Drained}
+use Rattle.least_runs.specs.run_history.Told.{steps_in, is_exit_of}
+use Rattle.least_runs.proofs.run_history.of_pending.In.{in_at, in_any}
+use Rattle.least_runs.specs.run_follows.Follow.{StepsAreOfThreads}
+use Rattle.tc_record.specs.path_walk.declared.event.EventKind.TheVariants as kind
+use Rattle.tc_record.specs.path_laws.Deeds.{kind_of}
+use Rattle.tc_record.proofs.path_laws.of_events.Steps.{step_at}
+use Rattle.tc_record.proofs.path_laws.of_stuck.Rests.{mapped_from}
 use Rattle.least_runs.specs.Unused.{is_await_of}
 
 pub await_is : (r : Request) (other : Option Name) (n : ℕ) → kind_of r other ≡ Some (kind.Join n) → r ≡ Await n

@@ -8,37 +8,37 @@ use Rattle.std.specs.Option.{option_map_or}
 use Rattle.std.proofs.lemmas.Bool.{false≢true, true_from_ne_false}
 use Rattle.std.proofs.lemmas.Map.Text.{is_eq-slice_cmp}
 use Rattle.std.proofs.lemmas.Option.{none-some, same_Some}
-use Rattle.tc_base.specs.Names.{Name, child}
-use Rattle.tc_base.specs.declared.moves.Move.{Move}
-use Rattle.tc_base.specs.declared.request.Request.{Request}
-use Rattle.tc_base.specs.declared.request.Request.TheVariants.{Silent, Write, Exchange, CompareExchange, Release, BeginWait, WakeOne, WakeAll}
-use Rattle.tc_base.specs.declared.request.Request.TheVariants.{Start, Await, Finish, Fail}
-use Rattle.tc_code.specs.Code.{Code}
-use Rattle.tc_code.specs.Run.{Reproduces}
-use Rattle.store_buffers.specs.Pending.{Binding}
-use Rattle.run_laws.proofs.Names.{same_self}
-use Rattle.run_history.specs.History.{Deed, Did, same, history}
-use Rattle.run_history.specs.Told.{children_in, steps_in, fails, failed_in}
-use Rattle.run_history.proofs.Last.{last_is}
-use Rattle.run_history.proofs.Lists.{last_or-push}
-use Rattle.run_history.proofs.of_pending.In.{in_split, any_in}
-use Rattle.run_follows.specs.Follow.{AllFollow, OtherIs}
-use Rattle.path_walk.specs.Fits.{fails_in}
-use Rattle.path_walk.specs.declared.event.EventKind.{EventKind}
-use Rattle.path_walk.specs.declared.event.EventKind.TheVariants as kind
-use Rattle.path_laws.specs.Setting.{Setting}
-use Rattle.path_laws.specs.Deeds.{kind_of}
-use Rattle.path_laws.specs.Prefixes.{fails_by}
-use Rattle.path_laws.proofs.Prefixes.{fails_as}
-use Rattle.path_laws.proofs.of_events.Lists.{contains_in}
-use Rattle.path_laws.proofs.of_events.Steps.{steps_both, steps_first, deed_of}
+use Rattle.tc_record.specs.tc_base.Names.{Name, child}
+use Rattle.tc_record.specs.tc_base.declared.moves.Move.{Move}
+use Rattle.tc_record.specs.tc_base.declared.request.Request.{Request}
+use Rattle.tc_record.specs.tc_base.declared.request.Request.TheVariants.{Silent, Write, Exchange, CompareExchange, Release, BeginWait, WakeOne, WakeAll}
+use Rattle.tc_record.specs.tc_base.declared.request.Request.TheVariants.{Start, Await, Finish, Fail}
+use Rattle.tc_record.specs.tc_code.Code.{Code}
+use Rattle.tc_record.specs.tc_code.Run.{Reproduces}
+use Rattle.tc_record.specs.store_buffers.Pending.{Binding}
+use Rattle.least_runs.proofs.run_laws.Names.{same_self}
+use Rattle.least_runs.specs.run_history.History.{Deed, Did, same, history}
+use Rattle.least_runs.specs.run_history.Told.{children_in, steps_in, fails, failed_in}
+use Rattle.least_runs.proofs.run_history.Last.{last_is}
+use Rattle.least_runs.proofs.run_history.Lists.{last_or-push}
+use Rattle.least_runs.proofs.run_history.of_pending.In.{in_split, any_in}
+use Rattle.least_runs.specs.run_follows.Follow.{AllFollow, OtherIs}
+use Rattle.tc_record.specs.path_walk.Fits.{fails_in}
+use Rattle.tc_record.specs.path_walk.declared.event.EventKind.{EventKind}
+use Rattle.tc_record.specs.path_walk.declared.event.EventKind.TheVariants as kind
+use Rattle.tc_record.specs.path_laws.Setting.{Setting}
+use Rattle.tc_record.specs.path_laws.Deeds.{kind_of}
+use Rattle.tc_record.specs.path_laws.Prefixes.{fails_by}
+use Rattle.tc_record.proofs.path_laws.Prefixes.{fails_as}
+use Rattle.tc_record.proofs.path_laws.of_events.Lists.{contains_in}
+use Rattle.tc_record.proofs.path_laws.of_events.Steps.{steps_both, steps_first, deed_of}
 use Rattle.least_runs.specs.Least.{IsLeast}
 use Rattle.least_runs.specs.Unused.{is_await_of, is_unused}
 use Rattle.normal_logs.specs.Ends.{EndsWith, IsJoined, EndsUsed}
 use Rattle.normal_logs.proofs.Deeds.{joins_thread}
 use Rattle.normal_logs.proofs.Reproduced.{run, follow, step_named, acts, done, ends_with, join_there}
-use Rattle.path_laws.specs.history.Along.{PathThread}
-use Rattle.path_laws.proofs.of_history.Logged.{history_again}
+use Rattle.tc_record.specs.path_laws.history.Along.{PathThread}
+use Rattle.tc_record.proofs.path_laws.of_history.Logged.{history_again}
 
 -- nothing comes after a failure
 fails_last : (buffered : Bool) (bound : Binding) (code : Code) (h older newer : List Deed) (n : Name) (k : ℕ) (v : ℤ) (o : Option Name)

@@ -5,38 +5,38 @@ use Rattle.std.specs.FinMap as fin
 use Rattle.std.proofs.lemmas.Bool.{leb-true, le-leb}
 use Rattle.std.proofs.lemmas.List.{length-append}
 use Rattle.std.proofs.lemmas.Option.{none-some, same_Some}
-use Rattle.run_log.specs.Logs.{Log}
-use Rattle.tc_base.specs.Paths.{Path, ThreadPath, path_under}
-use Rattle.tc_base.specs.Names.{Name}
-use Rattle.tc_base.specs.States.{Thread, State}
-use Rattle.tc_base.specs.declared.failing.Failing.{Failing}
-use Rattle.tc_base.specs.declared.failing.Failing.TheVariants as failing
-use Rattle.tc_base.specs.declared.moves.Move.{Move}
-use Rattle.tc_code.specs.Run.{run, path_of, path_in, EndsAs, IsStuck, Reproduces}
-use Rattle.tc_code.proofs.Facts.{failed_as_logged}
-use Rattle.run_laws.proofs.Basics.{some_is, some_value}
-use Rattle.run_history.specs.History.{Deed, history}
-use Rattle.run_history.specs.Told.{failed_in}
-use Rattle.run_follows.specs.Machine.{Machine}
-use Rattle.run_follows.specs.Follow.{moves_for}
-use Rattle.run_follows.specs.Logged.{path_by, path_told}
-use Rattle.run_follows.proofs.Follows.{AllTold, all_told}
-use Rattle.run_follows.proofs.Plays.{follows_is_run}
-use Rattle.run_follows.proofs.Reproduced.{reproduces_as_logged}
-use Rattle.path_laws.proofs.Prefixes.{thread_path}
+use Rattle.tc_record.specs.run_log.Logs.{Log}
+use Rattle.tc_record.specs.tc_base.Paths.{Path, ThreadPath, path_under}
+use Rattle.tc_record.specs.tc_base.Names.{Name}
+use Rattle.tc_record.specs.tc_base.States.{Thread, State}
+use Rattle.tc_record.specs.tc_base.declared.failing.Failing.{Failing}
+use Rattle.tc_record.specs.tc_base.declared.failing.Failing.TheVariants as failing
+use Rattle.tc_record.specs.tc_base.declared.moves.Move.{Move}
+use Rattle.tc_record.specs.tc_code.Run.{run, path_of, path_in, EndsAs, IsStuck, Reproduces}
+use Rattle.tc_record.proofs.tc_code.Facts.{failed_as_logged}
+use Rattle.least_runs.proofs.run_laws.Basics.{some_is, some_value}
+use Rattle.least_runs.specs.run_history.History.{Deed, history}
+use Rattle.least_runs.specs.run_history.Told.{failed_in}
+use Rattle.least_runs.specs.run_follows.Machine.{Machine}
+use Rattle.least_runs.specs.run_follows.Follow.{moves_for}
+use Rattle.least_runs.specs.run_follows.Logged.{path_by, path_told}
+use Rattle.least_runs.proofs.run_follows.Follows.{AllTold, all_told}
+use Rattle.least_runs.proofs.run_follows.Plays.{follows_is_run}
+use Rattle.least_runs.proofs.run_follows.Reproduced.{reproduces_as_logged}
+use Rattle.tc_record.proofs.path_laws.Prefixes.{thread_path}
 use Rattle.least_runs.specs.Least.{IsLeast, HasLeast}
 use Rattle.least_runs.proofs.Least.{has_least}
 use Rattle.tc_record.specs.Logged.{IsLogOf}
 use Rattle.tc_record.proofs.OneLog.{some_log}
 use Rattle.tc_record.proofs.Paths.{reproduced}
 use Rattle.tc_record.proofs.Reached.{has_threads}
-use Rattle.run_log.specs.Logs.{StoredLog}
+use Rattle.tc_record.specs.run_log.Logs.{StoredLog}
 use Rattle.normal_logs.specs.Normal.{IsNormal, IsNormalDeadlock}
 use Rattle.normal_logs.specs.Within.{Allowed, at_most, HasBeginnings, ComesTo, ReproducesSome}
 use Rattle.normal_logs.proofs.Reproduced.{fit_together}
 use Rattle.normal_logs.proofs.Least.{used}
 use Rattle.normal_logs.proofs.Deadlock.{caused}
-use Rattle.path_laws.specs.history.Along.{path_thread}
+use Rattle.tc_record.specs.path_laws.history.Along.{path_thread}
 
 module _ {B : Type 0} where
   path_of_local : (o : Option (Thread B)) → option_map path_by (option_map (λ (t : Thread B). t.local) o) ≡ option_map path_of o

@@ -1,35 +1,35 @@
 -- Facts on a log that some moves reproduce.
 use Rattle.std.proofs.Common.{◌≡◌, ◌∙◌, ℕ, zero, suc, ◌+◌, ◌<◌, ℤ, true, List, ◌∷◌, ◌++◌, length, cond, Option, Some, refl, sym, ap, subst, arith, append_assoc}
 use Rattle.std.proofs.lemmas.Option.{none-some, same_Some}
-use Rattle.tc_base.specs.Names.{Name, child}
-use Rattle.tc_base.specs.declared.moves.Move.{Move}
-use Rattle.tc_base.specs.declared.request.Request.{Request}
-use Rattle.tc_base.specs.declared.request.Request.TheVariants.{Await, Finish}
-use Rattle.tc_code.specs.Run.{Reproduces}
-use Rattle.run_laws.proofs.Names.{same_self}
-use Rattle.run_history.specs.History.{Deed, Did, history}
-use Rattle.run_history.specs.Told.{is_exit_of, owner_in, steps_in, has_exited_in}
-use Rattle.run_history.proofs.of_pending.In.{In, in_split, any_in, in_mapped, from_mapped}
-use Rattle.run_follows.specs.Follow.{AllFollow, StepsAreOfThreads}
-use Rattle.run_log.specs.Logs.{is_log}
-use Rattle.path_walk.specs.Events.{join_by, joins_of}
-use Rattle.path_walk.specs.Paths.{Walk}
-use Rattle.path_walk.specs.declared.event.Event.{Event}
-use Rattle.path_walk.specs.declared.event.EventKind.{EventKind}
-use Rattle.path_walk.specs.declared.event.EventKind.TheVariants as kind
-use Rattle.path_walk.specs.declared.event.Link.{Link}
-use Rattle.path_laws.specs.Setting.{Setting}
-use Rattle.path_laws.specs.Deeds.{kind_of}
-use Rattle.path_laws.specs.events.Done.{IsOpenAfter}
-use Rattle.path_laws.specs.history.Along.{IsThread, IsNameOfThread, HasDoneAll, HistoryAlong, PathThread, path_thread}
-use Rattle.path_laws.proofs.Logs.{reproduced_alive}
-use Rattle.path_laws.proofs.of_history.Told.{RunOf, reproduced_run, up_to}
-use Rattle.path_laws.proofs.of_history.Logged.{has_done, history_again}
-use Rattle.path_laws.proofs.of_history.Walks.{IsWalk, walk_is, thread_named}
-use Rattle.path_laws.proofs.of_events.Lists.{in_contains, contains_in}
-use Rattle.path_laws.proofs.of_events.Events.{event_done, done_event, event_within}
-use Rattle.path_laws.proofs.of_events.Owners.{region_owned}
-use Rattle.path_laws.proofs.of_events.Steps.{steps_both, steps_first, step_at}
+use Rattle.tc_record.specs.tc_base.Names.{Name, child}
+use Rattle.tc_record.specs.tc_base.declared.moves.Move.{Move}
+use Rattle.tc_record.specs.tc_base.declared.request.Request.{Request}
+use Rattle.tc_record.specs.tc_base.declared.request.Request.TheVariants.{Await, Finish}
+use Rattle.tc_record.specs.tc_code.Run.{Reproduces}
+use Rattle.least_runs.proofs.run_laws.Names.{same_self}
+use Rattle.least_runs.specs.run_history.History.{Deed, Did, history}
+use Rattle.least_runs.specs.run_history.Told.{is_exit_of, owner_in, steps_in, has_exited_in}
+use Rattle.least_runs.proofs.run_history.of_pending.In.{In, in_split, any_in, in_mapped, from_mapped}
+use Rattle.least_runs.specs.run_follows.Follow.{AllFollow, StepsAreOfThreads}
+use Rattle.tc_record.specs.run_log.Logs.{is_log}
+use Rattle.tc_record.specs.path_walk.Events.{join_by, joins_of}
+use Rattle.tc_record.specs.path_walk.Paths.{Walk}
+use Rattle.tc_record.specs.path_walk.declared.event.Event.{Event}
+use Rattle.tc_record.specs.path_walk.declared.event.EventKind.{EventKind}
+use Rattle.tc_record.specs.path_walk.declared.event.EventKind.TheVariants as kind
+use Rattle.tc_record.specs.path_walk.declared.event.Link.{Link}
+use Rattle.tc_record.specs.path_laws.Setting.{Setting}
+use Rattle.tc_record.specs.path_laws.Deeds.{kind_of}
+use Rattle.tc_record.specs.path_laws.events.Done.{IsOpenAfter}
+use Rattle.tc_record.specs.path_laws.history.Along.{IsThread, IsNameOfThread, HasDoneAll, HistoryAlong, PathThread, path_thread}
+use Rattle.tc_record.proofs.path_laws.Logs.{reproduced_alive}
+use Rattle.tc_record.proofs.path_laws.of_history.Told.{RunOf, reproduced_run, up_to}
+use Rattle.tc_record.proofs.path_laws.of_history.Logged.{has_done, history_again}
+use Rattle.tc_record.proofs.path_laws.of_history.Walks.{IsWalk, walk_is, thread_named}
+use Rattle.tc_record.proofs.path_laws.of_events.Lists.{in_contains, contains_in}
+use Rattle.tc_record.proofs.path_laws.of_events.Events.{event_done, done_event, event_within}
+use Rattle.tc_record.proofs.path_laws.of_events.Owners.{region_owned}
+use Rattle.tc_record.proofs.path_laws.of_events.Steps.{steps_both, steps_first, step_at}
 use Rattle.least_runs.proofs.Ends.{joined_exited}
 use Rattle.normal_logs.specs.Ends.{EndsWith, HoldsAtEnd, IsJoined, Acts}
 use Rattle.normal_logs.specs.Normal.{FitTogether}

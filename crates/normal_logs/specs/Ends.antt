@@ -1,18 +1,18 @@
 -- How the paths of a log end.
 use Rattle.std.specs.Prelude.{◌≡◌, ◌+◌, ◌<◌, ℕ, length}
 use Rattle.std.specs.List.{Contains}
-use Rattle.run_log.specs.Logs.{Log}
-use Rattle.tc_base.specs.Names.{Name, child}
-use Rattle.tc_code.specs.Code.{Code}
-use Rattle.path_walk.specs.Paths.{Walk}
-use Rattle.path_walk.specs.declared.event.Event.{Event}
-use Rattle.path_walk.specs.declared.event.EventKind.{EventKind}
-use Rattle.path_walk.specs.declared.event.EventKind.TheVariants.{Store, Exchange, Unlock, Sleep}
-use Rattle.path_walk.specs.declared.event.EventKind.TheVariants.{Signal, Broadcast, Create, Exit}
-use Rattle.path_walk.specs.declared.event.Link.{Link}
-use Rattle.path_walk.specs.declared.event.Region.{Region}
-use Rattle.path_laws.specs.events.Done.{IsOpenAfter}
-use Rattle.path_laws.specs.history.Along.{IsThread}
+use Rattle.tc_record.specs.run_log.Logs.{Log}
+use Rattle.tc_record.specs.tc_base.Names.{Name, child}
+use Rattle.tc_record.specs.tc_code.Code.{Code}
+use Rattle.tc_record.specs.path_walk.Paths.{Walk}
+use Rattle.tc_record.specs.path_walk.declared.event.Event.{Event}
+use Rattle.tc_record.specs.path_walk.declared.event.EventKind.{EventKind}
+use Rattle.tc_record.specs.path_walk.declared.event.EventKind.TheVariants.{Store, Exchange, Unlock, Sleep}
+use Rattle.tc_record.specs.path_walk.declared.event.EventKind.TheVariants.{Signal, Broadcast, Create, Exit}
+use Rattle.tc_record.specs.path_walk.declared.event.Link.{Link}
+use Rattle.tc_record.specs.path_walk.declared.event.Region.{Region}
+use Rattle.tc_record.specs.path_laws.events.Done.{IsOpenAfter}
+use Rattle.tc_record.specs.path_laws.history.Along.{IsThread}
 
 -- the last step of a path is an event of this kind
 pub record EndsWith (w : Walk) (asked : EventKind) : Type 0 where

@@ -2,17 +2,17 @@
 -- More could be left out: paths with the wrong outcome of a test of constants, and rounds of a loop
 -- that change nothing.
 use Rattle.std.specs.Prelude.{◌≡◌, ◌⊎◌, ℕ, true, false, [], Some, IsSome}
-use Rattle.run_log.specs.Logs.{Log, failing_of}
-use Rattle.tc_base.specs.Names.{child}
-use Rattle.tc_base.specs.declared.failing.Failing.TheVariants.{Deadlock}
-use Rattle.tc_code.specs.Code.{Code}
-use Rattle.run_log.specs.Logs.{is_log}
-use Rattle.path_walk.specs.Fits.{fails_in, Fits}
-use Rattle.path_walk.specs.Paths.{Walk, paths_of}
-use Rattle.path_walk.specs.declared.event.Blocked.{Blocked}
-use Rattle.path_walk.specs.declared.event.Blocked.TheVariants.{Lock, Wake, Join}
-use Rattle.path_walk.specs.declared.event.EventKind.TheVariants.{Exit}
-use Rattle.path_laws.specs.history.Along.{IsThread}
+use Rattle.tc_record.specs.run_log.Logs.{Log, failing_of}
+use Rattle.tc_record.specs.tc_base.Names.{child}
+use Rattle.tc_record.specs.tc_base.declared.failing.Failing.TheVariants.{Deadlock}
+use Rattle.tc_record.specs.tc_code.Code.{Code}
+use Rattle.tc_record.specs.run_log.Logs.{is_log}
+use Rattle.tc_record.specs.path_walk.Fits.{fails_in, Fits}
+use Rattle.tc_record.specs.path_walk.Paths.{Walk, paths_of}
+use Rattle.tc_record.specs.path_walk.declared.event.Blocked.{Blocked}
+use Rattle.tc_record.specs.path_walk.declared.event.Blocked.TheVariants.{Lock, Wake, Join}
+use Rattle.tc_record.specs.path_walk.declared.event.EventKind.TheVariants.{Exit}
+use Rattle.tc_record.specs.path_laws.history.Along.{IsThread}
 use Rattle.normal_logs.specs.Ends.{EndsWith, HoldsAtEnd, IsJoined, EndsUsed, IsHeldAtEnd}
 use Rattle.normal_logs.specs.Ends.{NeverExits}
 

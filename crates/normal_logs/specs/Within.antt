@@ -1,15 +1,15 @@
 -- Runs and logs in which the outcomes of each thread are allowed.
 use Rattle.std.specs.Prelude.{◌≡◌, ℕ, Bool, true, nat_le, List, ◌++◌, length, Some}
 use Rattle.std.specs.FinMap as fin
-use Rattle.tc_base.specs.Buffers.{BufferOps}
-use Rattle.run_log.specs.Logs.{Log}
-use Rattle.tc_base.specs.Paths.{Path, path_under}
-use Rattle.tc_base.specs.Names.{Name}
-use Rattle.tc_base.specs.States.{Thread, State}
-use Rattle.memory_models.specs.declared.model.Model.{Model}
-use Rattle.tc_base.specs.declared.moves.Move.{Move}
-use Rattle.tc_code.specs.Code.{Code}
-use Rattle.tc_code.specs.Run.{run, Reproduces}
+use Rattle.tc_record.specs.tc_base.Buffers.{BufferOps}
+use Rattle.tc_record.specs.run_log.Logs.{Log}
+use Rattle.tc_record.specs.tc_base.Paths.{Path, path_under}
+use Rattle.tc_record.specs.tc_base.Names.{Name}
+use Rattle.tc_record.specs.tc_base.States.{Thread, State}
+use Rattle.least_runs.specs.memory_models.declared.model.Model.{Model}
+use Rattle.tc_record.specs.tc_base.declared.moves.Move.{Move}
+use Rattle.tc_record.specs.tc_code.Code.{Code}
+use Rattle.tc_record.specs.tc_code.Run.{run, Reproduces}
 
 -- the outcomes that each named thread may have
 abbrev pub Allowed : Type 0
@@ -22,7 +22,8 @@ at_most most n outcomes = nat_le (length outcomes) most
 -- every prefix of allowed outcomes is allowed
 abbrev pub HasBeginnings : Allowed → Type 0
 HasBeginnings allowed =
-    (n : Name) (first later : List Bool) → allowed n (first ++ later) ≡ true → allowed n first ≡ true
+    (n : Name) (first later : List Bool) → allowed n (first ++ later) ≡ true
+    → allowed n first ≡ true
 
 module _ {B : Type 0} (ops : BufferOps B) (code : Code) (allowed : Allowed) where
   -- some run leads to a state of this kind, in which each thread has allowed outcomes

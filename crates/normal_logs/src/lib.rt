@@ -5,10 +5,10 @@
 #![tactic(auto)]
 
 ghost use Rattle.std.specs.Prelude.{◌↔◌, ℕ, IsSome};
-ghost use Rattle.tc_code.specs.Run.{IsStuck};
+ghost use Rattle.tc_record.specs.tc_code.Run.{IsStuck};
 ghost use Rattle.normal_logs.specs.Normal.{IsNormal, IsNormalDeadlock};
 ghost use Rattle.normal_logs.specs.Within.{Allowed, at_most, HasBeginnings, ComesTo, ReproducesSome};
-ghost use Rattle.run_follows.specs.Machine.{Machine};
+ghost use Rattle.least_runs.specs.run_follows.Machine.{Machine};
 
 /// Some run fails with allowed outcomes if and only if some run reproduces a normal log with
 /// allowed outcomes, under every memory model. Every prefix of allowed outcomes must be allowed, as

@@ -16,7 +16,7 @@ use Rattle.sym_exec.proofs.Grown.{grows_both, stays_within}
 use Rattle.sym_exec.specs.declared.symbolic.Access.{Access}
 use Rattle.sym_exec.specs.declared.symbolic.Cell.{Cell}
 use Rattle.sym_exec.specs.declared.symbolic.Cell.TheVariants.{Fixed, Element}
-use Rattle.order_formula.specs.Worlds.{World}
+use Rattle.lawful_order.specs.order_formula.Worlds.{World}
 use Rattle.lawful_order.specs.Cells.{is_same_cell}
 use Rattle.order_cells.proofs.Needs.{id_made, id_stays, made_there, grows_all}
 use Rattle.order_cells.specs.Same.{number_in, constant_of, known_equal, known_same, same_test}

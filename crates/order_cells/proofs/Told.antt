@@ -16,8 +16,8 @@ use Rattle.sym_terms.specs.declared.node.Node.TheVariants.{Constant, Symbol, Una
 use Rattle.sym_terms.proofs.Folds.{of_node}
 use Rattle.sym_exec.specs.declared.symbolic.Cell.{Cell}
 use Rattle.sym_exec.specs.declared.symbolic.Cell.TheVariants.{Fixed, Element}
-use Rattle.order_formula.specs.Truth.{passes_at}
-use Rattle.order_formula.specs.Worlds.{World}
+use Rattle.lawful_order.specs.order_formula.Truth.{passes_at}
+use Rattle.lawful_order.specs.order_formula.Worlds.{World}
 use Rattle.lawful_order.specs.Cells.{is_same_cell}
 use Rattle.order_cells.proofs.Needs.{value_there}
 use Rattle.order_cells.specs.Same.{number_in, constant_of, known_equal, known_same, same_test}

@@ -18,16 +18,20 @@ constant_of nodes term = option_and_then number_in (slice_get nodes term)
 
 -- whether two terms are equal, if known: they are the same term, or both are constants
 abbrev pub known_equal : List Node → (a b : ℕ) → Option Bool
-known_equal nodes a b = if a == b then Some true else option_and_then (λ m. option_map (int_eq m) (constant_of nodes b)) (constant_of nodes a)
+known_equal nodes a b =
+    if a == b then Some true
+    else option_and_then (λ m. option_map (int_eq m) (constant_of nodes b)) (constant_of nodes a)
 
 -- whether two cells are the same, if known
 abbrev pub known_same : List Node → Cell → Cell → Option Bool
 known_same nodes (Fixed c) (Fixed d) = Some (c == d)
-known_same nodes (Element f m i) (Element g n j) = if f == g then known_equal nodes i j else Some false
+known_same nodes (Element f m i) (Element g n j) =
+    if f == g then known_equal nodes i j else Some false
 known_same nodes _ _ = Some false
 
 -- the test that the indexes of two elements are equal, if that isn't known
 abbrev pub same_test : List Node → Cell → Cell → Option Node
 same_test nodes (Element f m i) (Element g n j) =
-    if is_none (known_same nodes (Element f m i) (Element g n j)) then Some (Binary Eq i j) else None
+    if is_none (known_same nodes (Element f m i) (Element g n j)) then Some (Binary Eq i j)
+    else None
 same_test nodes _ _ = None

@@ -20,4 +20,5 @@ pub record AccessIsOf (terms : ℕ) (a : Access) : Type 0 where
 
 -- the terms of all accesses are indexes into the nodes
 abbrev pub HaveTerms : List Node → Symbolic → Type 0
-HaveTerms nodes symbolic = (t : ℕ) (a : Access) → HasAccess symbolic t a → AccessIsOf (length nodes) a
+HaveTerms nodes symbolic =
+    (t : ℕ) (a : Access) → HasAccess symbolic t a → AccessIsOf (length nodes) a

@@ -7,7 +7,7 @@ use Rattle.std.specs.List.{All, Contains, enumerate_from, list_all}
 use Rattle.std.proofs.lemmas.Bool.{false≢true, and_parts, and_from}
 use Rattle.std.proofs.lemmas.List.{get_or_default}
 use Rattle.path_walk.specs.Paths.{Paths}
-use Rattle.sym_terms.specs.declared.node.Node.{Node}
+use Rattle.order_formula.specs.sym_terms.declared.node.Node.{Node}
 use Rattle.order_formula.specs.declared.literal.Literal.{Literal}
 use Rattle.order_formula.specs.declared.group.Group.{Group}
 use Rattle.order_formula.specs.Truth.{literal_at, case_at, body_at}

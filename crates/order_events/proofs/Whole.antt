@@ -7,9 +7,9 @@ use Rattle.std.specs.Prelude.{slice_get, option_map}
 use Rattle.std.specs.List.{Contains, filter_map, cons_option}
 use Rattle.std.specs.Option.{option_map_or}
 use Rattle.std.proofs.lemmas.Option.{none-some, same_Some}
-use Rattle.run_log.specs.Logs.{Log}
-use Rattle.tc_base.specs.Paths.{ThreadPath}
-use Rattle.tc_code.specs.Code.{Code}
+use Rattle.path_walk.specs.run_log.Logs.{Log}
+use Rattle.path_walk.specs.tc_base.Paths.{ThreadPath}
+use Rattle.path_walk.specs.tc_code.Code.{Code}
 use Rattle.path_walk.specs.Fits.{ending_of, places_in}
 use Rattle.path_walk.specs.Steps.{Step, is_failing, steps_at}
 use Rattle.path_walk.specs.Marks.{Marks, Marked, marks_at_start, marks_after_instr, marked_from}

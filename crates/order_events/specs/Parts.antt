@@ -19,7 +19,8 @@ number_in events t k = position_or_len (λ e. e.thread == t && e.it.step == k) e
 
 -- the literal that the step k of the thread t comes before the step j of the thread u
 abbrev pub comes_before : List (Of Event) → (t k u j : ℕ) → Literal
-comes_before events t k u j = record { atom = Before (number_in events t k) (number_in events u j); wanted = true }
+comes_before events t k u j =
+    record { atom = Before (number_in events t k) (number_in events u j); wanted = true }
 
 -- the conjunct that one of the literals holds
 abbrev pub one_of : Group → List Literal → Conjunct

@@ -1,7 +1,7 @@
 //! The events of all threads.
 ghost use Rattle.std.specs.Prelude.{◌≡◌, ◌≤◌, ◌++◌, ◌==◌, ◌&&◌, ◌+◌, ◌<◌, ◌^◌, length, map, IfOk, OnOk};
 ghost use Rattle.std.specs.List.{position_or_len};
-ghost use Rattle.tc_limits.specs.declared.limits.TheConstants.{EVENTS};
+ghost use Rattle.path_walk.specs.tc_limits.declared.limits.TheConstants.{EVENTS};
 ghost use Rattle.lawful_order.specs.Events.{all_events, all_from};
 
 use path_walk::{Event, Paths, Walk};
@@ -35,7 +35,7 @@ pub struct Events {
 
 impl Model for Events {
     ghost use Rattle.std.specs.Prelude.{List, length, ◌≤◌};
-    ghost use Rattle.tc_limits.specs.declared.limits.TheConstants.{EVENTS};
+    ghost use Rattle.path_walk.specs.tc_limits.declared.limits.TheConstants.{EVENTS};
     ghost use Rattle.lawful_order.specs.Events.{Of};
     ghost use Rattle.path_walk.specs.declared.event.Event.{Event};
 

@@ -1,6 +1,6 @@
 //! Laws about event numbers. Each law is the contract of a function with an empty body.
 ghost use Rattle.std.specs.Prelude.{◌≡◌, ◌<◌, ◌⊎◌, ◌≢◌, ℕ, length};
-ghost use Rattle.tc_code.specs.Code.{Code};
+ghost use Rattle.path_walk.specs.tc_code.Code.{Code};
 ghost use Rattle.path_walk.specs.Paths.{Paths, ArePaths};
 ghost use Rattle.lawful_order.specs.Events.{all_events, number_of};
 ghost use Rattle.lawful_order.specs.Whole.{AreWhole, HasStep};

@@ -22,7 +22,8 @@ pub record Order : Type 0 where
 
 -- an order without questions
 abbrev pub order_without_questions : (events sleeps : ℕ) → Order
-order_without_questions events sleeps = record { events = events; sleeps = sleeps; pairs = []; choices = [] }
+order_without_questions events sleeps =
+    record { events = events; sleeps = sleeps; pairs = []; choices = [] }
 
 -- two events as a pair, the lesser number first
 abbrev pub pair_of : (first second : ℕ) → Pair
@@ -105,7 +106,8 @@ module _ (o : Order) where
 module _ (o : Order) where
   abbrev pub AtomIsAsked : Atom → Type 0
   AtomIsAsked (Before first second) = IsTrue (list_any (same_pair (pair_of first second)) o.pairs)
-  AtomIsAsked (Ends sleep by) = IsTrue (list_any (same_choice (record { sleep = sleep; by = by })) o.choices)
+  AtomIsAsked (Ends sleep by) =
+      IsTrue (list_any (same_choice (record { sleep = sleep; by = by })) o.choices)
   AtomIsAsked (Test _) = Unit {0}
 
   abbrev pub LiteralIsAsked : Literal → Type 0

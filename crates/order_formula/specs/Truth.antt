@@ -66,11 +66,14 @@ module _ (nodes : List Node) (w : World) where
   pub record IsSource (r : Read) (c : Candidate) : Type 0 where
     pub among : Contains r.candidates c
     pub read : is_read r c ≡ true
-    pub last : (d : Candidate) → Contains r.candidates d → is_read r d ≡ true → position w d.event ≤ position w c.event
+    pub last : (d : Candidate) → Contains r.candidates d → is_read r d ≡ true
+        → position w d.event ≤ position w c.event
 
   -- the load takes the value of its source, or its cell's initial value if it has none
   abbrev pub read_at : Read → Bool
-  read_at r = int_eq (value_at r.takes) (option_map_or (λ c. value_at c.value) (source_at r) (value_at r.start))
+  read_at r =
+      int_eq (value_at r.takes)
+      (option_map_or (λ c. value_at c.value) (source_at r) (value_at r.start))
 
   -- one of the cases holds, or the load takes the right value
   abbrev pub body_at : Body → Bool

@@ -8,7 +8,9 @@ abbrev pub Counts : Option ℕ → World → ℕ → Type 0
 Counts failing w e = position w e < end_at failing w
 
 -- of two events that count, of different threads, the later has a higher level; no level exceeds k
-pub record AreLevels (threads : List ℕ) (failing : Option ℕ) (w : World) (k : ℕ) (level : ℕ → ℕ) : Type 0 where
-  pub rise : (e f : ℕ) → e < length threads → f < length threads → get_or threads e 0 ≢ get_or threads f 0 → is_before w e f ≡ true
+pub record AreLevels (threads : List ℕ) (failing : Option ℕ) (w : World) (k : ℕ)
+    (level : ℕ → ℕ) : Type 0 where
+  pub rise : (e f : ℕ) → e < length threads → f < length threads
+      → get_or threads e 0 ≢ get_or threads f 0 → is_before w e f ≡ true
       → Counts failing w f → level e < level f
   pub most : (f : ℕ) → f < length threads → Counts failing w f → level f ≤ k

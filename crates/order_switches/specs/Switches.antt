@@ -30,7 +30,8 @@ end_at failing w = option_map_or (λ e. position w e + 1) failing 256
 
 -- the threads of the events up to the end, in order
 abbrev pub threads_in_order : List ℕ → Option ℕ → World → List ℕ
-threads_in_order threads failing w = filter_map (thread_at threads w) (range_with_len 0 (end_at failing w))
+threads_in_order threads failing w =
+    filter_map (thread_at threads w) (range_with_len 0 (end_at failing w))
 
 abbrev pub switches : List ℕ → Option ℕ → World → ℕ
 switches threads failing w = changes (λ t u. t == u) (threads_in_order threads failing w)

@@ -1,27 +1,27 @@
 -- The formula of a log is true in some world exactly if some order is lawful.
 use Rattle.std.proofs.Common.{◌≡◌, List, [], ◌++◌, refl, sym, subst}
 use Rattle.std.specs.Prelude.{◌↔◌, fold}
-use Rattle.tc_base.specs.declared.moves.Move.{Move}
-use Rattle.tc_code.specs.Run.{Reproduces}
-use Rattle.path_walk.specs.Fits.{Fits}
-use Rattle.path_walk.specs.Paths.{ArePaths, Paths, paths_of}
-use Rattle.run_follows.specs.Follow.{moves_for}
-use Rattle.run_history.specs.History.{history}
-use Rattle.path_laws.specs.Setting.{Setting}
-use Rattle.sym_terms.specs.Terms.{AreTerms, with_node}
-use Rattle.sym_exec.specs.Executed.{Executed, executed}
-use Rattle.sym_exec.specs.Making.{Grows}
-use Rattle.sym_exec.proofs.Grown.{grows_both}
-use Rattle.sym_events.proofs.Terms.{have_terms, have_tests}
-use Rattle.order_formula.specs.Worlds.{World}
-use Rattle.order_formula.specs.declared.group.Group.{Group}
-use Rattle.lawful_order.specs.Lawful.{MeetsRule}
-use Rattle.order_cells.proofs.Needs.{grows_all}
-use Rattle.memory_order.specs.Own.{own_needs}
-use Rattle.read_write.specs.Reading.{read_needs}
+use Rattle.lawful_terms.specs.tc_base.declared.moves.Move.{Move}
+use Rattle.clap_system.specs.tc_code.Run.{Reproduces}
+use Rattle.clap_system.specs.path_walk.Fits.{Fits}
+use Rattle.clap_system.specs.path_walk.Paths.{ArePaths, Paths, paths_of}
+use Rattle.plan_runs.specs.run_follows.Follow.{moves_for}
+use Rattle.plan_runs.specs.run_history.History.{history}
+use Rattle.plan_runs.specs.path_laws.Setting.{Setting}
+use Rattle.clap_system.specs.sym_terms.Terms.{AreTerms, with_node}
+use Rattle.clap_system.specs.sym_exec.Executed.{Executed, executed}
+use Rattle.clap_system.specs.sym_exec.Making.{Grows}
+use Rattle.clap_system.proofs.sym_exec.Grown.{grows_both}
+use Rattle.clap_system.proofs.sym_events.Terms.{have_terms, have_tests}
+use Rattle.clap_system.specs.order_formula.Worlds.{World}
+use Rattle.clap_system.specs.order_formula.declared.group.Group.{Group}
+use Rattle.lawful_terms.specs.lawful_order.Lawful.{MeetsRule}
+use Rattle.lawful_terms.proofs.order_cells.Needs.{grows_all}
+use Rattle.lawful_terms.specs.memory_order.Own.{own_needs}
+use Rattle.clap_system.specs.read_write.Reading.{read_needs}
 use Rattle.lawful_terms.proofs.Same.{MeanSame, meets, more_mean_same, turned}
-use Rattle.world_plan.specs.Going.{IsLawfulWorld}
-use Rattle.world_plan.specs.Plan.{plan}
+use Rattle.plan_runs.specs.world_plan.Going.{IsLawfulWorld}
+use Rattle.plan_runs.specs.world_plan.Plan.{plan}
 use Rattle.plan_runs.proofs.Laws.{given}
 use Rattle.plan_runs.proofs.Runs.{plan_reproduces}
 use Rattle.run_lawful.proofs.Lawful.{is_lawful}

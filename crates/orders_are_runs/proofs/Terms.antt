@@ -5,34 +5,34 @@ use Rattle.std.specs.List.{All, Contains, IsDistinct, filter_map}
 use Rattle.std.specs.Option.{option_map_or}
 use Rattle.std.proofs.lemmas.List.Elements.{All-nil, All-cons, All-contains, All-head, All-tail, All-weaker}
 use Rattle.std.proofs.lemmas.Option.{cond_some, none-some, option_and_then_some}
-use Rattle.int_ops.specs.declared.arith.BinOp.TheVariants.{Eq}
-use Rattle.tc_code.specs.Code.{Code}
-use Rattle.tc_code.specs.Lawful.{IsLawful}
-use Rattle.path_walk.specs.Paths.{Paths}
-use Rattle.path_walk.specs.declared.event.Event.{Event}
-use Rattle.store_buffers.specs.Pending.{Binding}
-use Rattle.sym_terms.specs.Terms.{AreTerms, NamesBelow, same_node, with_node}
-use Rattle.sym_terms.specs.declared.node.Node.{Node}
-use Rattle.sym_terms.specs.declared.node.Node.TheVariants.{Constant, Symbol, Unary, Binary}
-use Rattle.sym_terms.proofs.Growth.{are_with, grows}
-use Rattle.sym_exec.specs.Executed.{Executed, Symbolic, executed}
-use Rattle.sym_exec.specs.declared.symbolic.Access.{Access}
-use Rattle.sym_exec.specs.declared.symbolic.Cell.{Cell}
-use Rattle.sym_exec.specs.declared.symbolic.Cell.TheVariants.{Fixed, Element}
-use Rattle.sym_laws.proofs.Executed.{whole_on}
-use Rattle.sym_events.proofs.Terms.{have_terms}
-use Rattle.lawful_order.specs.Cells.{value_at_start}
-use Rattle.lawful_order.specs.Events.{Of}
-use Rattle.order_cells.specs.Same.{known_same, same_test}
-use Rattle.order_cells.specs.Terms.{AccessIsOf, CellIsOf, HaveTerms}
-use Rattle.order_events.proofs.Lists.{of_filter_map, of_flat_map}
-use Rattle.order_events.proofs.Parts.{each_in, in_of_each, of_option}
-use Rattle.memory_order.specs.Own.{cells_of, keeps, kept_test, own_needs, thread_tests, two_tests}
-use Rattle.memory_order.specs.Twos.{Two, twos}
-use Rattle.memory_order.proofs.Stay.{cells_within}
-use Rattle.read_write.specs.Accesses.{all_accesses}
-use Rattle.read_write.specs.Reading.{may_be_seen, needs_of, read_needs, test_of}
-use Rattle.read_write.proofs.Numbers.{access_of}
+use Rattle.lawful_terms.specs.int_ops.declared.arith.BinOp.TheVariants.{Eq}
+use Rattle.clap_system.specs.tc_code.Code.{Code}
+use Rattle.clap_system.specs.tc_code.Lawful.{IsLawful}
+use Rattle.clap_system.specs.path_walk.Paths.{Paths}
+use Rattle.clap_system.specs.path_walk.declared.event.Event.{Event}
+use Rattle.clap_system.specs.store_buffers.Pending.{Binding}
+use Rattle.clap_system.specs.sym_terms.Terms.{AreTerms, NamesBelow, same_node, with_node}
+use Rattle.clap_system.specs.sym_terms.declared.node.Node.{Node}
+use Rattle.clap_system.specs.sym_terms.declared.node.Node.TheVariants.{Constant, Symbol, Unary, Binary}
+use Rattle.clap_system.proofs.sym_terms.Growth.{are_with, grows}
+use Rattle.clap_system.specs.sym_exec.Executed.{Executed, Symbolic, executed}
+use Rattle.clap_system.specs.sym_exec.declared.symbolic.Access.{Access}
+use Rattle.clap_system.specs.sym_exec.declared.symbolic.Cell.{Cell}
+use Rattle.clap_system.specs.sym_exec.declared.symbolic.Cell.TheVariants.{Fixed, Element}
+use Rattle.plan_runs.proofs.sym_laws.Executed.{whole_on}
+use Rattle.clap_system.proofs.sym_events.Terms.{have_terms}
+use Rattle.lawful_terms.specs.lawful_order.Cells.{value_at_start}
+use Rattle.lawful_terms.specs.lawful_order.Events.{Of}
+use Rattle.lawful_terms.specs.order_cells.Same.{known_same, same_test}
+use Rattle.lawful_terms.specs.order_cells.Terms.{AccessIsOf, CellIsOf, HaveTerms}
+use Rattle.clap_system.proofs.order_events.Lists.{of_filter_map, of_flat_map}
+use Rattle.clap_system.proofs.order_events.Parts.{each_in, in_of_each, of_option}
+use Rattle.lawful_terms.specs.memory_order.Own.{cells_of, keeps, kept_test, own_needs, thread_tests, two_tests}
+use Rattle.lawful_terms.specs.memory_order.Twos.{Two, twos}
+use Rattle.lawful_terms.proofs.memory_order.Stay.{cells_within}
+use Rattle.clap_system.specs.read_write.Accesses.{all_accesses}
+use Rattle.clap_system.specs.read_write.Reading.{may_be_seen, needs_of, read_needs, test_of}
+use Rattle.clap_system.proofs.read_write.Numbers.{access_of}
 use Rattle.clap_system.specs.Systems.{system_by}
 use Rattle.clap_system.proofs.Needs.{have_own, with_own}
 

@@ -3,14 +3,14 @@
 #![tactic(auto)]
 
 ghost use Rattle.std.specs.Prelude.{◌↔◌, List};
-ghost use Rattle.tc_base.specs.declared.moves.Move.{Move};
-ghost use Rattle.tc_code.specs.Run.{Reproduces};
-ghost use Rattle.path_walk.specs.Fits.{Fits};
-ghost use Rattle.sym_terms.specs.Terms.{AreTerms};
-ghost use Rattle.sym_terms.specs.declared.node.Node.{Node};
-ghost use Rattle.order_formula.specs.Worlds.{World};
-ghost use Rattle.path_laws.specs.Setting.{Setting};
-ghost use Rattle.world_plan.specs.Going.{IsLawfulWorld};
+ghost use Rattle.lawful_terms.specs.tc_base.declared.moves.Move.{Move};
+ghost use Rattle.clap_system.specs.tc_code.Run.{Reproduces};
+ghost use Rattle.clap_system.specs.path_walk.Fits.{Fits};
+ghost use Rattle.clap_system.specs.sym_terms.Terms.{AreTerms};
+ghost use Rattle.clap_system.specs.sym_terms.declared.node.Node.{Node};
+ghost use Rattle.clap_system.specs.order_formula.Worlds.{World};
+ghost use Rattle.plan_runs.specs.path_laws.Setting.{Setting};
+ghost use Rattle.plan_runs.specs.world_plan.Going.{IsLawfulWorld};
 ghost use Rattle.orders_are_runs.specs.Possible.{IsPossible};
 
 /// A log fits, its paths aren't dead, and some order of their events is lawful, exactly when some

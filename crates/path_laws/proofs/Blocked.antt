@@ -2,14 +2,14 @@
 use Rattle.std.proofs.Common.{◌≡◌, ◌∙◌, Bool, true, false, List, Option, Some, None, refl, sym, ap, ap₂, arith, true≢false}
 use Rattle.std.specs.Prelude.{slice_get, is_none, option_and_then}
 use Rattle.std.proofs.lemmas.Option.{option_and_then_some, slice_get_past}
-use Rattle.tc_base.specs.States.{Local}
-use Rattle.tc_code.specs.Code.{Code, instr_at}
-use Rattle.tc_code.specs.Step.{request, site}
-use Rattle.tc_code.specs.declared.instr.Instr.{Instr}
-use Rattle.tc_code.specs.declared.instr.Instr.TheVariants.{Inside, Holds, Lock, Wake, Ready, Join, Assert, Nonzero, InRange, Exit}
-use Rattle.tc_code.specs.Lawful.{IsLawful}
-use Rattle.run_laws.specs.Laws.{IsPastExit}
-use Rattle.run_laws.proofs.Stuck.{may_wait}
+use Rattle.path_walk.specs.tc_base.States.{Local}
+use Rattle.path_walk.specs.tc_code.Code.{Code, instr_at}
+use Rattle.path_walk.specs.tc_code.Step.{request, site}
+use Rattle.path_walk.specs.tc_code.declared.instr.Instr.{Instr}
+use Rattle.path_walk.specs.tc_code.declared.instr.Instr.TheVariants.{Inside, Holds, Lock, Wake, Ready, Join, Assert, Nonzero, InRange, Exit}
+use Rattle.path_walk.specs.tc_code.Lawful.{IsLawful}
+use Rattle.run_follows.specs.run_laws.Laws.{IsPastExit}
+use Rattle.run_follows.proofs.run_laws.Stuck.{may_wait}
 use Rattle.path_walk.specs.Steps.{can_block}
 use Rattle.path_walk.specs.Marks.{Marks}
 use Rattle.path_walk.specs.Events.{blocked_at}

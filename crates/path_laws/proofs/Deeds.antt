@@ -11,23 +11,23 @@ use Rattle.std.proofs.Math.Bool.{and-true, and-false}
 use Rattle.std.proofs.Math.Dec.{eqb-suc-zero}
 use Rattle.std.proofs.lemmas.Bool.{eqb-true, eq-eqb, lt-ltb, le-ltb}
 use Rattle.std.proofs.lemmas.List.{length-map, length-drop, length-take-le, map-append, take-append-drop}
-use Rattle.tc_base.specs.Buffers.{BufferOps}
-use Rattle.run_log.specs.Logs.{Log}
-use Rattle.tc_base.specs.Paths.{ThreadPath}
-use Rattle.tc_base.specs.Names.{Name, by_name}
-use Rattle.tc_base.specs.States.{Local, Thread, State}
-use Rattle.tc_base.specs.declared.handle.Handle.TheVariants.{Unset}
-use Rattle.tc_base.specs.declared.moves.Move.{Move}
-use Rattle.tc_base.specs.declared.request.Request.{Request}
-use Rattle.tc_base.specs.declared.request.Request.TheVariants.{WakeOne}
-use Rattle.tc_code.specs.Code.{Code, instr_at, line_at}
-use Rattle.tc_code.proofs.Facts.{at_its_place}
-use Rattle.tc_code.specs.declared.instr.Instr.{Instr}
-use Rattle.tc_code.specs.declared.instr.Instr.TheVariants.{Inside, Holds, Signal, Create, Ready, Join, Assert, Nonzero, InRange}
-use Rattle.tc_code.specs.Lawful.{IsLawful}
-use Rattle.tc_code.specs.Run.{run, IsReached}
-use Rattle.tc_code.specs.Step.{request, site, child_number, instr_of, perform, state_after_wake, opening}
-use Rattle.tc_code.specs.Step as machine
+use Rattle.path_walk.specs.tc_base.Buffers.{BufferOps}
+use Rattle.path_walk.specs.run_log.Logs.{Log}
+use Rattle.path_walk.specs.tc_base.Paths.{ThreadPath}
+use Rattle.path_walk.specs.tc_base.Names.{Name, by_name}
+use Rattle.path_walk.specs.tc_base.States.{Local, Thread, State}
+use Rattle.path_walk.specs.tc_base.declared.handle.Handle.TheVariants.{Unset}
+use Rattle.path_walk.specs.tc_base.declared.moves.Move.{Move}
+use Rattle.path_walk.specs.tc_base.declared.request.Request.{Request}
+use Rattle.path_walk.specs.tc_base.declared.request.Request.TheVariants.{WakeOne}
+use Rattle.path_walk.specs.tc_code.Code.{Code, instr_at, line_at}
+use Rattle.path_walk.proofs.tc_code.Facts.{at_its_place}
+use Rattle.path_walk.specs.tc_code.declared.instr.Instr.{Instr}
+use Rattle.path_walk.specs.tc_code.declared.instr.Instr.TheVariants.{Inside, Holds, Signal, Create, Ready, Join, Assert, Nonzero, InRange}
+use Rattle.path_walk.specs.tc_code.Lawful.{IsLawful}
+use Rattle.path_walk.specs.tc_code.Run.{run, IsReached}
+use Rattle.path_walk.specs.tc_code.Step.{request, site, child_number, instr_of, perform, state_after_wake, opening}
+use Rattle.path_walk.specs.tc_code.Step as machine
 use Rattle.path_walk.specs.Steps.{Step, step_at, steps_at}
 use Rattle.path_walk.specs.Fits.{fails_in, places_in, Fits}
 use Rattle.path_walk.specs.Marks.{Marks, Marked, marks_at_start, marks_after_instr, marked_from, marked_steps}
@@ -37,13 +37,13 @@ use Rattle.path_walk.specs.declared.event.Event.{Event}
 use Rattle.path_walk.specs.declared.event.EventKind.{EventKind}
 use Rattle.path_walk.specs.declared.event.EventKind.TheVariants as kind
 use Rattle.path_walk.proofs.Places.{count}
-use Rattle.run_laws.proofs.Changes.{is_fail}
-use Rattle.run_laws.proofs.Names.{same_self, same_other, same_or_apart, get_put, get_put_apart}
-use Rattle.run_history.specs.History.{Deed, Did, Drained, value_taken, created_by, history}
-use Rattle.run_history.specs.Locals.{after_step}
-use Rattle.run_history.proofs.Frame.{Keeps, holds_after}
-use Rattle.run_history.proofs.Lists.{filter_map-push, last_or-push}
-use Rattle.run_history.proofs.Threads.{own, steps_by, find, Its_own, Its_child, Another}
+use Rattle.run_follows.proofs.run_laws.Changes.{is_fail}
+use Rattle.run_follows.proofs.run_laws.Names.{same_self, same_other, same_or_apart, get_put, get_put_apart}
+use Rattle.run_follows.specs.run_history.History.{Deed, Did, Drained, value_taken, created_by, history}
+use Rattle.run_follows.specs.run_history.Locals.{after_step}
+use Rattle.run_follows.proofs.run_history.Frame.{Keeps, holds_after}
+use Rattle.run_follows.proofs.run_history.Lists.{filter_map-push, last_or-push}
+use Rattle.run_follows.proofs.run_history.Threads.{own, steps_by, find, Its_own, Its_child, Another}
 use Rattle.path_laws.specs.Along.{HasMarks, IsAlong}
 use Rattle.path_laws.specs.Deeds.{number_by, kind_of, EventDone, done_as, event_by, events_before}
 use Rattle.path_laws.specs.Prefixes.{fails_by, AreOnPaths}

@@ -3,28 +3,28 @@ use Rattle.std.proofs.Common.{◌≡◌, ◌≢◌, ◌∙◌, inl, inr, ℕ, �
 use Rattle.std.proofs.Common.{refl, sym, ap, subst, arith, append-nil, bytes_eq, true≢false}
 use Rattle.std.specs.FinMap as fin
 use Rattle.std.proofs.lemmas.Option.{none-some}
-use Rattle.tc_base.specs.Buffers.{BufferOps}
-use Rattle.tc_base.specs.Names.{Name}
-use Rattle.tc_base.specs.States.{Local, Thread, State}
-use Rattle.tc_base.specs.declared.moves.Move.{Move}
-use Rattle.tc_base.specs.declared.moves.Move.TheVariants as move
-use Rattle.tc_base.specs.declared.request.Request.{Request}
-use Rattle.tc_base.specs.declared.request.Request.TheVariants.{Write, WakeOne, Fail}
-use Rattle.tc_code.specs.Code.{Code}
-use Rattle.tc_code.specs.declared.instr.Instr.{Instr}
-use Rattle.tc_code.specs.declared.instr.Instr.TheVariants.{Signal}
-use Rattle.tc_code.specs.Run.{IsReached}
-use Rattle.tc_code.specs.Step.{request, local_after, instr_of, perform, state_after_wake, step}
-use Rattle.tc_code.specs.Step as machine
-use Rattle.tc_base.proofs.Names.{same_true, same_refl}
-use Rattle.run_laws.proofs.Changes.{is_fail}
-use Rattle.run_laws.proofs.Names.{same_or_apart, one_under, get_put, get_put_apart}
-use Rattle.run_laws.proofs.Steps.{Went, step_went, none_failed}
-use Rattle.run_history.specs.History.{value_taken}
-use Rattle.run_history.specs.Locals.{after_step}
-use Rattle.run_laws.proofs.Basics.{by_bool}
-use Rattle.run_history.proofs.Shared.{store_as}
-use Rattle.run_history.proofs.Threads.{own, with_born, performed_threads, find, steps_by, Its_own, Its_child, Another}
+use Rattle.path_walk.specs.tc_base.Buffers.{BufferOps}
+use Rattle.path_walk.specs.tc_base.Names.{Name}
+use Rattle.path_walk.specs.tc_base.States.{Local, Thread, State}
+use Rattle.path_walk.specs.tc_base.declared.moves.Move.{Move}
+use Rattle.path_walk.specs.tc_base.declared.moves.Move.TheVariants as move
+use Rattle.path_walk.specs.tc_base.declared.request.Request.{Request}
+use Rattle.path_walk.specs.tc_base.declared.request.Request.TheVariants.{Write, WakeOne, Fail}
+use Rattle.path_walk.specs.tc_code.Code.{Code}
+use Rattle.path_walk.specs.tc_code.declared.instr.Instr.{Instr}
+use Rattle.path_walk.specs.tc_code.declared.instr.Instr.TheVariants.{Signal}
+use Rattle.path_walk.specs.tc_code.Run.{IsReached}
+use Rattle.path_walk.specs.tc_code.Step.{request, local_after, instr_of, perform, state_after_wake, step}
+use Rattle.path_walk.specs.tc_code.Step as machine
+use Rattle.path_walk.proofs.tc_base.Names.{same_true, same_refl}
+use Rattle.run_follows.proofs.run_laws.Changes.{is_fail}
+use Rattle.run_follows.proofs.run_laws.Names.{same_or_apart, one_under, get_put, get_put_apart}
+use Rattle.run_follows.proofs.run_laws.Steps.{Went, step_went, none_failed}
+use Rattle.run_follows.specs.run_history.History.{value_taken}
+use Rattle.run_follows.specs.run_history.Locals.{after_step}
+use Rattle.run_follows.proofs.run_laws.Basics.{by_bool}
+use Rattle.run_follows.proofs.run_history.Shared.{store_as}
+use Rattle.run_follows.proofs.run_history.Threads.{own, with_born, performed_threads, find, steps_by, Its_own, Its_child, Another}
 use Rattle.path_laws.specs.Prefixes.{fails_by}
 use Rattle.path_laws.proofs.Local.{moves}
 

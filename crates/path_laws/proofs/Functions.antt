@@ -4,15 +4,15 @@ use Rattle.std.specs.Prelude.{slice_get, option_and_then}
 use Rattle.std.specs.FinMap as fin
 use Rattle.std.proofs.lemmas.List.{map-append, length-append}
 use Rattle.std.proofs.lemmas.List.Elements.{filter_map-append}
-use Rattle.tc_base.specs.Names.{Name}
-use Rattle.run_log.specs.Logs.{Log}
-use Rattle.tc_base.specs.States.{Local, Thread, State}
-use Rattle.tc_code.specs.Code.{Code}
+use Rattle.path_walk.specs.tc_base.Names.{Name}
+use Rattle.path_walk.specs.run_log.Logs.{Log}
+use Rattle.path_walk.specs.tc_base.States.{Local, Thread, State}
+use Rattle.path_walk.specs.tc_code.Code.{Code}
 use Rattle.path_walk.specs.Steps.{Step, step_at, steps_at}
 use Rattle.path_walk.specs.Fits.{starts, started, places_in, child_function, function_of}
 use Rattle.path_walk.proofs.Faults.{function_of_child}
 use Rattle.path_laws.specs.Prefixes.{fails_by}
-use Rattle.list_laws.proofs.Lists.{get_front}
+use Rattle.path_walk.proofs.list_laws.Lists.{get_front}
 use Rattle.path_laws.proofs.States.{created, told_is, AllKnown}
 
 module _ (code : Code) (log : Log) where

@@ -1,3 +1,6 @@
+pub use Rattle.run_follows.proofs as run_follows
+pub use Rattle.run_follows.proofs.run_history
+pub use Rattle.run_follows.proofs.run_laws
 pub mod Local
 pub mod Does
 pub mod States

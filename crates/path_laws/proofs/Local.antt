@@ -7,20 +7,20 @@ use Rattle.std.proofs.Math.Bool.{and-true, and-false, or-false}
 use Rattle.std.proofs.lemmas.Bool.{eqb-true}
 use Rattle.std.proofs.lemmas.List.{map-append, length-append}
 use Rattle.std.proofs.lemmas.Option.{none-some, same_Some}
-use Rattle.tc_base.specs.States.{Local}
-use Rattle.tc_base.specs.declared.handle.Handle.TheVariants.{Unset, Child, Joined}
-use Rattle.tc_code.specs.Code.{Code, instr_at}
-use Rattle.tc_code.specs.declared.instr.Instr.{Instr}
-use Rattle.tc_code.specs.declared.instr.Instr.TheVariants.{Branch, Goto, Lock, Unlock, Sleep, Wake}
-use Rattle.tc_code.specs.declared.instr.Instr.TheVariants.{Create, Join, Exit}
-use Rattle.tc_code.specs.Step.{child_number, step_by_branch, local_after, is_nonzero, value_in}
+use Rattle.path_walk.specs.tc_base.States.{Local}
+use Rattle.path_walk.specs.tc_base.declared.handle.Handle.TheVariants.{Unset, Child, Joined}
+use Rattle.path_walk.specs.tc_code.Code.{Code, instr_at}
+use Rattle.path_walk.specs.tc_code.declared.instr.Instr.{Instr}
+use Rattle.path_walk.specs.tc_code.declared.instr.Instr.TheVariants.{Branch, Goto, Lock, Unlock, Sleep, Wake}
+use Rattle.path_walk.specs.tc_code.declared.instr.Instr.TheVariants.{Create, Join, Exit}
+use Rattle.path_walk.specs.tc_code.Step.{child_number, step_by_branch, local_after, is_nonzero, value_in}
 use Rattle.path_walk.specs.Steps.{Step, Onward, onward, places_from, end_from, step_at, steps_at}
 use Rattle.path_walk.specs.Steps as path
 use Rattle.path_walk.specs.Fits.{starts, started}
 use Rattle.path_walk.specs.Marks.{Marks, Marked, marks_at_start, marks_after_instr, marks_after, marked_from, marked_steps}
 use Rattle.path_walk.specs.Events.{excludes, is_impossible}
 use Rattle.path_walk.proofs.Places.{unrolled, step_more, end_more}
-use Rattle.run_history.proofs.Lists.{filter_map-push}
+use Rattle.run_follows.proofs.run_history.Lists.{filter_map-push}
 use Rattle.path_walk.specs.declared.fault.Misfit.{Misfit}
 use Rattle.path_laws.specs.Along.{HasMarks, IsAlong}
 

@@ -9,21 +9,21 @@ use Rattle.std.specs.Result.{result_unwrap_or, result_err}
 use Rattle.std.proofs.lemmas.List.{length-append}
 use Rattle.std.proofs.lemmas.List.Folds.{list_all_at}
 use Rattle.std.proofs.lemmas.Option.{none-some, same_Some, slice_get-get_or, slice_get-map, slice_get_within}
-use Rattle.tc_base.specs.Names.{Name, child}
-use Rattle.run_log.specs.Logs.{Log}
-use Rattle.tc_base.specs.Paths.{Path, ThreadPath, path_under}
-use Rattle.tc_base.specs.States.{Local, Thread, State}
-use Rattle.tc_base.specs.declared.failing.Failing.{Failing}
-use Rattle.tc_base.specs.declared.failing.Failing.TheVariants as failing
-use Rattle.tc_base.specs.declared.moves.Move.{Move}
-use Rattle.tc_base.specs.declared.request.Request.TheVariants.{Fail}
-use Rattle.tc_base.proofs.Names.{HasParent, parent_of, same_true}
-use Rattle.tc_code.specs.Code.{Code, instr_at}
-use Rattle.tc_code.specs.Step.{request}
-use Rattle.tc_code.proofs.Facts.{at_its_place}
-use Rattle.tc_code.specs.declared.instr.Instr.{Instr}
-use Rattle.tc_code.specs.declared.instr.Instr.TheVariants.{Create, Exit}
-use Rattle.tc_code.specs.Run.{Reproduces, EndsAs, IsStuck, IsReached, path_of}
+use Rattle.path_walk.specs.tc_base.Names.{Name, child}
+use Rattle.path_walk.specs.run_log.Logs.{Log}
+use Rattle.path_walk.specs.tc_base.Paths.{Path, ThreadPath, path_under}
+use Rattle.path_walk.specs.tc_base.States.{Local, Thread, State}
+use Rattle.path_walk.specs.tc_base.declared.failing.Failing.{Failing}
+use Rattle.path_walk.specs.tc_base.declared.failing.Failing.TheVariants as failing
+use Rattle.path_walk.specs.tc_base.declared.moves.Move.{Move}
+use Rattle.path_walk.specs.tc_base.declared.request.Request.TheVariants.{Fail}
+use Rattle.path_walk.proofs.tc_base.Names.{HasParent, parent_of, same_true}
+use Rattle.path_walk.specs.tc_code.Code.{Code, instr_at}
+use Rattle.path_walk.specs.tc_code.Step.{request}
+use Rattle.path_walk.proofs.tc_code.Facts.{at_its_place}
+use Rattle.path_walk.specs.tc_code.declared.instr.Instr.{Instr}
+use Rattle.path_walk.specs.tc_code.declared.instr.Instr.TheVariants.{Create, Exit}
+use Rattle.path_walk.specs.tc_code.Run.{Reproduces, EndsAs, IsStuck, IsReached, path_of}
 use Rattle.path_walk.specs.Steps.{step_at, steps_at, is_failing, is_site, can_block, ends_at_site, standing, places_if_well_ended, places_of}
 use Rattle.path_walk.specs.Fits.{starts, started, ending_by, ending_of, fails_in, places_in, child_function, function_of, Fits}
 use Rattle.path_walk.specs.Marks.{marks_at_start, marks_after, marked_steps}
@@ -35,12 +35,12 @@ use Rattle.path_walk.specs.declared.fault.Misfit.{Misfit}
 use Rattle.path_walk.specs.declared.fault.Misfit.TheVariants as misfit
 use Rattle.path_walk.proofs.Faults.{option_is, there, not_there, function_of_child, walked_there, no_child, nobody, by_path}
 use Rattle.path_walk.proofs.Drafts.{under_own}
-use Rattle.run_laws.proofs.Created.{reached_is_created}
-use Rattle.run_laws.proofs.Exits.{exited_past_exit, has_next}
-use Rattle.run_laws.proofs.Main.{main_is_there}
-use Rattle.run_laws.proofs.Stuck.{stuck_waits}
-use Rattle.run_history.proofs.of_pending.Stuck.{stuck_is_drained}
-use Rattle.list_laws.proofs.Lists.{get_seam}
+use Rattle.run_follows.proofs.run_laws.Created.{reached_is_created}
+use Rattle.run_follows.proofs.run_laws.Exits.{exited_past_exit, has_next}
+use Rattle.run_follows.proofs.run_laws.Main.{main_is_there}
+use Rattle.run_follows.proofs.run_laws.Stuck.{stuck_waits}
+use Rattle.run_follows.proofs.run_history.of_pending.Stuck.{stuck_is_drained}
+use Rattle.path_walk.proofs.list_laws.Lists.{get_seam}
 use Rattle.path_laws.specs.Along.{IsAlong}
 use Rattle.path_laws.specs.Prefixes.{fails_by}
 use Rattle.path_laws.proofs.Blocked.{waits_where_blocked, blocked_there, none_behind_exit}

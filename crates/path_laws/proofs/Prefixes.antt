@@ -8,31 +8,31 @@ use Rattle.std.proofs.Math.Bool.{and-true}
 use Rattle.std.proofs.lemmas.Bool.{and_parts, eqb-true, eq-eqb}
 use Rattle.std.proofs.lemmas.List.{take-append-drop}
 use Rattle.std.proofs.lemmas.Option.{none-some, same_Some, option_and_then_some}
-use Rattle.tc_base.specs.Buffers.{BufferOps}
-use Rattle.run_log.specs.Logs.{Log}
-use Rattle.tc_base.specs.Paths.{Path, ThreadPath, path_under}
-use Rattle.tc_base.specs.Names.{Name}
-use Rattle.tc_base.specs.States.{Local, Thread, State}
-use Rattle.tc_base.specs.declared.moves.Move.{Move}
-use Rattle.tc_base.specs.declared.request.Request.{Request}
-use Rattle.tc_code.specs.Code.{Code, instr_at}
-use Rattle.tc_code.proofs.Facts.{at_its_place, failed_as_logged, run_from-append, step_is_reached}
-use Rattle.tc_code.specs.declared.instr.Instr.{Instr}
-use Rattle.tc_code.specs.Lawful.{IsLawful}
-use Rattle.tc_code.specs.Run.{run, run_from, Reproduces, IsReached, path_of}
-use Rattle.tc_code.specs.Step.{step, opening}
-use Rattle.run_log.specs.Logs.{is_log, rises_from}
-use Rattle.list_laws.proofs.Lists.{split_at}
-use Rattle.run_log.proofs.Rising.{own_path}
+use Rattle.path_walk.specs.tc_base.Buffers.{BufferOps}
+use Rattle.path_walk.specs.run_log.Logs.{Log}
+use Rattle.path_walk.specs.tc_base.Paths.{Path, ThreadPath, path_under}
+use Rattle.path_walk.specs.tc_base.Names.{Name}
+use Rattle.path_walk.specs.tc_base.States.{Local, Thread, State}
+use Rattle.path_walk.specs.tc_base.declared.moves.Move.{Move}
+use Rattle.path_walk.specs.tc_base.declared.request.Request.{Request}
+use Rattle.path_walk.specs.tc_code.Code.{Code, instr_at}
+use Rattle.path_walk.proofs.tc_code.Facts.{at_its_place, failed_as_logged, run_from-append, step_is_reached}
+use Rattle.path_walk.specs.tc_code.declared.instr.Instr.{Instr}
+use Rattle.path_walk.specs.tc_code.Lawful.{IsLawful}
+use Rattle.path_walk.specs.tc_code.Run.{run, run_from, Reproduces, IsReached, path_of}
+use Rattle.path_walk.specs.tc_code.Step.{step, opening}
+use Rattle.path_walk.specs.run_log.Logs.{is_log, rises_from}
+use Rattle.path_walk.proofs.list_laws.Lists.{split_at}
+use Rattle.path_walk.proofs.run_log.Rising.{own_path}
 use Rattle.path_walk.specs.Steps.{Onward, onward, is_failing, places_from, places_of}
 use Rattle.path_walk.specs.Fits.{ending_by, ending_of, fails_in, places_in, function_of, Fits}
 use Rattle.path_walk.specs.declared.ending.Ending.TheVariants.{Fails, Open}
 use Rattle.path_walk.proofs.Faults.{walked_there, by_path}
 use Rattle.path_walk.proofs.Places.{unrolled, count, fits_from}
-use Rattle.run_laws.proofs.Changes.{is_fail}
-use Rattle.run_laws.proofs.Steps.{none_failed}
-use Rattle.run_history.specs.History.{value_taken}
-use Rattle.run_history.proofs.Threads.{own, steps_by}
+use Rattle.run_follows.proofs.run_laws.Changes.{is_fail}
+use Rattle.run_follows.proofs.run_laws.Steps.{none_failed}
+use Rattle.run_follows.specs.run_history.History.{value_taken}
+use Rattle.run_follows.proofs.run_history.Threads.{own, steps_by}
 use Rattle.path_laws.specs.Prefixes.{fails_by, IsOnPath, AreOnPaths}
 use Rattle.path_laws.proofs.Does.{GoesOn, own_fails, Does, Change, By_step, change_of, own_there, still_there}
 use Rattle.path_laws.proofs.Functions.{AreFirst, function_is}

@@ -8,36 +8,36 @@ use Rattle.std.specs.Bool.{beq}
 use Rattle.std.specs.Result.{result_unwrap_or}
 use Rattle.std.proofs.lemmas.Bool.{and_parts}
 use Rattle.std.proofs.lemmas.Option.{none-some}
-use Rattle.tc_base.specs.Names.{Name, ByName, by_name, child}
-use Rattle.tc_base.specs.Buffers.{BufferOps}
-use Rattle.tc_base.specs.States.{Local, Thread, State}
-use Rattle.tc_base.specs.declared.handle.Handle.TheVariants.{Unset}
-use Rattle.tc_base.specs.declared.request.Request.{Request}
-use Rattle.tc_base.specs.declared.request.Request.TheVariants.{Acquire, Start, Fail}
-use Rattle.tc_code.specs.Code.{Code, instr_at}
-use Rattle.tc_code.proofs.Facts.{at_its_place}
-use Rattle.tc_code.specs.declared.instr.Instr.{Instr}
-use Rattle.tc_code.specs.declared.instr.Instr.TheVariants.{Inside, Branch, Goto, Holds, Lock}
-use Rattle.tc_code.specs.declared.instr.Instr.TheVariants.{Signal, Create, Ready, Assert, Nonzero, InRange}
-use Rattle.tc_code.specs.Lawful.{IsLawful}
-use Rattle.tc_code.specs.Run.{IsReached}
-use Rattle.tc_code.specs.Step.{request, site, holds, handle_of, can_be_joined, step_in_place, local_after, arguments_of, instr_of, allows}
-use Rattle.tc_code.specs.Step.{drains_first, perform, born, state_after_wake, opening}
-use Rattle.tc_code.specs.Step as machine
-use Rattle.list_laws.proofs.Lists.{get_front, get_seam}
+use Rattle.path_walk.specs.tc_base.Names.{Name, ByName, by_name, child}
+use Rattle.path_walk.specs.tc_base.Buffers.{BufferOps}
+use Rattle.path_walk.specs.tc_base.States.{Local, Thread, State}
+use Rattle.path_walk.specs.tc_base.declared.handle.Handle.TheVariants.{Unset}
+use Rattle.path_walk.specs.tc_base.declared.request.Request.{Request}
+use Rattle.path_walk.specs.tc_base.declared.request.Request.TheVariants.{Acquire, Start, Fail}
+use Rattle.path_walk.specs.tc_code.Code.{Code, instr_at}
+use Rattle.path_walk.proofs.tc_code.Facts.{at_its_place}
+use Rattle.path_walk.specs.tc_code.declared.instr.Instr.{Instr}
+use Rattle.path_walk.specs.tc_code.declared.instr.Instr.TheVariants.{Inside, Branch, Goto, Holds, Lock}
+use Rattle.path_walk.specs.tc_code.declared.instr.Instr.TheVariants.{Signal, Create, Ready, Assert, Nonzero, InRange}
+use Rattle.path_walk.specs.tc_code.Lawful.{IsLawful}
+use Rattle.path_walk.specs.tc_code.Run.{IsReached}
+use Rattle.path_walk.specs.tc_code.Step.{request, site, holds, handle_of, can_be_joined, step_in_place, local_after, arguments_of, instr_of, allows}
+use Rattle.path_walk.specs.tc_code.Step.{drains_first, perform, born, state_after_wake, opening}
+use Rattle.path_walk.specs.tc_code.Step as machine
+use Rattle.path_walk.proofs.list_laws.Lists.{get_front, get_seam}
 use Rattle.path_walk.specs.Steps.{onward, places_from, steps_at, is_site}
 use Rattle.path_walk.specs.Fits.{starts, started}
 use Rattle.path_walk.specs.Marks.{Marks}
 use Rattle.path_walk.specs.Events.{excludes}
-use Rattle.tc_base.proofs.Names.{same_refl}
-use Rattle.run_laws.specs.Laws.{owner_of}
-use Rattle.run_laws.proofs.Changes.{is_fail, site_is_true}
-use Rattle.run_laws.proofs.Created.{child_is_new}
-use Rattle.run_laws.proofs.Names.{same_or_apart, one_under, get_put, get_put_apart, get_put_cases, child_apart}
-use Rattle.run_laws.proofs.Owners.{owners_hold}
-use Rattle.run_history.proofs.Frame.{Keeps, holds_after}
-use Rattle.run_history.specs.Locals.{after_step}
-use Rattle.run_history.proofs.Threads.{own, with_born, performed_threads, steps_by}
+use Rattle.path_walk.proofs.tc_base.Names.{same_refl}
+use Rattle.run_follows.specs.run_laws.Laws.{owner_of}
+use Rattle.run_follows.proofs.run_laws.Changes.{is_fail, site_is_true}
+use Rattle.run_follows.proofs.run_laws.Created.{child_is_new}
+use Rattle.run_follows.proofs.run_laws.Names.{same_or_apart, one_under, get_put, get_put_apart, get_put_cases, child_apart}
+use Rattle.run_follows.proofs.run_laws.Owners.{owners_hold}
+use Rattle.run_follows.proofs.run_history.Frame.{Keeps, holds_after}
+use Rattle.run_follows.specs.run_history.Locals.{after_step}
+use Rattle.run_follows.proofs.run_history.Threads.{own, with_born, performed_threads, steps_by}
 use Rattle.path_laws.specs.Along.{HasMarks, IsAlong}
 use Rattle.path_laws.specs.Prefixes.{fails_by}
 use Rattle.path_laws.proofs.Does.{bytes_other, failed_after, failed_is}

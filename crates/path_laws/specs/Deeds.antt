@@ -1,11 +1,11 @@
 -- The steps of a history, as steps and events of paths.
 use Rattle.std.specs.Prelude.{ℕ, List, Option, Some, None, option_map, option_and_then, nat_lt, map, if◌then◌else◌}
 use Rattle.std.specs.List.{filter, last_or}
-use Rattle.tc_base.specs.Names.{Name}
-use Rattle.tc_base.specs.declared.request.Request.{Request}
-use Rattle.tc_base.specs.declared.request.Request.TheVariants.{Silent, Read, Write, Exchange, CompareExchange, Bar, Acquire, Release, BeginWait}
-use Rattle.tc_base.specs.declared.request.Request.TheVariants.{EndWait, WakeOne, WakeAll, Start, Await, OrderStores, Finish, Fail}
-use Rattle.run_history.specs.History.{Deed, Did, same}
+use Rattle.path_walk.specs.tc_base.Names.{Name}
+use Rattle.path_walk.specs.tc_base.declared.request.Request.{Request}
+use Rattle.path_walk.specs.tc_base.declared.request.Request.TheVariants.{Silent, Read, Write, Exchange, CompareExchange, Bar, Acquire, Release, BeginWait}
+use Rattle.path_walk.specs.tc_base.declared.request.Request.TheVariants.{EndWait, WakeOne, WakeAll, Start, Await, OrderStores, Finish, Fail}
+use Rattle.run_follows.specs.run_history.History.{Deed, Did, same}
 use Rattle.path_walk.specs.declared.event.Event.{Event}
 use Rattle.path_walk.specs.declared.event.EventKind.{EventKind}
 use Rattle.path_walk.specs.declared.event.EventKind.TheVariants as kind
@@ -46,7 +46,9 @@ done_as e = record { step = e.step; kind = e.kind }
 
 -- a deed as an event of the named thread, if it is one
 abbrev pub event_by : Name → Deed → Option EventDone
-event_by n (Did q k r took other) = if same n q then option_map (λ asked. record { step = k; kind = asked }) (kind_of r other) else None
+event_by n (Did q k r took other) =
+    if same n q then option_map (λ asked. record { step = k; kind = asked }) (kind_of r other)
+    else None
 event_by n _ = None
 
 -- the events of the first `steps` steps

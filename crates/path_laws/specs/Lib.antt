@@ -1,3 +1,8 @@
+pub use Rattle.path_walk.specs as path_walk
+pub use Rattle.run_follows.specs as run_follows
+pub use Rattle.run_follows.specs.run_history
+pub use Rattle.run_follows.specs.store_buffers
+pub use Rattle.path_walk.specs.tc_code
 pub mod Setting
 pub mod Along
 pub mod Deeds

@@ -2,10 +2,10 @@
 use Rattle.std.specs.Prelude.{◌≡◌, ◌≤◌, ◌==◌, Bool, false, ◌&&◌, List, ◌++◌, Option, Some, bytes_eq}
 use Rattle.std.specs.FinMap as fin
 use Rattle.std.specs.Option.{option_map_or}
-use Rattle.run_log.specs.Logs.{Log}
-use Rattle.tc_base.specs.Paths.{Path, path_under}
-use Rattle.tc_base.specs.Names.{Name}
-use Rattle.tc_base.specs.States.{Local, Thread, State}
+use Rattle.path_walk.specs.run_log.Logs.{Log}
+use Rattle.path_walk.specs.tc_base.Paths.{Path, path_under}
+use Rattle.path_walk.specs.tc_base.Names.{Name}
+use Rattle.path_walk.specs.tc_base.States.{Local, Thread, State}
 use Rattle.path_walk.specs.Fits.{fails_in}
 
 -- whether the named thread is the one that failed
@@ -24,4 +24,5 @@ pub record IsOnPath (log : Log) (failed : Option Name) (n : Name) (t : Local) : 
 
 -- every thread of a state has followed a prefix of its path
 abbrev pub AreOnPaths : {B : Type 0} → Log → State B → Type 0
-AreOnPaths {B} log s = (n : Name) (t : Thread B) → fin.get s.threads n ≡ Some t → IsOnPath log s.failed n t.local
+AreOnPaths {B} log s =
+    (n : Name) (t : Thread B) → fin.get s.threads n ≡ Some t → IsOnPath log s.failed n t.local

@@ -1,14 +1,14 @@
 //! Histories along the paths of a log: how they begin and go on, and what their threads do next.
 //! Each function states a law, and its body does nothing.
 ghost use Rattle.std.specs.Prelude.{◌≡◌, ◌≤◌, ◌<◌, ℕ, ℤ, true, false, Option, Some, None, List, [], ◌∷◌, ◌++◌, length};
-ghost use Rattle.run_log.specs.Logs.{Log};
-ghost use Rattle.tc_base.specs.Names.{Name};
-ghost use Rattle.tc_base.specs.States.{State};
-ghost use Rattle.tc_base.specs.declared.moves.Move.{Move};
-ghost use Rattle.tc_base.specs.declared.request.Request.{Request};
-ghost use Rattle.tc_code.specs.Run.{run, Reproduces};
-ghost use Rattle.run_history.specs.History.{Deed, Did, Drained, history};
-ghost use Rattle.run_history.specs.Told.{is_thread_in, steps_in, failed_in, fails};
+ghost use Rattle.path_walk.specs.run_log.Logs.{Log};
+ghost use Rattle.path_walk.specs.tc_base.Names.{Name};
+ghost use Rattle.path_walk.specs.tc_base.States.{State};
+ghost use Rattle.path_walk.specs.tc_base.declared.moves.Move.{Move};
+ghost use Rattle.path_walk.specs.tc_base.declared.request.Request.{Request};
+ghost use Rattle.path_walk.specs.tc_code.Run.{run, Reproduces};
+ghost use Rattle.run_follows.specs.run_history.History.{Deed, Did, Drained, history};
+ghost use Rattle.run_follows.specs.run_history.Told.{is_thread_in, steps_in, failed_in, fails};
 ghost use Rattle.run_follows.specs.Machine.{Machine};
 ghost use Rattle.run_follows.specs.Follow.{MayFollow, moves_for};
 ghost use Rattle.run_follows.specs.Logged.{EndsAsIn, GoesAsLogged};

@@ -1,17 +1,17 @@
 //! In a deadlock, a thread's next request is the one that blocks it by its path. Each function
 //! states a law, and its body does nothing.
 ghost use Rattle.std.specs.Prelude.{◌≡◌, ◌↔◌, ℕ, true, false, Some, IsSome, List, option_map};
-ghost use Rattle.run_log.specs.Logs.{Log};
-ghost use Rattle.tc_base.specs.declared.failing.Failing.TheVariants.{Deadlock};
-ghost use Rattle.tc_base.specs.declared.moves.Move.{Move};
-ghost use Rattle.tc_code.specs.Code.{Code};
-ghost use Rattle.tc_code.specs.Lawful.{IsLawful};
-ghost use Rattle.tc_code.specs.Run.{Reproduces};
-ghost use Rattle.run_history.specs.History.{history};
-ghost use Rattle.run_history.specs.Locals.{asks_next};
-ghost use Rattle.run_history.specs.Told.{is_thread_in, has_exited_in};
+ghost use Rattle.path_walk.specs.run_log.Logs.{Log};
+ghost use Rattle.path_walk.specs.tc_base.declared.failing.Failing.TheVariants.{Deadlock};
+ghost use Rattle.path_walk.specs.tc_base.declared.moves.Move.{Move};
+ghost use Rattle.path_walk.specs.tc_code.Code.{Code};
+ghost use Rattle.path_walk.specs.tc_code.Lawful.{IsLawful};
+ghost use Rattle.path_walk.specs.tc_code.Run.{Reproduces};
+ghost use Rattle.run_follows.specs.run_history.History.{history};
+ghost use Rattle.run_follows.specs.run_history.Locals.{asks_next};
+ghost use Rattle.run_follows.specs.run_history.Told.{is_thread_in, has_exited_in};
 ghost use Rattle.run_follows.specs.Follow.{IsLeftIn};
-ghost use Rattle.run_log.specs.Logs.{is_log};
+ghost use Rattle.path_walk.specs.run_log.Logs.{is_log};
 ghost use Rattle.path_walk.specs.Fits.{Fits};
 ghost use Rattle.path_walk.specs.declared.event.Blocked.{Blocked};
 ghost use Rattle.path_walk.specs.declared.event.Blocked.TheVariants as blocked;

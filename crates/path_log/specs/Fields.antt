@@ -37,7 +37,9 @@ abbrev pub ◌>>=◌ : {X Y : Type 0} → Fields X → (X → Fields Y) → Fiel
 
 -- one field of n bytes
 abbrev pub field : ℕ → Fields (List ℕ)
-field n place = if nat_lt (length place.1) n then Err place.0 else Ok (take n place.1, (place.0 + n, drop n place.1))
+field n place =
+    if nat_lt (length place.1) n then Err place.0
+    else Ok (take n place.1, (place.0 + n, drop n place.1))
 
 -- the value if it passes the rule, else the offset
 abbrev pub kept : {X : Type 0} → (X → Bool) → ℕ → Result (X × Place) ℕ → Result (X × Place) ℕ
@@ -85,13 +87,15 @@ is_padded n bytes = list_all not (drop n (all_bits bytes))
 
 -- n outcomes, packed eight to a byte
 unfoldable pub packed_outcomes : ℕ → Fields (List Bool)
-packed_outcomes n = (field (bytes_for n) such is_padded n) >>= λ bytes. done (take n (all_bits bytes))
+packed_outcomes n =
+    (field (bytes_for n) such is_padded n) >>= λ bytes. done (take n (all_bits bytes))
 
 -- lengths of runs, each at least 1, until `left` outcomes are covered or `most` lengths are read
 unfoldable pub lengths : ℕ → ℕ → Fields (List ℕ)
 lengths zero left = done []
 lengths (suc most) left = if left == 0 then done []
-    else (two such is_within 1 left) >>= λ n. lengths most (left - n) >>= λ others. done (n ∷ others)
+    else (two such is_within 1 left) >>= λ n. lengths most (left - n) >>= λ others. done
+    (n ∷ others)
 
 -- the outcomes of runs of these lengths, which alternate, beginning with this outcome
 abbrev pub alternating : Bool → List ℕ → List Bool
@@ -104,7 +108,8 @@ runs_of first n = lengths n n >>= λ found. done (alternating first found)
 
 -- n outcomes as runs
 unfoldable pub run_outcomes : ℕ → Fields (List Bool)
-run_outcomes n = if n == 0 then done [] else (byte such is_within 0 1) >>= λ first. runs_of (first == 1) n
+run_outcomes n =
+    if n == 0 then done [] else (byte such is_within 0 1) >>= λ first. runs_of (first == 1) n
 
 -- n outcomes: as runs in format 2, as bits in format 1
 abbrev pub outcomes : Bool → ℕ → Fields (List Bool)
@@ -123,7 +128,8 @@ thread as_runs last = do
 -- n threads, each with a name above the one before it
 unfoldable pub threads : Bool → ℕ → Option Name → Fields (List ThreadPath)
 threads as_runs zero last = done []
-threads as_runs (suc n) last = thread as_runs last >>= λ t. threads as_runs n (Some t.name) >>= λ others. done (t ∷ others)
+threads as_runs (suc n) last =
+    thread as_runs last >>= λ t. threads as_runs n (Some t.name) >>= λ others. done (t ∷ others)
 
 -- the model with this code
 abbrev pub model_of : ℕ → Model
@@ -152,7 +158,9 @@ ending_of code = if code == 255 then Deadlock else Thread code
 
 -- how a run of `count` threads ended
 abbrev pub ending : Bool → ℕ → Fields Failing
-ending both count = (byte >>= λ code. done (ending_of code)) such (λ failing. has_ending both failing && is_there failing count)
+ending both count =
+    (byte >>= λ code. done (ending_of code)) such
+    (λ failing. has_ending both failing && is_there failing count)
 
 -- the head, the number of threads, how the run ended, and each thread
 unfoldable pub body : Fields StoredLog

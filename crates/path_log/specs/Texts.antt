@@ -44,7 +44,8 @@ runs_behind outcome n (next ∷ others) =
 -- the first outcome, then the length of each run in two bytes
 abbrev pub runs_text : List Bool → List ℕ
 runs_text [] = []
-runs_text (first ∷ others) = (if first then 1 else 0) ∷ flat_map (big_bytes 2) (runs_behind first 1 others)
+runs_text (first ∷ others) =
+    (if first then 1 else 0) ∷ flat_map (big_bytes 2) (runs_behind first 1 others)
 
 -- outcomes: as runs in format 2, as bits in format 1
 abbrev pub outcomes_text : Bool → List Bool → List ℕ
@@ -79,7 +80,8 @@ ending_code Deadlock = 255
 -- the head, the number of threads, how the run ended, and each thread
 abbrev pub log_text : StoredLog → List ℕ
 log_text s = head_text s.digest s.log.model
-    ++ (length s.log.threads ∷ ending_code s.log.failing ∷ flat_map (thread_text (is_some s.digest)) s.log.threads)
+    ++ (length s.log.threads ∷ ending_code s.log.failing
+    ∷ flat_map (thread_text (is_some s.digest)) s.log.threads)
 
 -- Which logs have a text.
 

@@ -47,7 +47,14 @@ kind_with t i fails = if fails then Some kind.Fail else asks t i
 -- the event of a step, if it is one
 abbrev pub event_of : Code → ℕ → Marked → Option Event
 event_of code f s =
-    option_map (λ k. record { step = s.number; line = unwrap_or (line_at code f s.step.place) 0; kind = k; bars = s.marks.bars })
+    option_map
+    (λ k. record {
+      step = s.number;
+      line = unwrap_or
+          (line_at code f s.step.place) 0;
+      kind = k;
+      bars = s.marks.bars;
+    })
     (kind_with s.marks s.step.instr s.fails)
 
 -- the events of a thread that runs function f
@@ -69,11 +76,15 @@ released_mutex _ = None
 -- the step of the first event that releases the mutex, if any
 abbrev pub release_step : ℕ → List Event → Option ℕ
 release_step m [] = None
-release_step m (e ∷ es) = if option_map_or (λ l. l == m) (released_mutex e.kind) false then Some e.step else release_step m es
+release_step m (e ∷ es) =
+    if option_map_or (λ l. l == m) (released_mutex e.kind) false then Some e.step
+    else release_step m es
 
 -- the region of an event that acquires a mutex: from its step to the release, if there is one
 abbrev pub region_of : Event → List Event → Option Region
-region_of e later = option_map (λ m. record { mutex = m; «from» = e.step; to = release_step m later }) (acquired_mutex e.kind)
+region_of e later =
+    option_map (λ m. record { mutex = m; «from» = e.step; to = release_step m later })
+    (acquired_mutex e.kind)
 
 abbrev pub regions_of : List Event → List Region
 regions_of [] = []
@@ -81,7 +92,8 @@ regions_of (e ∷ es) = cons_option (region_of e es) (regions_of es)
 
 -- the wait that a sleep begins; the thread's next event, if there is one, is the wake that ends it
 abbrev pub sleep_by : ℕ → Option Event → EventKind → Option Wait
-sleep_by step next (kind.Sleep c m) = Some (record { step = step; condition = c; mutex = m; wake = option_map (λ w. w.step) next })
+sleep_by step next (kind.Sleep c m) =
+    Some (record { step = step; condition = c; mutex = m; wake = option_map (λ w. w.step) next })
 sleep_by step next _ = None
 
 abbrev pub sleeps_of : List Event → List Wait

@@ -42,7 +42,9 @@ fails_in log n = is_failing (ending_of log n)
 module _ (code : Code) (log : Log) where
   -- the places of the named thread's steps in function f, or what is wrong with its path
   abbrev pub places_or_misfit : Name → ℕ → Result (List ℕ) Misfit
-  places_or_misfit n f = option_map_or (places_of code f (ending_of log n)) (path_under n log.threads) (Err misfit.Missing)
+  places_or_misfit n f =
+      option_map_or (places_of code f (ending_of log n)) (path_under n log.threads)
+      (Err misfit.Missing)
 
   -- the places of the named thread's steps in function f, and none if its path is wrong
   abbrev pub places_in : Name → ℕ → List ℕ
@@ -57,7 +59,8 @@ module _ (code : Code) (log : Log) where
   -- the function of a descendant of thread n, which runs f, by the creates that lead to it
   abbrev pub function_below : Name → ℕ → List ℕ → Option ℕ
   function_below n f [] = Some f
-  function_below n f (k ∷ ks) = option_and_then (λ g. function_below (child n k) g ks) (child_function n f k)
+  function_below n f (k ∷ ks) =
+      option_and_then (λ g. function_below (child n k) g ks) (child_function n f k)
 
   -- the function of the named thread, if created: the last for main, that of the create for a child
   abbrev pub function_of : Name → Option ℕ
@@ -69,7 +72,8 @@ module _ (code : Code) (log : Log) where
 
   -- what is wrong with the named thread, if anything
   abbrev pub misfit_of : Name → Option Misfit
-  misfit_of n = option_map_or (λ f. result_err (places_or_misfit n f)) (function_of n) (unless_absent n)
+  misfit_of n =
+      option_map_or (λ f. result_err (places_or_misfit n f)) (function_of n) (unless_absent n)
 
   -- nothing is wrong with any thread
   abbrev pub Fits : Type 0

@@ -19,7 +19,14 @@ pub record Marks : Type 0 where
 
 -- the marks at the start of a function: nothing is held or set
 abbrev pub marks_at_start : Code → ℕ → Marks
-marks_at_start code f = record { held = replicate code.mutexes false; handles = replicate (handles_of code f) Unset; children = 0; bars = 0 }
+marks_at_start code f =
+    record {
+      held = replicate code.mutexes false;
+      handles = replicate
+          (handles_of code f) Unset;
+      children = 0;
+      bars = 0;
+    }
 
 abbrev pub has_mutex : Marks → ℕ → Bool
 has_mutex t m = slice_index_or t.held m false
@@ -33,8 +40,10 @@ marks_after_instr t (Lock m) = record t { held = slice_set t.held m true }
 marks_after_instr t (Unlock m) = record t { held = slice_set t.held m false }
 marks_after_instr t (Sleep c m) = record t { held = slice_set t.held m false }
 marks_after_instr t (Wake c m) = record t { held = slice_set t.held m true }
-marks_after_instr t (Create h f es) = record t { handles = slice_set t.handles h (Child (t.children + 1)); children = t.children + 1 }
-marks_after_instr t (Join h) = record t { handles = slice_set t.handles h (Joined (child_number (handle_in t h))) }
+marks_after_instr t (Create h f es) =
+    record t { handles = slice_set t.handles h (Child (t.children + 1)); children = t.children + 1 }
+marks_after_instr t (Join h) =
+    record t { handles = slice_set t.handles h (Joined (child_number (handle_in t h))) }
 marks_after_instr t Stbar = record t { bars = t.bars + 1 }
 marks_after_instr t _ = t
 
@@ -54,7 +63,8 @@ pub record Marked : Type 0 where
 abbrev pub marked_from : Bool → ℕ → Marks → List Step → List Marked
 marked_from fails k t [] = []
 marked_from fails k t (s ∷ rest) =
-    record { number = k; step = s; fails = fails && length rest == 0; marks = t } ∷ marked_from fails (k + 1) (marks_after_instr t s.instr) rest
+    record { number = k; step = s; fails = fails && length rest == 0; marks = t }
+    ∷ marked_from fails (k + 1) (marks_after_instr t s.instr) rest
 
 -- the steps, with their marks, of a thread that runs function f
 abbrev pub marked_steps : Code → ℕ → Bool → List Step → List Marked

@@ -72,7 +72,9 @@ walk_by code ending t f places =
       sleeps = sleeps;
       creates = creates_of events;
       joins = joins_of events;
-      blocked = blocked_after ending (marks_after (marks_at_start code f) steps) sleeps (standing code f t.path);
+      blocked =
+          blocked_after ending (marks_after (marks_at_start code f) steps) sleeps
+          (standing code f t.path);
     }
 
 -- whether the log claims a deadlock although no thread is blocked
@@ -89,11 +91,14 @@ module _ (code : Code) (log : Log) where
   steps_in t = steps_at code (function_in t) (places_in code log t.name (function_in t))
 
   abbrev pub walk_of : ThreadPath → Walk
-  walk_of t = walk_by code (ending_of log t.name) t (function_in t) (places_in code log t.name (function_in t))
+  walk_of t =
+      walk_by code (ending_of log t.name) t (function_in t)
+      (places_in code log t.name (function_in t))
 
   -- whether the path of one thread alone rules out every run
   abbrev pub is_dead : ThreadPath → Bool
-  is_dead t = list_any is_impossible (marked_steps code (function_in t) (fails_in log t.name) (steps_in t))
+  is_dead t =
+      list_any is_impossible (marked_steps code (function_in t) (fails_in log t.name) (steps_in t))
 
   abbrev pub operators_in : ThreadPath → ℕ
   operators_in t = sum (map (λ s. operators_of s.instr) (steps_in t))

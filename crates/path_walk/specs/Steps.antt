@@ -39,7 +39,8 @@ places_from code f zero k [] = Ok []
 places_from code f zero k (_ ∷ _) = Err OutcomesLeft
 places_from code f (suc n) k outcomes =
     option_map_or
-    (λ i. option_map_or (λ on. with_place k (places_from code f n on.place on.outcomes)) (onward k i outcomes) (Err OutcomesShort))
+    (λ i. option_map_or (λ on. with_place k (places_from code f n on.place on.outcomes))
+    (onward k i outcomes) (Err OutcomesShort))
     (instr_at code f k) (Err PastExit)
 
 -- whether a thread fails in the last step of its path
@@ -51,7 +52,9 @@ is_failing _ = false
 abbrev pub end_from : Code → ℕ → ℕ → ℕ → List Bool → ℕ
 end_from code f zero k outcomes = k
 end_from code f (suc n) k outcomes =
-    option_map_or (λ i. option_map_or (λ on. end_from code f n on.place on.outcomes) (onward k i outcomes) k) (instr_at code f k) k
+    option_map_or
+    (λ i. option_map_or (λ on. end_from code f n on.place on.outcomes) (onward k i outcomes) k)
+    (instr_at code f k) k
 
 -- the next instruction of a thread at the end of its path; none after an exit
 abbrev pub standing : Code → ℕ → Path → Option Instr
@@ -82,7 +85,9 @@ is_site _ = false
 
 -- whether there is a last step, and it is at a site
 abbrev pub ends_at_site : Code → ℕ → List ℕ → Bool
-ends_at_site code f places = option_map_or (λ k. is_site (step_at code f k).instr) (slice_get places (length places - 1)) false
+ends_at_site code f places =
+    option_map_or (λ k. is_site (step_at code f k).instr)
+    (slice_get places (length places - 1)) false
 
 -- whether a thread may block at an instruction
 abbrev pub can_block : Instr → Bool
@@ -92,11 +97,15 @@ can_block (Join h) = true
 can_block _ = false
 
 -- the places found, if the path ends well: a failure at a site, a rest after an exit or at a block
-abbrev pub places_if_well_ended : Code → ℕ → Ending → Path → Result (List ℕ) Misfit → Result (List ℕ) Misfit
-places_if_well_ended code f Fails path (Ok places) = if ends_at_site code f places then Ok places else Err NotASite
-places_if_well_ended code f Rests path (Ok places) = if option_map_or can_block (standing code f path) true then Ok places else Err NotBlocked
+abbrev pub places_if_well_ended : Code → ℕ → Ending → Path → Result (List ℕ) Misfit
+    → Result (List ℕ) Misfit
+places_if_well_ended code f Fails path (Ok places) =
+    if ends_at_site code f places then Ok places else Err NotASite
+places_if_well_ended code f Rests path (Ok places) =
+    if option_map_or can_block (standing code f path) true then Ok places else Err NotBlocked
 places_if_well_ended code f _ path found = found
 
 -- the places of a thread's steps in function f, from its path and ending, or what is wrong
 abbrev pub places_of : Code → ℕ → Ending → Path → Result (List ℕ) Misfit
-places_of code f ending path = places_if_well_ended code f ending path (places_from code f path.steps 0 path.outcomes)
+places_of code f ending path =
+    places_if_well_ended code f ending path (places_from code f path.steps 0 path.outcomes)

@@ -5,7 +5,7 @@ ghost use Rattle.std.specs.List.{list_all, list_any};
 ghost use Rattle.tc_base.specs.Names.{Name as PlainName};
 ghost use Rattle.run_log.specs.Logs.{Log as PlainLog};
 ghost use Rattle.tc_base.specs.Paths.{ThreadPath as PlainPath, path_under};
-ghost use Rattle.tc_limits.specs.declared.limits.TheConstants.{THREADS};
+ghost use Rattle.tc_code.specs.tc_limits.declared.limits.TheConstants.{THREADS};
 ghost use Rattle.path_walk.specs.Fits.{ending_of, function_of, IsFault, Fits};
 ghost use Rattle.path_walk.specs.Paths.{have_exited, paths_of};
 ghost use Rattle.path_walk.specs.declared.ending.Ending.TheVariants.{Fails, Open};

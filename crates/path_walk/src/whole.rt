@@ -1,6 +1,6 @@
 //! The walks of all threads of a log.
 ghost use Rattle.std.specs.Prelude.{◌≡◌, ◌≤◌, length, IfOk, OnOk, IfErr};
-ghost use Rattle.tc_limits.specs.declared.limits.TheConstants.{THREADS};
+ghost use Rattle.tc_code.specs.tc_limits.declared.limits.TheConstants.{THREADS};
 ghost use Rattle.path_walk.specs.Fits.{Fits, IsFault};
 ghost use Rattle.path_walk.specs.Paths.{paths_of};
 

@@ -3,15 +3,15 @@ use Rattle.std.proofs.Common.{◌≡◌, ◌∙◌, ◌≢◌, ℕ, ◌+◌, ◌
 use Rattle.std.specs.List.{filter_map, list_any, cons_option}
 use Rattle.std.specs.Option.{option_or}
 use Rattle.std.proofs.lemmas.List.Folds.{list_any-append}
-use Rattle.tc_base.specs.Names.{Name, main}
-use Rattle.tc_base.specs.declared.request.Request.{Request}
-use Rattle.tc_base.specs.declared.request.Request.TheVariants.{Silent, Fail}
-use Rattle.run_laws.proofs.Names.{same_self, same_other}
-use Rattle.run_history.specs.History.{Deed, Did, Drained, same}
-use Rattle.run_history.specs.Told.{is_step_of, steps_in, creates, is_thread_in, fails, failed_in}
-use Rattle.run_history.proofs.Lists.{filter_map-push, last_of-push, count-push}
-use Rattle.path_walk.specs.declared.event.EventKind.TheVariants as kind
-use Rattle.path_laws.specs.Deeds.{kind_of}
+use Rattle.condition_order.specs.tc_base.Names.{Name, main}
+use Rattle.condition_order.specs.tc_base.declared.request.Request.{Request}
+use Rattle.condition_order.specs.tc_base.declared.request.Request.TheVariants.{Silent, Fail}
+use Rattle.condition_order.proofs.run_laws.Names.{same_self, same_other}
+use Rattle.sym_steps.specs.run_history.History.{Deed, Did, Drained, same}
+use Rattle.sym_steps.specs.run_history.Told.{is_step_of, steps_in, creates, is_thread_in, fails, failed_in}
+use Rattle.sym_steps.proofs.run_history.Lists.{filter_map-push, last_of-push, count-push}
+use Rattle.condition_order.specs.path_walk.declared.event.EventKind.TheVariants as kind
+use Rattle.sym_steps.specs.path_laws.Deeds.{kind_of}
 
 -- Threads stay, and the numbers of their steps grow.
 pub record GoesOn (h g : List Deed) : Type 0 where

@@ -7,19 +7,19 @@ use Rattle.std.specs.Option.{option_map_or}
 use Rattle.std.proofs.Math.Nat.{le-max_left, le-max_right}
 use Rattle.std.proofs.lemmas.Bool.{false≢true}
 use Rattle.std.proofs.lemmas.Option.{none-some, same_Some}
-use Rattle.path_walk.specs.Fits.{fails_in}
-use Rattle.path_walk.specs.Paths.{Walk, Paths, paths_of}
-use Rattle.path_walk.specs.declared.event.Event.{Event}
-use Rattle.path_walk.specs.declared.event.EventKind.{EventKind}
-use Rattle.path_walk.specs.declared.event.EventKind.TheVariants as kind
-use Rattle.path_laws.specs.Setting.{Setting}
-use Rattle.path_laws.specs.history.Along.{IsThread}
-use Rattle.sym_terms.specs.declared.node.Node.{Node}
-use Rattle.order_formula.specs.Worlds.{World}
-use Rattle.order_formula.specs.declared.group.Group.TheVariants.{Own}
-use Rattle.lawful_order.specs.Events.{Of, all_events, number_of, place_of}
-use Rattle.order_events.proofs.Lists.{in_at}
-use Rattle.order_events.proofs.Numbers.{has_number}
+use Rattle.condition_order.specs.path_walk.Fits.{fails_in}
+use Rattle.condition_order.specs.path_walk.Paths.{Walk, Paths, paths_of}
+use Rattle.condition_order.specs.path_walk.declared.event.Event.{Event}
+use Rattle.condition_order.specs.path_walk.declared.event.EventKind.{EventKind}
+use Rattle.condition_order.specs.path_walk.declared.event.EventKind.TheVariants as kind
+use Rattle.sym_steps.specs.path_laws.Setting.{Setting}
+use Rattle.sym_steps.specs.path_laws.history.Along.{IsThread}
+use Rattle.condition_order.specs.sym_terms.declared.node.Node.{Node}
+use Rattle.condition_order.specs.order_formula.Worlds.{World}
+use Rattle.condition_order.specs.order_formula.declared.group.Group.TheVariants.{Own}
+use Rattle.condition_order.specs.lawful_order.Events.{Of, all_events, number_of, place_of}
+use Rattle.condition_order.proofs.order_events.Lists.{in_at}
+use Rattle.condition_order.proofs.order_events.Numbers.{has_number}
 use Rattle.world_plan.specs.Going.{IsLawfulWorld, is_pending, place}
 use Rattle.world_plan.specs.Plan.{is_failure, end_of}
 use Rattle.world_plan.proofs.Numbers.{of_find, in_find, event_numbered}

@@ -3,31 +3,31 @@ use Rattle.std.specs.Prelude.{◌≡◌, ◌⊎◌, ℕ, suc, ◌<◌, ◌==◌,
 use Rattle.std.specs.Prelude.{Option, Some, None, slice_get, slice_index_or}
 use Rattle.std.specs.FinSet as set
 use Rattle.std.specs.List.{Contains}
-use Rattle.list_laws.specs.Lists.{is_nil}
-use Rattle.tc_base.specs.Names.{Name, child}
-use Rattle.tc_base.specs.declared.failing.Failing.TheVariants.{Deadlock}
-use Rattle.tc_base.specs.declared.request.Request.{Request}
-use Rattle.store_buffers.specs.Pending.{stores}
-use Rattle.run_history.specs.History.{Deed, Did, Drained, pending}
-use Rattle.run_history.specs.Locals.{asks_next}
-use Rattle.run_history.specs.Told.{steps_in, owner_in, waiting_in, is_thread_in, has_exited_in}
-use Rattle.run_follows.specs.Follow.{taken_in, IsNextDrain}
-use Rattle.run_follows.specs.blocked.Stuck.{AllDrained, AllAreBlocked}
-use Rattle.path_walk.specs.Events.{acquired_mutex}
-use Rattle.path_walk.specs.Paths.{Walk, paths_of}
-use Rattle.path_walk.specs.declared.event.Event.{Event}
-use Rattle.path_walk.specs.declared.event.EventKind.{EventKind}
-use Rattle.path_walk.specs.declared.event.EventKind.TheVariants as kind
-use Rattle.path_laws.specs.Setting.{Setting}
-use Rattle.path_laws.specs.Deeds.{kind_of}
-use Rattle.path_laws.specs.history.Along.{IsAlongPaths, IsThread, AllHaveDone, AllAreThere, PathThread}
-use Rattle.sym_exec.specs.Executed.{Course}
-use Rattle.sym_exec.specs.declared.symbolic.Access.{Access}
-use Rattle.sym_terms.specs.declared.node.Node.{Node}
-use Rattle.sym_laws.specs.Valued.{found}
-use Rattle.order_formula.specs.Worlds.{World}
-use Rattle.lawful_order.specs.Events.{number_of}
-use Rattle.lawful_order.specs.Memory.{may_overtake}
+use Rattle.condition_order.specs.list_laws.Lists.{is_nil}
+use Rattle.condition_order.specs.tc_base.Names.{Name, child}
+use Rattle.condition_order.specs.tc_base.declared.failing.Failing.TheVariants.{Deadlock}
+use Rattle.condition_order.specs.tc_base.declared.request.Request.{Request}
+use Rattle.condition_order.specs.store_buffers.Pending.{stores}
+use Rattle.sym_steps.specs.run_history.History.{Deed, Did, Drained, pending}
+use Rattle.sym_steps.specs.run_history.Locals.{asks_next}
+use Rattle.sym_steps.specs.run_history.Told.{steps_in, owner_in, waiting_in, is_thread_in, has_exited_in}
+use Rattle.sym_steps.specs.run_follows.Follow.{taken_in, IsNextDrain}
+use Rattle.sym_steps.specs.run_follows.blocked.Stuck.{AllDrained, AllAreBlocked}
+use Rattle.condition_order.specs.path_walk.Events.{acquired_mutex}
+use Rattle.condition_order.specs.path_walk.Paths.{Walk, paths_of}
+use Rattle.condition_order.specs.path_walk.declared.event.Event.{Event}
+use Rattle.condition_order.specs.path_walk.declared.event.EventKind.{EventKind}
+use Rattle.condition_order.specs.path_walk.declared.event.EventKind.TheVariants as kind
+use Rattle.sym_steps.specs.path_laws.Setting.{Setting}
+use Rattle.sym_steps.specs.path_laws.Deeds.{kind_of}
+use Rattle.sym_steps.specs.path_laws.history.Along.{IsAlongPaths, IsThread, AllHaveDone, AllAreThere, PathThread}
+use Rattle.condition_order.specs.sym_exec.Executed.{Course}
+use Rattle.condition_order.specs.sym_exec.declared.symbolic.Access.{Access}
+use Rattle.condition_order.specs.sym_terms.declared.node.Node.{Node}
+use Rattle.sym_steps.specs.sym_laws.Valued.{found}
+use Rattle.condition_order.specs.order_formula.Worlds.{World}
+use Rattle.condition_order.specs.lawful_order.Events.{number_of}
+use Rattle.condition_order.specs.lawful_order.Memory.{may_overtake}
 use Rattle.world_plan.specs.Going.{is_pending, place, HaveDrained, SleepUntilEnded, HasGone, EventAt, NextEvent}
 use Rattle.world_plan.specs.Plan.{is_failure, woken_by, other_of, drains_next}
 use Rattle.world_plan.specs.Sights.{AreInOrder}

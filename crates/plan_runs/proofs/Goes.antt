@@ -6,24 +6,24 @@ use Rattle.std.specs.List.{Contains}
 use Rattle.std.specs.Option.{option_map_or}
 use Rattle.std.proofs.lemmas.Bool.{cases_order}
 use Rattle.std.proofs.lemmas.Option.{none-some}
-use Rattle.tc_base.specs.Names.{Name}
-use Rattle.tc_code.specs.Code.{Code}
-use Rattle.run_history.specs.History.{Deed, Drained}
-use Rattle.run_history.specs.Told.{steps_in, is_thread_in}
-use Rattle.path_walk.specs.Paths.{Walk, Paths, paths_of}
-use Rattle.path_walk.specs.declared.event.Event.{Event}
-use Rattle.path_walk.specs.declared.event.EventKind.TheVariants as kind
-use Rattle.path_walk.specs.declared.event.Sleep.{Sleep}
-use Rattle.path_laws.specs.Setting.{Setting}
-use Rattle.path_laws.specs.history.Along.{IsThread, PathThread, path_thread}
-use Rattle.path_laws.proofs.of_events.Events.{event_within}
-use Rattle.path_laws.proofs.of_events.Lists.{in_contains}
-use Rattle.path_laws.proofs.of_history.Stays.{start_along}
-use Rattle.path_laws.proofs.of_history.Walks.{walk_is, few_steps}
-use Rattle.sym_terms.specs.declared.node.Node.{Node}
-use Rattle.order_formula.specs.Worlds.{World, position}
-use Rattle.order_formula.specs.declared.group.Group.TheVariants.{Own}
-use Rattle.lawful_order.specs.Events.{Of, all_events, all_sleeps, ender_of}
+use Rattle.condition_order.specs.tc_base.Names.{Name}
+use Rattle.condition_order.specs.tc_code.Code.{Code}
+use Rattle.sym_steps.specs.run_history.History.{Deed, Drained}
+use Rattle.sym_steps.specs.run_history.Told.{steps_in, is_thread_in}
+use Rattle.condition_order.specs.path_walk.Paths.{Walk, Paths, paths_of}
+use Rattle.condition_order.specs.path_walk.declared.event.Event.{Event}
+use Rattle.condition_order.specs.path_walk.declared.event.EventKind.TheVariants as kind
+use Rattle.condition_order.specs.path_walk.declared.event.Sleep.{Sleep}
+use Rattle.sym_steps.specs.path_laws.Setting.{Setting}
+use Rattle.sym_steps.specs.path_laws.history.Along.{IsThread, PathThread, path_thread}
+use Rattle.sym_steps.proofs.path_laws.of_events.Events.{event_within}
+use Rattle.sym_steps.proofs.path_laws.of_events.Lists.{in_contains}
+use Rattle.sym_steps.proofs.path_laws.of_history.Stays.{start_along}
+use Rattle.sym_steps.proofs.path_laws.of_history.Walks.{walk_is, few_steps}
+use Rattle.condition_order.specs.sym_terms.declared.node.Node.{Node}
+use Rattle.condition_order.specs.order_formula.Worlds.{World, position}
+use Rattle.condition_order.specs.order_formula.declared.group.Group.TheVariants.{Own}
+use Rattle.condition_order.specs.lawful_order.Events.{Of, all_events, all_sleeps, ender_of}
 use Rattle.world_plan.specs.Going.{IsLawfulWorld, is_pending, place}
 use Rattle.world_plan.specs.Plan.{event_at, drains_next, does_next, goes_on, goes_to, with_drain, with_event, up_to}
 use Rattle.world_plan.proofs.Numbers.{event_numbered, number_is, one_event}

@@ -1,10 +1,10 @@
 -- A history that follows the order of a lawful world, as one along the paths.
 use Rattle.std.specs.Prelude.{ℕ, List}
-use Rattle.run_history.specs.History.{Deed}
-use Rattle.path_laws.specs.Setting.{Setting}
-use Rattle.path_laws.specs.history.Along.{HistoryAlong}
-use Rattle.sym_terms.specs.declared.node.Node.{Node}
-use Rattle.order_formula.specs.Worlds.{World}
+use Rattle.sym_steps.specs.run_history.History.{Deed}
+use Rattle.sym_steps.specs.path_laws.Setting.{Setting}
+use Rattle.sym_steps.specs.path_laws.history.Along.{HistoryAlong}
+use Rattle.condition_order.specs.sym_terms.declared.node.Node.{Node}
+use Rattle.condition_order.specs.order_formula.Worlds.{World}
 use Rattle.sym_steps.specs.Valued.{ValuedHistory}
 use Rattle.world_plan.specs.Going.{IsLawfulWorld, HasGone}
 

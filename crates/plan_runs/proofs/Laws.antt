@@ -1,15 +1,15 @@
 -- The rules of a lawful order allow the steps of threads.
 use Rattle.std.proofs.Common.{◌≡◌, ◌∙◌, inl, inr, suc, ◌+◌, ◌&&◌, Bool, true, List, [], ◌∷◌, ◌++◌, Option, Some, None, refl, ap, arith, subst}
 use Rattle.std.specs.Prelude.{option_and_then, if◌then◌else◌}
-use Rattle.run_history.specs.History.{Did, Drained}
-use Rattle.run_history.specs.Told.{steps_in}
-use Rattle.path_walk.specs.Paths.{paths_of}
-use Rattle.path_walk.specs.declared.event.EventKind.{EventKind}
-use Rattle.path_laws.specs.Setting.{Setting}
-use Rattle.path_laws.specs.Deeds.{kind_of}
-use Rattle.sym_terms.specs.declared.node.Node.{Node}
-use Rattle.order_formula.specs.Worlds.{World}
-use Rattle.lawful_order.specs.Memory.{is_store}
+use Rattle.sym_steps.specs.run_history.History.{Did, Drained}
+use Rattle.sym_steps.specs.run_history.Told.{steps_in}
+use Rattle.condition_order.specs.path_walk.Paths.{paths_of}
+use Rattle.condition_order.specs.path_walk.declared.event.EventKind.{EventKind}
+use Rattle.sym_steps.specs.path_laws.Setting.{Setting}
+use Rattle.sym_steps.specs.path_laws.Deeds.{kind_of}
+use Rattle.condition_order.specs.sym_terms.declared.node.Node.{Node}
+use Rattle.condition_order.specs.order_formula.Worlds.{World}
+use Rattle.condition_order.specs.lawful_order.Memory.{is_store}
 use Rattle.world_plan.specs.Going.{IsLawfulWorld, SleepUntilEnded}
 use Rattle.world_plan.specs.Plan.{other_of}
 use Rattle.world_plan.specs.Sights.{Sight}

@@ -4,26 +4,26 @@ use Rattle.std.specs.Prelude.{is_none, option_map, option_and_then}
 use Rattle.std.specs.List.{last_or}
 use Rattle.std.proofs.lemmas.Bool.{and_from}
 use Rattle.std.proofs.lemmas.Option.{same_Some}
-use Rattle.list_laws.specs.Lists.{is_nil}
-use Rattle.tc_base.specs.Names.{Name}
-use Rattle.tc_base.specs.declared.request.Request.{Request}
-use Rattle.tc_base.specs.declared.request.Request.TheVariants.{Silent, Read, Write, Exchange, CompareExchange, Bar, Acquire, Release, BeginWait}
-use Rattle.tc_base.specs.declared.request.Request.TheVariants.{EndWait, WakeOne, WakeAll, Start, Await, OrderStores, Finish, Fail}
-use Rattle.store_buffers.specs.Pending.{stores}
-use Rattle.run_history.specs.History.{Deed, pending}
-use Rattle.run_history.specs.Told.{children_in, owner_in}
-use Rattle.run_history.proofs.Lists.{last_or-push}
-use Rattle.run_follows.specs.Follow.{may_do_in, OtherIs}
-use Rattle.path_walk.specs.Events.{acquired_mutex}
-use Rattle.path_walk.specs.Paths.{paths_of}
-use Rattle.path_walk.specs.declared.event.EventKind.{EventKind}
-use Rattle.path_walk.specs.declared.event.EventKind.TheVariants as kind
-use Rattle.path_laws.specs.Setting.{Setting}
-use Rattle.path_laws.specs.Deeds.{kind_of}
-use Rattle.sym_terms.specs.declared.node.Node.{Node}
-use Rattle.order_formula.specs.Worlds.{World}
-use Rattle.lawful_order.specs.Events.{number_of}
-use Rattle.lawful_order.specs.Memory.{may_overtake}
+use Rattle.condition_order.specs.list_laws.Lists.{is_nil}
+use Rattle.condition_order.specs.tc_base.Names.{Name}
+use Rattle.condition_order.specs.tc_base.declared.request.Request.{Request}
+use Rattle.condition_order.specs.tc_base.declared.request.Request.TheVariants.{Silent, Read, Write, Exchange, CompareExchange, Bar, Acquire, Release, BeginWait}
+use Rattle.condition_order.specs.tc_base.declared.request.Request.TheVariants.{EndWait, WakeOne, WakeAll, Start, Await, OrderStores, Finish, Fail}
+use Rattle.condition_order.specs.store_buffers.Pending.{stores}
+use Rattle.sym_steps.specs.run_history.History.{Deed, pending}
+use Rattle.sym_steps.specs.run_history.Told.{children_in, owner_in}
+use Rattle.sym_steps.proofs.run_history.Lists.{last_or-push}
+use Rattle.sym_steps.specs.run_follows.Follow.{may_do_in, OtherIs}
+use Rattle.condition_order.specs.path_walk.Events.{acquired_mutex}
+use Rattle.condition_order.specs.path_walk.Paths.{paths_of}
+use Rattle.condition_order.specs.path_walk.declared.event.EventKind.{EventKind}
+use Rattle.condition_order.specs.path_walk.declared.event.EventKind.TheVariants as kind
+use Rattle.sym_steps.specs.path_laws.Setting.{Setting}
+use Rattle.sym_steps.specs.path_laws.Deeds.{kind_of}
+use Rattle.condition_order.specs.sym_terms.declared.node.Node.{Node}
+use Rattle.condition_order.specs.order_formula.Worlds.{World}
+use Rattle.condition_order.specs.lawful_order.Events.{number_of}
+use Rattle.condition_order.specs.lawful_order.Memory.{may_overtake}
 use Rattle.world_plan.specs.Plan.{woken_by, other_of}
 use Rattle.plan_runs.proofs.Given.{IsQuiet, Given, Next}
 

@@ -3,30 +3,30 @@ use Rattle.std.proofs.Common.{◌≡◌, ◌∙◌, ℕ, ◌<◌, true, List, []
 use Rattle.std.specs.Prelude.{slice_get}
 use Rattle.std.specs.Option.{option_map_or}
 use Rattle.std.proofs.lemmas.Option.{same_Some, slice_get-get_or, slice_get_within}
-use Rattle.tc_base.specs.Names.{Name}
-use Rattle.tc_base.specs.declared.request.Request.{Request}
-use Rattle.tc_base.specs.declared.request.Request.TheVariants.{Silent, WakeOne, Start}
-use Rattle.run_history.specs.History.{Deed, Did}
-use Rattle.run_history.specs.Told.{steps_in, is_thread_in, failed_in}
-use Rattle.run_follows.specs.Follow.{taken_in, may_do_in, OtherIs, MayFollow}
-use Rattle.path_walk.specs.Paths.{Walk, Paths, ArePaths, paths_of}
-use Rattle.path_laws.specs.Setting.{Setting}
-use Rattle.path_laws.specs.Deeds.{kind_of}
-use Rattle.path_laws.specs.history.Along.{IsThread, PathThread}
-use Rattle.path_laws.specs.history.Next.{failing_next, IsNextOnPath}
-use Rattle.path_laws.proofs.of_history.Next.{next_on_path}
-use Rattle.path_laws.proofs.of_history.Stays.{step_stays}
-use Rattle.path_laws.proofs.of_history.Walks.{thread_path_at}
-use Rattle.sym_terms.specs.declared.node.Node.{Node}
-use Rattle.sym_exec.specs.Executed.{Course, Executed}
-use Rattle.sym_laws.specs.Valued.{found}
-use Rattle.sym_laws.proofs.Follows.{found_at_log}
+use Rattle.condition_order.specs.tc_base.Names.{Name}
+use Rattle.condition_order.specs.tc_base.declared.request.Request.{Request}
+use Rattle.condition_order.specs.tc_base.declared.request.Request.TheVariants.{Silent, WakeOne, Start}
+use Rattle.sym_steps.specs.run_history.History.{Deed, Did}
+use Rattle.sym_steps.specs.run_history.Told.{steps_in, is_thread_in, failed_in}
+use Rattle.sym_steps.specs.run_follows.Follow.{taken_in, may_do_in, OtherIs, MayFollow}
+use Rattle.condition_order.specs.path_walk.Paths.{Walk, Paths, ArePaths, paths_of}
+use Rattle.sym_steps.specs.path_laws.Setting.{Setting}
+use Rattle.sym_steps.specs.path_laws.Deeds.{kind_of}
+use Rattle.sym_steps.specs.path_laws.history.Along.{IsThread, PathThread}
+use Rattle.sym_steps.specs.path_laws.history.Next.{failing_next, IsNextOnPath}
+use Rattle.sym_steps.proofs.path_laws.of_history.Next.{next_on_path}
+use Rattle.sym_steps.proofs.path_laws.of_history.Stays.{step_stays}
+use Rattle.sym_steps.proofs.path_laws.of_history.Walks.{thread_path_at}
+use Rattle.condition_order.specs.sym_terms.declared.node.Node.{Node}
+use Rattle.condition_order.specs.sym_exec.Executed.{Course, Executed}
+use Rattle.sym_steps.specs.sym_laws.Valued.{found}
+use Rattle.sym_steps.proofs.sym_laws.Follows.{found_at_log}
 use Rattle.sym_steps.specs.Next.{kind_at, IsToldNext}
 use Rattle.sym_steps.proofs.Told.{next_told}
-use Rattle.order_formula.specs.Worlds.{World}
-use Rattle.order_formula.specs.declared.group.Group.TheVariants.{Test}
-use Rattle.lawful_order.specs.Whole.{AreWhole, IsExecutedBy}
-use Rattle.order_events.proofs.Whole.{whole}
+use Rattle.condition_order.specs.order_formula.Worlds.{World}
+use Rattle.condition_order.specs.order_formula.declared.group.Group.TheVariants.{Test}
+use Rattle.condition_order.specs.lawful_order.Whole.{AreWhole, IsExecutedBy}
+use Rattle.condition_order.proofs.order_events.Whole.{whole}
 use Rattle.sym_events.proofs.Whole.{is_executed}
 use Rattle.world_plan.specs.Going.{IsLawfulWorld}
 use Rattle.world_plan.specs.Plan.{other_of, does_next}

@@ -8,25 +8,25 @@ use Rattle.std.proofs.lemmas.Bool.{false≢true, eqb-true, eq-eqb}
 use Rattle.std.proofs.lemmas.List.FromFn.{length-range_with_len, get_or-range_with_len}
 use Rattle.std.proofs.lemmas.List.Sums.{fold-append}
 use Rattle.std.proofs.lemmas.Option.{none-some, same_Some, slice_get_within}
-use Rattle.tc_base.specs.Paths.{place_in}
-use Rattle.tc_base.specs.Names.{Name}
-use Rattle.tc_base.specs.declared.failing.Failing.{Failing}
-use Rattle.tc_base.specs.declared.failing.Failing.TheVariants as failing
-use Rattle.run_history.specs.History.{Deed}
-use Rattle.run_history.specs.Told.{steps_in, is_thread_in}
-use Rattle.run_follows.specs.Follow.{taken_in}
-use Rattle.path_walk.specs.Fits.{fails_in}
-use Rattle.path_walk.specs.Paths.{Walk, Paths, paths_of}
-use Rattle.path_walk.specs.declared.event.Event.{Event}
-use Rattle.path_walk.specs.declared.event.EventKind.TheVariants as kind
-use Rattle.path_laws.specs.Setting.{Setting}
-use Rattle.path_laws.specs.history.Along.{IsThread, HasDoneAll, AllHaveDone, AllAreThere, PathThread, path_thread}
-use Rattle.path_laws.proofs.of_history.Walks.{few_steps}
-use Rattle.sym_exec.specs.Executed.{has_failed}
-use Rattle.sym_terms.specs.declared.node.Node.{Node}
-use Rattle.order_formula.specs.Worlds.{World}
-use Rattle.order_events.proofs.Lists.{in_front, in_back, of_cons, of_nil, in_filter, of_filter}
-use Rattle.lawful_order.specs.Memory.{is_store}
+use Rattle.condition_order.specs.tc_base.Paths.{place_in}
+use Rattle.condition_order.specs.tc_base.Names.{Name}
+use Rattle.condition_order.specs.tc_base.declared.failing.Failing.{Failing}
+use Rattle.condition_order.specs.tc_base.declared.failing.Failing.TheVariants as failing
+use Rattle.sym_steps.specs.run_history.History.{Deed}
+use Rattle.sym_steps.specs.run_history.Told.{steps_in, is_thread_in}
+use Rattle.sym_steps.specs.run_follows.Follow.{taken_in}
+use Rattle.condition_order.specs.path_walk.Fits.{fails_in}
+use Rattle.condition_order.specs.path_walk.Paths.{Walk, Paths, paths_of}
+use Rattle.condition_order.specs.path_walk.declared.event.Event.{Event}
+use Rattle.condition_order.specs.path_walk.declared.event.EventKind.TheVariants as kind
+use Rattle.sym_steps.specs.path_laws.Setting.{Setting}
+use Rattle.sym_steps.specs.path_laws.history.Along.{IsThread, HasDoneAll, AllHaveDone, AllAreThere, PathThread, path_thread}
+use Rattle.sym_steps.proofs.path_laws.of_history.Walks.{few_steps}
+use Rattle.condition_order.specs.sym_exec.Executed.{has_failed}
+use Rattle.condition_order.specs.sym_terms.declared.node.Node.{Node}
+use Rattle.condition_order.specs.order_formula.Worlds.{World}
+use Rattle.condition_order.proofs.order_events.Lists.{in_front, in_back, of_cons, of_nil, in_filter, of_filter}
+use Rattle.condition_order.specs.lawful_order.Memory.{is_store}
 use Rattle.world_plan.specs.Going.{IsLawfulWorld, is_pending, HaveDrained}
 use Rattle.world_plan.specs.Plan.{is_failure, is_failing, other_of, goes_on, goes_to, with_rest, up_to, plan}
 use Rattle.world_plan.specs.Sights.{AreInOrder}

@@ -5,34 +5,34 @@ use Rattle.std.specs.Prelude.{slice_get, is_none, IsSome, IsSomeAnd}
 use Rattle.std.specs.List.{list_all}
 use Rattle.std.proofs.lemmas.Bool.{false≢true, and_parts, or_parts, ltb-true, eq-eqb}
 use Rattle.std.proofs.lemmas.Option.{none-some, same_Some, slice_get-get_or}
-use Rattle.tc_base.specs.Paths.{Path, ThreadPath}
-use Rattle.tc_base.specs.Names.{Name}
-use Rattle.tc_base.specs.declared.failing.Failing.{Failing}
-use Rattle.tc_base.specs.declared.failing.Failing.TheVariants as failing
-use Rattle.tc_base.proofs.Names.{same_true}
-use Rattle.tc_code.specs.Run.{Reproduces}
-use Rattle.run_history.specs.History.{Deed, history}
-use Rattle.run_history.specs.Told.{failed_in}
-use Rattle.run_follows.specs.Follow.{IsLeftIn, IsStuckIn, NothingFollows, moves_for}
-use Rattle.run_follows.specs.Logged.{EndsAsIn}
-use Rattle.run_follows.proofs.Reproduced.{deeds_reproduce}
-use Rattle.run_follows.specs.blocked.Stuck.{AllDrained, AllAreBlocked}
-use Rattle.run_follows.proofs.of_blocked.Stuck.{nothing_follows}
-use Rattle.run_log.specs.Logs.{is_there, rises_from}
-use Rattle.path_walk.specs.Fits.{fails_in}
-use Rattle.path_walk.specs.Paths.{Walk, Paths, paths_of, have_exited}
-use Rattle.path_walk.specs.declared.event.Blocked.{Blocked}
-use Rattle.path_laws.specs.Setting.{Setting}
-use Rattle.path_laws.specs.Prefixes.{fails_by}
-use Rattle.path_laws.specs.history.Along.{IsThread, AllAreThere, HistoryAlong, PathThread, path_thread}
-use Rattle.path_laws.proofs.of_history.Logged.{all_there, goes_as_logged}
-use Rattle.path_laws.proofs.of_history.Told.{RunOf, along_is_run, thread_of, steps_of, local_is, its_run}
-use Rattle.path_laws.proofs.of_history.Walks.{walk_is}
-use Rattle.path_laws.proofs.of_stuck.Rests.{left_blocked}
-use Rattle.sym_exec.specs.Executed.{has_failed}
-use Rattle.sym_laws.proofs.Follows.{walk_at}
-use Rattle.sym_terms.specs.declared.node.Node.{Node}
-use Rattle.order_formula.specs.Worlds.{World}
+use Rattle.condition_order.specs.tc_base.Paths.{Path, ThreadPath}
+use Rattle.condition_order.specs.tc_base.Names.{Name}
+use Rattle.condition_order.specs.tc_base.declared.failing.Failing.{Failing}
+use Rattle.condition_order.specs.tc_base.declared.failing.Failing.TheVariants as failing
+use Rattle.condition_order.proofs.tc_base.Names.{same_true}
+use Rattle.condition_order.specs.tc_code.Run.{Reproduces}
+use Rattle.sym_steps.specs.run_history.History.{Deed, history}
+use Rattle.sym_steps.specs.run_history.Told.{failed_in}
+use Rattle.sym_steps.specs.run_follows.Follow.{IsLeftIn, IsStuckIn, NothingFollows, moves_for}
+use Rattle.sym_steps.specs.run_follows.Logged.{EndsAsIn}
+use Rattle.sym_steps.proofs.run_follows.Reproduced.{deeds_reproduce}
+use Rattle.sym_steps.specs.run_follows.blocked.Stuck.{AllDrained, AllAreBlocked}
+use Rattle.sym_steps.proofs.run_follows.of_blocked.Stuck.{nothing_follows}
+use Rattle.condition_order.specs.run_log.Logs.{is_there, rises_from}
+use Rattle.condition_order.specs.path_walk.Fits.{fails_in}
+use Rattle.condition_order.specs.path_walk.Paths.{Walk, Paths, paths_of, have_exited}
+use Rattle.condition_order.specs.path_walk.declared.event.Blocked.{Blocked}
+use Rattle.sym_steps.specs.path_laws.Setting.{Setting}
+use Rattle.sym_steps.specs.path_laws.Prefixes.{fails_by}
+use Rattle.sym_steps.specs.path_laws.history.Along.{IsThread, AllAreThere, HistoryAlong, PathThread, path_thread}
+use Rattle.sym_steps.proofs.path_laws.of_history.Logged.{all_there, goes_as_logged}
+use Rattle.sym_steps.proofs.path_laws.of_history.Told.{RunOf, along_is_run, thread_of, steps_of, local_is, its_run}
+use Rattle.sym_steps.proofs.path_laws.of_history.Walks.{walk_is}
+use Rattle.sym_steps.proofs.path_laws.of_stuck.Rests.{left_blocked}
+use Rattle.condition_order.specs.sym_exec.Executed.{has_failed}
+use Rattle.sym_steps.proofs.sym_laws.Follows.{walk_at}
+use Rattle.condition_order.specs.sym_terms.declared.node.Node.{Node}
+use Rattle.condition_order.specs.order_formula.Worlds.{World}
 use Rattle.world_plan.specs.Going.{IsLawfulWorld}
 use Rattle.world_plan.specs.Plan.{plan}
 use Rattle.world_plan.proofs.Threads.{fails_by_place}

@@ -5,29 +5,29 @@ use Rattle.std.specs.Prelude.{slice_get, option_map}
 use Rattle.std.specs.List.{Contains, find}
 use Rattle.std.proofs.lemmas.Bool.{cases_order, eqb-true, eq-eqb, and_parts}
 use Rattle.std.proofs.lemmas.Option.{none-some, same_Some}
-use Rattle.tc_base.specs.Names.{Name}
-use Rattle.run_laws.proofs.Names.{same_or_apart}
-use Rattle.run_history.specs.History.{Deed, Did, Drained}
-use Rattle.run_history.specs.Told.{steps_in, failed_in}
-use Rattle.run_follows.specs.Follow.{taken_in, IsNextDrain}
-use Rattle.path_walk.specs.Paths.{Walk, Paths, paths_of}
-use Rattle.path_walk.specs.declared.event.Event.{Event}
-use Rattle.path_walk.specs.declared.event.EventKind.{EventKind}
-use Rattle.path_walk.specs.declared.event.EventKind.TheVariants as kind
-use Rattle.path_laws.specs.Setting.{Setting}
-use Rattle.path_laws.specs.Deeds.{kind_of}
-use Rattle.path_laws.specs.history.Along.{IsThread, PathThread}
-use Rattle.path_laws.proofs.of_history.Stays.{drain_stays}
-use Rattle.sym_terms.specs.declared.node.Node.{Node}
-use Rattle.sym_exec.specs.Executed.{Course}
-use Rattle.sym_exec.specs.declared.symbolic.Access.{Access}
-use Rattle.sym_laws.specs.Valued.{AgreesWith, found}
+use Rattle.condition_order.specs.tc_base.Names.{Name}
+use Rattle.condition_order.proofs.run_laws.Names.{same_or_apart}
+use Rattle.sym_steps.specs.run_history.History.{Deed, Did, Drained}
+use Rattle.sym_steps.specs.run_history.Told.{steps_in, failed_in}
+use Rattle.sym_steps.specs.run_follows.Follow.{taken_in, IsNextDrain}
+use Rattle.condition_order.specs.path_walk.Paths.{Walk, Paths, paths_of}
+use Rattle.condition_order.specs.path_walk.declared.event.Event.{Event}
+use Rattle.condition_order.specs.path_walk.declared.event.EventKind.{EventKind}
+use Rattle.condition_order.specs.path_walk.declared.event.EventKind.TheVariants as kind
+use Rattle.sym_steps.specs.path_laws.Setting.{Setting}
+use Rattle.sym_steps.specs.path_laws.Deeds.{kind_of}
+use Rattle.sym_steps.specs.path_laws.history.Along.{IsThread, PathThread}
+use Rattle.sym_steps.proofs.path_laws.of_history.Stays.{drain_stays}
+use Rattle.condition_order.specs.sym_terms.declared.node.Node.{Node}
+use Rattle.condition_order.specs.sym_exec.Executed.{Course}
+use Rattle.condition_order.specs.sym_exec.declared.symbolic.Access.{Access}
+use Rattle.sym_steps.specs.sym_laws.Valued.{AgreesWith, found}
 use Rattle.sym_steps.specs.Next.{kind_at}
 use Rattle.sym_steps.proofs.Agree.{agree_step, agree_drain}
-use Rattle.order_formula.specs.Worlds.{World}
-use Rattle.lawful_order.specs.Memory.{is_store}
-use Rattle.lawful_order.specs.Whole as order
-use Rattle.order_events.proofs.Lists.{at_in}
+use Rattle.condition_order.specs.order_formula.Worlds.{World}
+use Rattle.condition_order.specs.lawful_order.Memory.{is_store}
+use Rattle.condition_order.specs.lawful_order.Whole as order
+use Rattle.condition_order.proofs.order_events.Lists.{at_in}
 use Rattle.world_plan.specs.Going.{IsLawfulWorld, is_pending, place, HaveDrained}
 use Rattle.world_plan.specs.Sights.{AreInOrder}
 use Rattle.world_plan.proofs.Numbers.{of_find, in_find, one_event}

@@ -3,13 +3,13 @@
 #![tactic(auto)]
 
 ghost use Rattle.std.specs.Prelude.{◌≡◌, List};
-ghost use Rattle.tc_code.specs.Run.{Reproduces};
-ghost use Rattle.run_history.specs.History.{history};
-ghost use Rattle.run_follows.specs.Follow.{moves_for};
-ghost use Rattle.path_walk.specs.Paths.{paths_of};
-ghost use Rattle.sym_terms.specs.declared.node.Node.{Node};
-ghost use Rattle.order_formula.specs.Worlds.{World};
-ghost use Rattle.path_laws.specs.Setting.{Setting};
+ghost use Rattle.condition_order.specs.tc_code.Run.{Reproduces};
+ghost use Rattle.sym_steps.specs.run_history.History.{history};
+ghost use Rattle.sym_steps.specs.run_follows.Follow.{moves_for};
+ghost use Rattle.condition_order.specs.path_walk.Paths.{paths_of};
+ghost use Rattle.condition_order.specs.sym_terms.declared.node.Node.{Node};
+ghost use Rattle.condition_order.specs.order_formula.Worlds.{World};
+ghost use Rattle.sym_steps.specs.path_laws.Setting.{Setting};
 ghost use Rattle.world_plan.specs.Going.{IsLawfulWorld, HaveDrained};
 ghost use Rattle.world_plan.specs.Plan.{end_of, plan};
 ghost use Rattle.world_plan.specs.Sights.{AreInOrder};

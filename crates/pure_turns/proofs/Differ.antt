@@ -8,17 +8,17 @@ use Rattle.std.specs.FinMap as fin
 use Rattle.std.specs.FinSet as set
 use Rattle.std.proofs.lemmas.Bool.{and_parts, and_from}
 use Rattle.std.proofs.lemmas.Option.{same_Some}
-use Rattle.tc_base.specs.Names.{Name, ByName, child}
-use Rattle.tc_base.specs.Buffers.{BufferOps}
-use Rattle.tc_base.specs.States.{Local, Thread, State}
-use Rattle.tc_base.specs.declared.moves.Move.{Move}
-use Rattle.tc_base.specs.declared.moves.Move.TheVariants as move
-use Rattle.tc_base.specs.declared.request.Request.{Request}
-use Rattle.tc_base.specs.declared.request.Request.TheVariants.{Write, Acquire, Release, BeginWait, EndWait, Start, Await}
-use Rattle.tc_code.specs.declared.instr.Instr.{Instr}
-use Rattle.tc_code.specs.Code.{Code}
-use Rattle.tc_code.specs.Step.{request, drains_first, is_free, is_let, allows, perform, waiting_on, state_after_wake, state_after_drain, step}
-use Rattle.tc_code.specs.Run.{IsReached}
+use Rattle.run_laws.specs.tc_base.Names.{Name, ByName, child}
+use Rattle.run_laws.specs.tc_base.Buffers.{BufferOps}
+use Rattle.run_laws.specs.tc_base.States.{Local, Thread, State}
+use Rattle.run_laws.specs.tc_base.declared.moves.Move.{Move}
+use Rattle.run_laws.specs.tc_base.declared.moves.Move.TheVariants as move
+use Rattle.run_laws.specs.tc_base.declared.request.Request.{Request}
+use Rattle.run_laws.specs.tc_base.declared.request.Request.TheVariants.{Write, Acquire, Release, BeginWait, EndWait, Start, Await}
+use Rattle.run_laws.specs.tc_code.declared.instr.Instr.{Instr}
+use Rattle.run_laws.specs.tc_code.Code.{Code}
+use Rattle.run_laws.specs.tc_code.Step.{request, drains_first, is_free, is_let, allows, perform, waiting_on, state_after_wake, state_after_drain, step}
+use Rattle.run_laws.specs.tc_code.Run.{IsReached}
 use Rattle.run_laws.specs.Alone.{same}
 use Rattle.run_laws.proofs.Names.{same_or_apart, same_self, get_put, get_put_apart}
 use Rattle.run_laws.proofs.Created.{not_next_child}

@@ -1,3 +1,5 @@
+pub use Rattle.run_laws.proofs as run_laws
+pub use Rattle.run_laws.proofs.tc_code
 pub mod Owners
 pub mod Values
 pub mod Locals

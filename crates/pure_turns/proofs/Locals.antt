@@ -4,19 +4,19 @@ use Rattle.std.proofs.Common.{Option, Some, None, refl, sym, ap, ap₂, subst, s
 use Rattle.std.specs.Option.{option_map_or}
 use Rattle.std.proofs.lemmas.Option.{none-some, same_Some}
 use Rattle.std.proofs.lemmas.List.{length-append}
-use Rattle.tc_base.specs.States.{Local}
-use Rattle.tc_base.specs.declared.handle.Handle.TheVariants.{Unset, Child, Joined}
-use Rattle.tc_base.specs.declared.request.Request.{Request}
-use Rattle.tc_base.specs.declared.request.Request.TheVariants.{Read, Write, Exchange, CompareExchange, Await, Fail}
-use Rattle.tc_code.specs.Expr.{Expr}
-use Rattle.tc_code.specs.declared.instr.Instr.{Instr}
-use Rattle.tc_code.specs.declared.instr.Instr.TheVariants.{Set, LoadAt, Store, StoreAt, Inside, Branch, Goto, Holds, Lock, Unlock, Sleep, Wake}
-use Rattle.tc_code.specs.declared.instr.Instr.TheVariants.{Create, Ready, Join, Assert, Nonzero, InRange, Swap, Cas, Exit}
-use Rattle.tc_code.specs.Code.{Code, instr_at}
-use Rattle.tc_code.specs.Lawful.{exprs_of, written}
-use Rattle.tc_code.specs.Step.{request, site, is_within, is_nonzero, cell_at, value_in, can_be_joined, child_number, step_in_place, step_by_branch, local_after, arguments_of, instr_of}
-use Rattle.int_ops.specs.Arith.{is_distance}
-use Rattle.tc_code.proofs.Facts.{at_its_place}
+use Rattle.run_laws.specs.tc_base.States.{Local}
+use Rattle.run_laws.specs.tc_base.declared.handle.Handle.TheVariants.{Unset, Child, Joined}
+use Rattle.run_laws.specs.tc_base.declared.request.Request.{Request}
+use Rattle.run_laws.specs.tc_base.declared.request.Request.TheVariants.{Read, Write, Exchange, CompareExchange, Await, Fail}
+use Rattle.run_laws.specs.tc_code.Expr.{Expr}
+use Rattle.run_laws.specs.tc_code.declared.instr.Instr.{Instr}
+use Rattle.run_laws.specs.tc_code.declared.instr.Instr.TheVariants.{Set, LoadAt, Store, StoreAt, Inside, Branch, Goto, Holds, Lock, Unlock, Sleep, Wake}
+use Rattle.run_laws.specs.tc_code.declared.instr.Instr.TheVariants.{Create, Ready, Join, Assert, Nonzero, InRange, Swap, Cas, Exit}
+use Rattle.run_laws.specs.tc_code.Code.{Code, instr_at}
+use Rattle.run_laws.specs.tc_code.Lawful.{exprs_of, written}
+use Rattle.run_laws.specs.tc_code.Step.{request, site, is_within, is_nonzero, cell_at, value_in, can_be_joined, child_number, step_in_place, step_by_branch, local_after, arguments_of, instr_of}
+use Rattle.run_laws.specs.int_ops.Arith.{is_distance}
+use Rattle.run_laws.proofs.tc_code.Facts.{at_its_place}
 use Rattle.run_laws.proofs.After.{branch_is, after_has}
 use Rattle.pure_turns.specs.Live.{Liveness, MayLead, IsClosed, AgreeWhereLive, AreAlike}
 use Rattle.run_laws.proofs.Counts.{after_counts}

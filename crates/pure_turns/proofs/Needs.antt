@@ -2,13 +2,13 @@
 use Rattle.std.proofs.Common.{◌≡◌, ◌∙◌, inl, inr, ℕ, List, length, Option, Some, None, IsSome, sym, ap, subst, arith}
 use Rattle.std.specs.FinMap as fin
 use Rattle.std.proofs.lemmas.Option.{none-some, same_Some}
-use Rattle.tc_base.specs.Names.{Name}
-use Rattle.tc_base.specs.Buffers.{BufferOps}
-use Rattle.tc_base.specs.States.{Local, Thread, State}
-use Rattle.tc_base.specs.declared.moves.Move.{Move}
-use Rattle.tc_code.specs.Code.{Code}
-use Rattle.tc_code.specs.Lawful.{IsLawful}
-use Rattle.tc_code.specs.Run.{run, IsStuck}
+use Rattle.run_laws.specs.tc_base.Names.{Name}
+use Rattle.run_laws.specs.tc_base.Buffers.{BufferOps}
+use Rattle.run_laws.specs.tc_base.States.{Local, Thread, State}
+use Rattle.run_laws.specs.tc_base.declared.moves.Move.{Move}
+use Rattle.run_laws.specs.tc_code.Code.{Code}
+use Rattle.run_laws.specs.tc_code.Lawful.{IsLawful}
+use Rattle.run_laws.specs.tc_code.Run.{run, IsStuck}
 use Rattle.run_laws.proofs.Basics.{some_value, none_unless}
 use Rattle.run_laws.proofs.Names.{same_or_apart}
 use Rattle.pure_turns.specs.Live.{Liveness, IsClosed}

@@ -5,14 +5,14 @@ use Rattle.std.specs.Prelude.{option_and_then}
 use Rattle.std.specs.FinMap as fin
 use Rattle.std.proofs.lemmas.List.{length-append}
 use Rattle.std.proofs.lemmas.Option.{none-some, same_Some, option_and_then_some}
-use Rattle.tc_base.specs.Names.{Name}
-use Rattle.tc_base.specs.Buffers.{BufferOps}
-use Rattle.tc_base.specs.States.{Local, Thread, State}
-use Rattle.tc_base.specs.declared.moves.Move.{Move}
-use Rattle.tc_code.specs.Code.{Code}
-use Rattle.tc_code.specs.Step.{step, opening}
-use Rattle.tc_code.specs.Run.{run, run_from, IsReached, IsStuck, IsLeft}
-use Rattle.tc_code.proofs.Facts.{run_from-append, step_is_reached}
+use Rattle.run_laws.specs.tc_base.Names.{Name}
+use Rattle.run_laws.specs.tc_base.Buffers.{BufferOps}
+use Rattle.run_laws.specs.tc_base.States.{Local, Thread, State}
+use Rattle.run_laws.specs.tc_base.declared.moves.Move.{Move}
+use Rattle.run_laws.specs.tc_code.Code.{Code}
+use Rattle.run_laws.specs.tc_code.Step.{step, opening}
+use Rattle.run_laws.specs.tc_code.Run.{run, run_from, IsReached, IsStuck, IsLeft}
+use Rattle.run_laws.proofs.tc_code.Facts.{run_from-append, step_is_reached}
 use Rattle.run_laws.proofs.Basics.{some_value, none_unless}
 use Rattle.run_laws.proofs.Names.{same_or_apart}
 use Rattle.pure_turns.specs.Live.{Liveness, IsClosed, AgreeWhereLive, AreAlike}
@@ -23,7 +23,7 @@ use Rattle.pure_turns.proofs.Own.{twin_goes}
 use Rattle.pure_turns.proofs.Owners.{Equal, owner, equal_is_more, same_owners}
 use Rattle.pure_turns.proofs.Pure.{Lags, skips}
 use Rattle.run_laws.proofs.Owners.{owners_hold}
-use Rattle.tc_code.specs.Lawful.{IsLawful}
+use Rattle.run_laws.specs.tc_code.Lawful.{IsLawful}
 
 module _ {B : Type 0} (ops : BufferOps B) (code : Code) (live : Liveness) (closed : IsClosed code live) where
   -- the end of a run from the second of two states that differ in one thread

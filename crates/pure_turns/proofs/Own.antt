@@ -5,18 +5,18 @@ use Rattle.std.specs.FinMap as fin
 use Rattle.std.specs.FinSet as set
 use Rattle.std.proofs.lemmas.Bool.{cases_Bool, true≢false}
 use Rattle.std.proofs.lemmas.Option.{same_Some}
-use Rattle.tc_base.specs.Names.{Name, ByName, child}
-use Rattle.tc_base.specs.Buffers.{BufferOps}
-use Rattle.tc_base.specs.States.{Local, Thread, State}
-use Rattle.tc_base.specs.declared.moves.Move.{Move}
-use Rattle.tc_base.specs.declared.moves.Move.TheVariants as move
-use Rattle.tc_base.specs.declared.request.Request.{Request}
-use Rattle.tc_base.specs.declared.request.Request.TheVariants.{Read, Write, Exchange, CompareExchange, Bar, Start, Silent}
-use Rattle.tc_code.specs.declared.instr.Instr.{Instr}
-use Rattle.tc_code.specs.declared.instr.Instr.TheVariants.{Signal}
-use Rattle.tc_code.specs.Code.{Code}
-use Rattle.tc_code.specs.Step.{request, arguments_of, instr_of, with_thread, waiting_on, in_memory, loaded, allows, state_after_step, born, perform, state_after_wake, step}
-use Rattle.tc_code.specs.Run.{IsReached}
+use Rattle.run_laws.specs.tc_base.Names.{Name, ByName, child}
+use Rattle.run_laws.specs.tc_base.Buffers.{BufferOps}
+use Rattle.run_laws.specs.tc_base.States.{Local, Thread, State}
+use Rattle.run_laws.specs.tc_base.declared.moves.Move.{Move}
+use Rattle.run_laws.specs.tc_base.declared.moves.Move.TheVariants as move
+use Rattle.run_laws.specs.tc_base.declared.request.Request.{Request}
+use Rattle.run_laws.specs.tc_base.declared.request.Request.TheVariants.{Read, Write, Exchange, CompareExchange, Bar, Start, Silent}
+use Rattle.run_laws.specs.tc_code.declared.instr.Instr.{Instr}
+use Rattle.run_laws.specs.tc_code.declared.instr.Instr.TheVariants.{Signal}
+use Rattle.run_laws.specs.tc_code.Code.{Code}
+use Rattle.run_laws.specs.tc_code.Step.{request, arguments_of, instr_of, with_thread, waiting_on, in_memory, loaded, allows, state_after_step, born, perform, state_after_wake, step}
+use Rattle.run_laws.specs.tc_code.Run.{IsReached}
 use Rattle.run_laws.proofs.Names.{is_same, child_apart}
 use Rattle.run_laws.proofs.Steps.{Ran, Woke, none_failed, step_went}
 use Rattle.run_laws.proofs.Makes.{makes_run, makes_wake}

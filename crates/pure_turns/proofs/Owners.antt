@@ -3,7 +3,7 @@ use Rattle.std.proofs.Common.{◌≡◌, ◌∙◌, ◌⊎◌, inl, inr, ℕ, ze
 use Rattle.std.proofs.Common.{slice_set, slice_index_or}
 use Rattle.std.proofs.lemmas.List.{length-set}
 use Rattle.std.proofs.lemmas.Option.{none-some}
-use Rattle.tc_base.specs.Names.{Name}
+use Rattle.run_laws.specs.tc_base.Names.{Name}
 use Rattle.run_laws.proofs.Basics.{index_or-set_cases}
 
 abbrev pub Owners : Type 0

@@ -10,20 +10,20 @@ use Rattle.std.proofs.lemmas.Bool.{cases_Bool, true≢false, and_parts}
 use Rattle.std.proofs.lemmas.Bool.Decides.{Decides-int_eq}
 use Rattle.std.proofs.lemmas.List.{length-set}
 use Rattle.std.proofs.lemmas.Option.{same_Some, option_and_then_some}
-use Rattle.tc_base.specs.Names.{Name, ByName}
-use Rattle.tc_base.specs.Buffers.{BufferOps}
-use Rattle.tc_base.specs.States.{Local, Thread, State}
-use Rattle.tc_base.specs.declared.moves.Move.{Move}
-use Rattle.tc_base.specs.declared.moves.Move.TheVariants as move
-use Rattle.tc_base.specs.declared.request.Request.{Request}
-use Rattle.tc_base.specs.declared.request.Request.TheVariants.{Silent, Read, Exchange, CompareExchange, Acquire, Release, OrderStores}
-use Rattle.tc_code.specs.declared.instr.Instr.{Instr}
-use Rattle.tc_code.specs.declared.instr.Instr.TheVariants.{Set, Load, LoadAt, Branch, Inside, Holds, Ready, Assert, Nonzero, InRange, Unlock, Signal, Create, Join, Swap, Cas, Exit}
-use Rattle.tc_code.specs.Code.{Code}
-use Rattle.tc_code.specs.Lawful.{IsLawful}
-use Rattle.tc_code.specs.Step.{request, site, holds, drains_first, is_let, allows, instr_of, in_memory, loaded, replaced, local_after, perform, step}
-use Rattle.tc_code.specs.Run.{IsReached, run_from}
-use Rattle.tc_code.proofs.Facts.{step_is_reached}
+use Rattle.run_laws.specs.tc_base.Names.{Name, ByName}
+use Rattle.run_laws.specs.tc_base.Buffers.{BufferOps}
+use Rattle.run_laws.specs.tc_base.States.{Local, Thread, State}
+use Rattle.run_laws.specs.tc_base.declared.moves.Move.{Move}
+use Rattle.run_laws.specs.tc_base.declared.moves.Move.TheVariants as move
+use Rattle.run_laws.specs.tc_base.declared.request.Request.{Request}
+use Rattle.run_laws.specs.tc_base.declared.request.Request.TheVariants.{Silent, Read, Exchange, CompareExchange, Acquire, Release, OrderStores}
+use Rattle.run_laws.specs.tc_code.declared.instr.Instr.{Instr}
+use Rattle.run_laws.specs.tc_code.declared.instr.Instr.TheVariants.{Set, Load, LoadAt, Branch, Inside, Holds, Ready, Assert, Nonzero, InRange, Unlock, Signal, Create, Join, Swap, Cas, Exit}
+use Rattle.run_laws.specs.tc_code.Code.{Code}
+use Rattle.run_laws.specs.tc_code.Lawful.{IsLawful}
+use Rattle.run_laws.specs.tc_code.Step.{request, site, holds, drains_first, is_let, allows, instr_of, in_memory, loaded, replaced, local_after, perform, step}
+use Rattle.run_laws.specs.tc_code.Run.{IsReached, run_from}
+use Rattle.run_laws.proofs.tc_code.Facts.{step_is_reached}
 use Rattle.run_laws.proofs.After.{branch_is}
 use Rattle.run_laws.proofs.Bound.{reached_has_tested}
 use Rattle.run_laws.proofs.Counts.{after_counts}

@@ -3,8 +3,8 @@ use Rattle.std.proofs.Common.{◌≡◌, ◌≢◌, ℕ, zero, suc, ℤ, pos, Li
 use Rattle.std.proofs.Common.{slice_set, slice_index_or, arith}
 use Rattle.std.specs.List.{list_any}
 use Rattle.std.proofs.lemmas.Bool.Decides.{Decides-eqb}
-use Rattle.int_ops.specs.Arith.{unary, binary}
-use Rattle.tc_code.specs.Expr.{Expr, Number, Slot, Unary, Binary, value_of, names_slot}
+use Rattle.run_laws.specs.int_ops.Arith.{unary, binary}
+use Rattle.run_laws.specs.tc_code.Expr.{Expr, Number, Slot, Unary, Binary, value_of, names_slot}
 
 or_left : (a b : Bool) → a ≡ true → (a || b) ≡ true
 or_left true b e = refl

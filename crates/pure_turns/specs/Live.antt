@@ -1,12 +1,12 @@
 -- Which slots are live at each place of a function.
 use Rattle.std.specs.Prelude.{◌≡◌, ◌≢◌, ◌⊎◌, ℕ, ◌+◌, pos, Bool, Some, length, slice_index_or, IsTrue}
 use Rattle.std.specs.List.{list_any}
-use Rattle.tc_base.specs.States.{Local}
-use Rattle.tc_code.specs.Expr.{names_slot}
-use Rattle.tc_code.specs.declared.instr.Instr.{Instr}
-use Rattle.tc_code.specs.declared.instr.Instr.TheVariants.{Branch, Goto}
-use Rattle.tc_code.specs.Code.{Code, instr_at}
-use Rattle.tc_code.specs.Lawful.{exprs_of, written}
+use Rattle.run_laws.specs.tc_base.States.{Local}
+use Rattle.run_laws.specs.tc_code.Expr.{names_slot}
+use Rattle.run_laws.specs.tc_code.declared.instr.Instr.{Instr}
+use Rattle.run_laws.specs.tc_code.declared.instr.Instr.TheVariants.{Branch, Goto}
+use Rattle.run_laws.specs.tc_code.Code.{Code, instr_at}
+use Rattle.run_laws.specs.tc_code.Lawful.{exprs_of, written}
 
 -- for each function, place and slot, whether the slot is live there
 abbrev pub Liveness : Type 0

@@ -4,16 +4,16 @@ use Rattle.std.specs.List.{list_any}
 use Rattle.std.specs.Option.{option_map_or}
 use Rattle.std.specs.Ordering.{int_eq}
 use Rattle.std.specs.FinMap as fin
-use Rattle.tc_base.specs.Names.{Name}
-use Rattle.tc_base.specs.Buffers.{BufferOps}
-use Rattle.tc_base.specs.States.{Local, Thread, State}
-use Rattle.tc_base.specs.declared.moves.Move.{Move}
-use Rattle.tc_base.specs.declared.moves.Move.TheVariants as move
-use Rattle.tc_base.specs.declared.request.Request.{Request}
-use Rattle.tc_base.specs.declared.request.Request.TheVariants.{Silent, Read, Exchange, CompareExchange, Acquire, Release, OrderStores}
-use Rattle.tc_code.specs.Code.{Code}
-use Rattle.tc_code.specs.Step.{request, instr_of, in_memory, replaced}
-use Rattle.tc_code.specs.Run.{run, run_from}
+use Rattle.run_laws.specs.tc_base.Names.{Name}
+use Rattle.run_laws.specs.tc_base.Buffers.{BufferOps}
+use Rattle.run_laws.specs.tc_base.States.{Local, Thread, State}
+use Rattle.run_laws.specs.tc_base.declared.moves.Move.{Move}
+use Rattle.run_laws.specs.tc_base.declared.moves.Move.TheVariants as move
+use Rattle.run_laws.specs.tc_base.declared.request.Request.{Request}
+use Rattle.run_laws.specs.tc_base.declared.request.Request.TheVariants.{Silent, Read, Exchange, CompareExchange, Acquire, Release, OrderStores}
+use Rattle.run_laws.specs.tc_code.Code.{Code}
+use Rattle.run_laws.specs.tc_code.Step.{request, instr_of, in_memory, replaced}
+use Rattle.run_laws.specs.tc_code.Run.{run, run_from}
 use Rattle.run_laws.specs.Alone.{same}
 use Rattle.pure_turns.specs.Live.{Liveness, AgreeWhereLive, AreAlike}
 
@@ -78,7 +78,8 @@ module _ {B : Type 0} (ops : BufferOps B) (code : Code) where
 
   -- these moves from a state are a pure turn of a thread: it takes some steps, all of them pure,
   -- comes back to its place with the same value in each slot that is live there, and holds the same
-  pub record IsPureTurn (live : Liveness) (n : Name) (s : State B) (moves : List Move) : Type 0 where
+  pub record IsPureTurn (live : Liveness) (n : Name) (s : State B)
+      (moves : List Move) : Type 0 where
     pub state : State B
     pub leads : run_from ops code s moves ≡ Some state
     pub steps : list_any (is_step_of n) moves ≡ true
@@ -99,7 +100,8 @@ module _ {B : Type 0} (ops : BufferOps B) (code : Code) where
 
   -- without the thread's steps in the turn the moves are fewer, and lead to the same state, except
   -- for the thread
-  pub record ComesOut (live : Liveness) (n : Name) (older turn newer : List Move) (w : State B) : Type 0 where
+  pub record ComesOut (live : Liveness) (n : Name) (older turn newer : List Move)
+      (w : State B) : Type 0 where
     pub state : State B
     pub leads : run ops code (older ++ without_steps_of n turn ++ newer) ≡ Some state
     pub fewer : length (without_steps_of n turn) < length turn

@@ -5,15 +5,15 @@
 #![tactic(auto)]
 
 ghost use Rattle.std.specs.Prelude.{◌≡◌, ℕ, ℤ, List, ◌++◌, Some, None};
-ghost use Rattle.tc_base.specs.Buffers.{BufferOps};
-ghost use Rattle.tc_base.specs.Names.{Name};
-ghost use Rattle.tc_base.specs.States.{Local, State};
-ghost use Rattle.tc_base.specs.declared.moves.Move.{Move};
-ghost use Rattle.tc_code.specs.declared.instr.Instr.{Instr};
-ghost use Rattle.tc_code.specs.Code.{Code};
-ghost use Rattle.tc_code.specs.Lawful.{IsLawful};
-ghost use Rattle.tc_code.specs.Run.{run, IsReached, IsStuck};
-ghost use Rattle.tc_code.specs.Step.{request, local_after, instr_of};
+ghost use Rattle.run_laws.specs.tc_base.Buffers.{BufferOps};
+ghost use Rattle.run_laws.specs.tc_base.Names.{Name};
+ghost use Rattle.run_laws.specs.tc_base.States.{Local, State};
+ghost use Rattle.run_laws.specs.tc_base.declared.moves.Move.{Move};
+ghost use Rattle.run_laws.specs.tc_code.declared.instr.Instr.{Instr};
+ghost use Rattle.run_laws.specs.tc_code.Code.{Code};
+ghost use Rattle.run_laws.specs.tc_code.Lawful.{IsLawful};
+ghost use Rattle.run_laws.specs.tc_code.Run.{run, IsReached, IsStuck};
+ghost use Rattle.run_laws.specs.tc_code.Step.{request, local_after, instr_of};
 ghost use Rattle.pure_turns.specs.Live.{Liveness, IsClosed, AreAlike};
 ghost use Rattle.pure_turns.specs.Turn.{HasOutcomesUpTo, IsSameBut, IsPureTurn, HasNoPureTurn, ComesOut};
 

@@ -9,7 +9,7 @@ use Rattle.std.proofs.lemmas.List.Elements.{All-contains, All-weaker, Contains-g
 use Rattle.std.proofs.lemmas.List.Folds.{list_all-map}
 use Rattle.std.proofs.lemmas.List.FromFn.{get_or-range_with_len, length-range_with_len}
 use Rattle.std.proofs.lemmas.Option.{slice_get_cases}
-use Rattle.sym_terms.specs.declared.node.Node.{Node}
+use Rattle.order_formula.specs.sym_terms.declared.node.Node.{Node}
 use Rattle.order_formula.specs.declared.formula.Conjunct.{Conjunct}
 use Rattle.order_formula.specs.declared.group.Group.{Group}
 use Rattle.order_formula.specs.Groups.{HoldsIn}
@@ -18,10 +18,10 @@ use Rattle.order_formula.specs.Truth.{body_at}
 use Rattle.order_formula.specs.Worlds.{World, is_before}
 use Rattle.order_events.proofs.Lists.{at_in, in_filter, of_filter}
 use Rattle.order_events.proofs.Parts.{all_from, all_of}
-use Rattle.bit_ranks.specs.Ranks.{ranks_of}
-use Rattle.bit_ranks.proofs.RankLaws.{different-order, length-ranks, ranks-below, ranks-differ, ranks-order}
-use Rattle.cnf_core.specs.Clauses.{Valuation, clause_true, satisfies}
-use Rattle.bit_order.specs.Laws.{IsWorldFor}
+use Rattle.bit_blast.specs.bit_ranks.Ranks.{ranks_of}
+use Rattle.bit_blast.proofs.bit_ranks.RankLaws.{different-order, length-ranks, ranks-below, ranks-differ, ranks-order}
+use Rattle.refute_check.specs.cnf_core.Clauses.{Valuation, clause_true, satisfies}
+use Rattle.bit_blast.specs.bit_order.Laws.{IsWorldFor}
 use Rattle.bit_blast.specs.Blasted.{Blasted, IsPosed, RootsTell, background, blast, clause_at, layout_of, root_of}
 use Rattle.bit_blast.proofs.Posed.{roots-tell}
 use Rattle.bit_blast.proofs.Same.{body_same}

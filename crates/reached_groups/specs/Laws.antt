@@ -1,8 +1,8 @@
 -- What it means for a derivation to reach groups.
 use Rattle.std.specs.Prelude.{◌≡◌, ℕ, List, Some, None, get_or, length}
 use Rattle.std.specs.List.{All, Contains}
-use Rattle.int_ops.specs.Arith.{IsInt}
-use Rattle.sym_terms.specs.declared.node.Node.{Node}
+use Rattle.order_formula.specs.int_ops.Arith.{IsInt}
+use Rattle.order_formula.specs.sym_terms.declared.node.Node.{Node}
 use Rattle.order_formula.specs.declared.formula.Conjunct.{Conjunct}
 use Rattle.order_formula.specs.declared.group.Group.{Group}
 use Rattle.order_formula.specs.Groups.{HoldsIn}
@@ -20,11 +20,15 @@ pub record IsWorldIn (o : Order) (count : ℕ) (w : World) : Type 0 where
   pub loads : length w.loads ≡ count
   pub ints : All IsInt w.loads
   pub sleeps : length w.enders ≡ o.sleeps
-  pub chosen : (sleep by : ℕ) → get_or w.enders sleep None ≡ Some by → Contains o.choices (record { sleep = sleep; by = by })
+  pub chosen : (sleep by : ℕ) → get_or w.enders sleep None ≡ Some by
+      → Contains o.choices (record { sleep = sleep; by = by })
 
 -- no world makes the conjuncts of all groups true that a closed derivation reaches
 abbrev pub GroupsBind : Type 0
-GroupsBind = (nodes : List Node) (formula : List Conjunct) (o : Order) (loads : ℕ) (lines : List Line) (groups : List Group)
-    → IsPosed nodes formula o → IsOrder (layout_of o loads formula).order → IsClosed (blast nodes formula o loads).clauses lines
+GroupsBind =
+    (nodes : List Node) (formula : List Conjunct) (o : Order) (loads : ℕ) (lines : List Line)
+    (groups : List Group)
+    → IsPosed nodes formula o → IsOrder (layout_of o loads formula).order
+    → IsClosed (blast nodes formula o loads).clauses lines
     → AreReachedGroups formula (blast nodes formula o loads) lines groups
     → (w : World) → IsWorldIn o loads w → All (HoldsIn nodes w formula) groups → ⊥

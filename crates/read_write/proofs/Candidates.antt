@@ -15,8 +15,8 @@ use Rattle.order_formula.specs.declared.read.Candidate.{Candidate}
 use Rattle.order_formula.specs.Reads as plain
 use Rattle.order_formula.specs.Truth.{is_read, passes_at}
 use Rattle.order_formula.specs.Worlds.{World, is_before}
-use Rattle.lawful_order.specs.Cells.{is_same_cell}
-use Rattle.lawful_order.specs.Events.{Of, IsBefore, all_events, number_of}
+use Rattle.order_cells.specs.lawful_order.Cells.{is_same_cell}
+use Rattle.order_cells.specs.lawful_order.Events.{Of, IsBefore, all_events, number_of}
 use Rattle.order_cells.specs.Same.{known_same, same_test}
 use Rattle.order_cells.proofs.Told.{either, tested, told}
 use Rattle.read_write.specs.Accesses.{is_one, is_earlier}

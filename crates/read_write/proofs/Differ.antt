@@ -14,8 +14,8 @@ use Rattle.order_formula.specs.declared.formula.Body.TheVariants as body
 use Rattle.order_formula.specs.declared.formula.Conjunct.{Conjunct}
 use Rattle.order_formula.specs.declared.read.Candidate.{Candidate}
 use Rattle.order_formula.specs.Reads.{Read}
-use Rattle.lawful_order.specs.Events.{Of, all_events, all_from, number_of}
-use Rattle.lawful_order.specs.Whole.{HasStep, IsExecutedBy}
+use Rattle.order_cells.specs.lawful_order.Events.{Of, all_events, all_from, number_of}
+use Rattle.order_cells.specs.lawful_order.Whole.{HasStep, IsExecutedBy}
 use Rattle.order_cells.specs.Same.{known_same}
 use Rattle.order_events.proofs.Lists.{in_at, in_front, in_back, of_map, of_filter_map}
 use Rattle.order_events.proofs.Numbers.{of_all_from, one_step}

@@ -23,11 +23,11 @@ use Rattle.order_formula.specs.Reads as plain
 use Rattle.order_formula.specs.Truth.{is_read, read_at, source_at, value_at}
 use Rattle.order_formula.specs.Worlds.{World, IsWorld, position}
 use Rattle.order_formula.proofs.Last.{IsGreatest, Picks, picks}
-use Rattle.lawful_order.specs.Cells.{value_at_start}
-use Rattle.lawful_order.specs.Events.{Of, IsBefore, all_events, number_of}
-use Rattle.lawful_order.specs.Lawful.{IsWorldOf}
-use Rattle.lawful_order.specs.Reads.{HasAccess, Sees, TakesFrom, TakesFirst, asks}
-use Rattle.lawful_order.specs.Whole.{AreWhole, HasStep, IsExecutedBy}
+use Rattle.order_cells.specs.lawful_order.Cells.{value_at_start}
+use Rattle.order_cells.specs.lawful_order.Events.{Of, IsBefore, all_events, number_of}
+use Rattle.order_cells.specs.lawful_order.Lawful.{IsWorldOf}
+use Rattle.order_cells.specs.lawful_order.Reads.{HasAccess, Sees, TakesFrom, TakesFirst, asks}
+use Rattle.order_cells.specs.lawful_order.Whole.{AreWhole, HasStep, IsExecutedBy}
 use Rattle.read_write.specs.Accesses.{all_accesses}
 use Rattle.read_write.specs.Reading.{candidate_of, candidate_with, needs_of, read_of, test_of}
 use Rattle.order_cells.proofs.Needs.{value_there}

@@ -16,8 +16,8 @@ use Rattle.order_formula.specs.Truth.{body_at}
 use Rattle.order_formula.specs.Worlds.{World}
 use Rattle.order_formula.specs.declared.formula.Conjunct.{Conjunct}
 use Rattle.order_formula.specs.declared.group.Group.TheVariants.{Read}
-use Rattle.lawful_order.specs.Events.{Of, all_events}
-use Rattle.lawful_order.specs.Reads.{ReadRule}
+use Rattle.order_cells.specs.lawful_order.Events.{Of, all_events}
+use Rattle.order_cells.specs.lawful_order.Reads.{ReadRule}
 use Rattle.read_write.specs.Accesses.{all_accesses}
 use Rattle.read_write.specs.Reading.{conjunct_of, line_in, needs_of, read_formula, read_needs}
 use Rattle.read_write.proofs.Exact.{IsAbout, read_from_takes, takes_from_read}

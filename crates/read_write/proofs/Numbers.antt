@@ -11,9 +11,9 @@ use Rattle.path_walk.specs.declared.event.Event.{Event}
 use Rattle.sym_exec.specs.Executed.{Symbolic}
 use Rattle.sym_exec.specs.declared.symbolic.Access.{Access}
 use Rattle.order_formula.specs.Worlds.{World, IsWorld, position}
-use Rattle.lawful_order.specs.Events.{Of, HasEvent, all_events, number_of}
-use Rattle.lawful_order.specs.Reads.{HasAccess}
-use Rattle.lawful_order.specs.Whole.{AreWhole, IsExecutedBy}
+use Rattle.order_cells.specs.lawful_order.Events.{Of, HasEvent, all_events, number_of}
+use Rattle.order_cells.specs.lawful_order.Reads.{HasAccess}
+use Rattle.order_cells.specs.lawful_order.Whole.{AreWhole, IsExecutedBy}
 use Rattle.order_events.proofs.Lists.{in_at}
 use Rattle.order_events.proofs.Numbers.{has_number, in_all_from, is_step_at, of_all_from}
 use Rattle.read_write.specs.Accesses.{all_accesses}

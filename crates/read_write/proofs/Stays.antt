@@ -16,8 +16,8 @@ use Rattle.order_formula.specs.declared.formula.Body.TheVariants as body
 use Rattle.order_formula.specs.declared.formula.Conjunct.{Conjunct}
 use Rattle.order_formula.specs.declared.group.Group.TheVariants as group
 use Rattle.order_formula.specs.declared.read.Candidate.{Candidate}
-use Rattle.lawful_order.specs.Cells.{value_at_start}
-use Rattle.lawful_order.specs.Events.{Of, all_events}
+use Rattle.order_cells.specs.lawful_order.Cells.{value_at_start}
+use Rattle.order_cells.specs.lawful_order.Events.{Of, all_events}
 use Rattle.order_cells.specs.Same.{known_same, same_test}
 use Rattle.order_cells.specs.Terms.{AccessIsOf, CellIsOf, HaveTerms}
 use Rattle.order_cells.proofs.Needs.{id_stays}

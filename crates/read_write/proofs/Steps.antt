@@ -20,8 +20,8 @@ use Rattle.order_formula.specs.declared.formula.Body.TheVariants as body
 use Rattle.order_formula.specs.declared.formula.Conjunct.{Conjunct}
 use Rattle.order_formula.specs.declared.group.Group.TheVariants as group
 use Rattle.order_formula.specs.declared.read.Candidate.{Candidate}
-use Rattle.lawful_order.specs.Cells.{value_at_start}
-use Rattle.lawful_order.specs.Events.{Of}
+use Rattle.order_cells.specs.lawful_order.Cells.{value_at_start}
+use Rattle.order_cells.specs.lawful_order.Events.{Of}
 use Rattle.order_cells.specs.Same.{same_test}
 use Rattle.order_cells.specs.Terms.{AccessIsOf, CellIsOf}
 use Rattle.order_cells.proofs.Needs.{grows_all, id_made, id_stays, made_there}

@@ -15,9 +15,9 @@ use Rattle.sym_exec.proofs.Grown.{grows_both}
 use Rattle.order_formula.specs.Formulas.{CandidateIsOf, ConjunctIsOf, IsOf}
 use Rattle.order_formula.specs.Orders.{ConjunctIsIn, Order}
 use Rattle.order_formula.specs.declared.read.Candidate.{Candidate}
-use Rattle.lawful_order.specs.Cells.{value_at_start}
-use Rattle.lawful_order.specs.Events.{Of, all_events, number_of}
-use Rattle.lawful_order.specs.Whole.{IsExecutedBy}
+use Rattle.order_cells.specs.lawful_order.Cells.{value_at_start}
+use Rattle.order_cells.specs.lawful_order.Events.{Of, all_events, number_of}
+use Rattle.order_cells.specs.lawful_order.Whole.{IsExecutedBy}
 use Rattle.order_cells.specs.Same.{same_test}
 use Rattle.order_cells.specs.Terms.{HaveTerms}
 use Rattle.order_cells.proofs.Needs.{all_there, grows_all, id_within, there_later}

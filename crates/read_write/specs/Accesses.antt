@@ -2,7 +2,7 @@
 use Rattle.std.specs.Prelude.{◌==◌, ◌&&◌, Bool, nat_lt, List}
 use Rattle.sym_exec.specs.Executed.{Symbolic}
 use Rattle.sym_exec.specs.declared.symbolic.Access.{Access}
-use Rattle.lawful_order.specs.Events.{Of, all_from}
+use Rattle.order_cells.specs.lawful_order.Events.{Of, all_from}
 
 -- all accesses, one thread after another
 abbrev pub all_accesses : Symbolic → List (Of Access)

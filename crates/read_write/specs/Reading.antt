@@ -15,8 +15,8 @@ use Rattle.order_formula.specs.declared.formula.Body.TheVariants as body
 use Rattle.order_formula.specs.declared.formula.Conjunct.{Conjunct}
 use Rattle.order_formula.specs.declared.group.Group.TheVariants as group
 use Rattle.order_formula.specs.declared.read.Candidate.{Candidate}
-use Rattle.lawful_order.specs.Cells.{value_at_start}
-use Rattle.lawful_order.specs.Events.{Of, all_events}
+use Rattle.order_cells.specs.lawful_order.Cells.{value_at_start}
+use Rattle.order_cells.specs.lawful_order.Events.{Of, all_events}
 use Rattle.order_events.specs.Parts.{number_in}
 use Rattle.order_cells.specs.Same.{known_same, same_test}
 use Rattle.read_write.specs.Accesses.{all_accesses, is_one, is_earlier}
@@ -32,11 +32,15 @@ module _ (nodes : List Node) (load : Of Access) where
 
   -- the test whether a write is to the load's cell, if the load may see it and that isn't known
   abbrev pub test_of : Of Access → Option Node
-  test_of b = if may_be_seen b then option_and_then (λ _. same_test nodes b.it.cell load.it.cell) b.it.writes else None
+  test_of b =
+      if may_be_seen b
+      then option_and_then (λ _. same_test nodes b.it.cell load.it.cell) b.it.writes else None
 
 -- the nodes that a load needs: its value, its cell's initial value, and the tests
 abbrev pub needs_of : Code → List (Of Access) → List Node → Of Access → ℕ → List Node
-needs_of code accesses nodes load number = Symbol number ∷ Constant (value_at_start code load.it.cell) ∷ filter_map (test_of nodes load) accesses
+needs_of code accesses nodes load number =
+    Symbol number ∷ Constant (value_at_start code load.it.cell)
+    ∷ filter_map (test_of nodes load) accesses
 
 -- the nodes that all loads need, one load after another
 abbrev pub read_needs : Code → Symbolic → List Node → List Node
@@ -56,9 +60,11 @@ module _ (events : List (Of Event)) (nodes : List Node) (load : Of Access) where
 
   -- an access as a candidate, if it is a write that the load may see
   abbrev pub candidate_of : Of Access → Option Candidate
-  candidate_of b = if may_be_seen nodes load b then option_map (candidate_with b) b.it.writes else None
+  candidate_of b =
+      if may_be_seen nodes load b then option_map (candidate_with b) b.it.writes else None
 
-module _ (code : Code) (events : List (Of Event)) (accesses : List (Of Access)) (nodes : List Node) where
+module _ (code : Code) (events : List (Of Event)) (accesses : List (Of Access))
+    (nodes : List Node) where
   -- the value of the load `number`; its candidates are all writes that it may see
   abbrev pub read_of : Of Access → ℕ → plain.Read
   read_of load number = record {
@@ -79,4 +85,5 @@ module _ (code : Code) (events : List (Of Event)) (accesses : List (Of Access)) 
 abbrev pub read_formula : Code → Paths → Symbolic → List Node → List Conjunct
 read_formula code paths symbolic nodes =
     let accesses = all_accesses symbolic in
-    filter_map (λ a. option_map (conjunct_of code (all_events paths) accesses nodes a) a.it.takes) accesses
+    filter_map
+    (λ a. option_map (conjunct_of code (all_events paths) accesses nodes a) a.it.takes) accesses

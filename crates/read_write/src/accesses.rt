@@ -14,7 +14,7 @@ pub(crate) struct PlacedAccess {
 }
 
 impl Model for PlacedAccess {
-    ghost use Rattle.lawful_order.specs.Events.{Of};
+    ghost use Rattle.order_cells.specs.lawful_order.Events.{Of};
     ghost use Rattle.sym_exec.specs.declared.symbolic.Access.{Access};
 
     ghost Value = { Of Access };

@@ -15,10 +15,10 @@ ghost use Rattle.order_formula.specs.Worlds.{World, IsWorld};
 ghost use Rattle.order_formula.specs.declared.formula.Body.TheVariants as body;
 ghost use Rattle.order_formula.specs.declared.formula.Conjunct.{Conjunct};
 ghost use Rattle.order_formula.specs.declared.group.Group.TheVariants.{Read};
-ghost use Rattle.lawful_order.specs.Events.{all_events};
-ghost use Rattle.lawful_order.specs.Lawful.{IsWorldOf};
-ghost use Rattle.lawful_order.specs.Reads.{ReadRule};
-ghost use Rattle.lawful_order.specs.Whole.{AreWhole, IsExecutedBy};
+ghost use Rattle.order_cells.specs.lawful_order.Events.{all_events};
+ghost use Rattle.order_cells.specs.lawful_order.Lawful.{IsWorldOf};
+ghost use Rattle.order_cells.specs.lawful_order.Reads.{ReadRule};
+ghost use Rattle.order_cells.specs.lawful_order.Whole.{AreWhole, IsExecutedBy};
 ghost use Rattle.order_cells.specs.Terms.{HaveTerms};
 ghost use Rattle.read_write.specs.Reading.{read_formula, read_needs};
 

@@ -2,14 +2,14 @@
 ghost use Rattle.std.specs.Prelude.{◌≡◌, ◌≤◌, [], List, fold, length, IfOk, OnOk, option_map, slice_get};
 ghost use Rattle.std.specs.List.{All, filter_map, flat_map};
 ghost use Rattle.std.specs.Option.{option_map_or, option_to_list};
-ghost use Rattle.tc_limits.specs.declared.limits.TheConstants.{EVENTS};
+ghost use Rattle.tc_code.specs.tc_limits.declared.limits.TheConstants.{EVENTS};
 ghost use Rattle.sym_terms.specs.Terms.{with_node};
 ghost use Rattle.sym_terms.specs.declared.node.Node.{Node};
 ghost use Rattle.sym_exec.specs.Making.{Grows};
 ghost use Rattle.order_formula.specs.Orders as orders;
-ghost use Rattle.lawful_order.specs.Cells as cells;
-ghost use Rattle.lawful_order.specs.Events.{all_events};
-ghost use Rattle.lawful_order.specs.Whole.{IsExecutedBy};
+ghost use Rattle.order_cells.specs.lawful_order.Cells as cells;
+ghost use Rattle.order_cells.specs.lawful_order.Events.{all_events};
+ghost use Rattle.order_cells.specs.lawful_order.Whole.{IsExecutedBy};
 ghost use Rattle.order_cells.specs.Terms.{AccessIsOf, HaveTerms};
 ghost use Rattle.read_write.specs.Reading as spec;
 

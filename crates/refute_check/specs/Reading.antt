@@ -25,8 +25,10 @@ beginning = record { unfinished = []; line = 1; fault = None }
 abbrev pub IsTakenAs : ℕ → List ℕ → Taken → Type 0
 IsTakenAs n bytes More = ⊥
 IsTakenAs n bytes (Header h) = (n ≡ 1) × IsTrue (is_head h) × (head_text h ≡ bytes)
-IsTakenAs n bytes (Body l) = (1 < n) × (n ≤ LINES + 1) × IsTrue (is_readable l) × (line_text l ≡ bytes)
-IsTakenAs n bytes (Form k) = (k ≡ n) × (n ≡ 1 → IsNoHead bytes) × (1 < n → n ≤ LINES + 1 → IsNoLine bytes)
+IsTakenAs n bytes (Body l) =
+    (1 < n) × (n ≤ LINES + 1) × IsTrue (is_readable l) × (line_text l ≡ bytes)
+IsTakenAs n bytes (Form k) =
+    (k ≡ n) × (n ≡ 1 → IsNoHead bytes) × (1 < n → n ≤ LINES + 1 → IsNoLine bytes)
 
 -- the state after a line
 abbrev pub after_taken : Reading → Taken → Reading
@@ -39,12 +41,15 @@ Reads s [] ts t = (ts ≡ []) × (t ≡ s)
 Reads s (b ∷ bs) ts t =
     MatchBool (is_some s.fault) ((ts ≡ []) × (t ≡ s))
     (MatchBool (b == 10)
-    ((x : Taken) × (xs : List Taken) × (ts ≡ x ∷ xs) × IsTakenAs s.line s.unfinished x × Reads (after_taken s x) bs xs t)
+    ((x : Taken) × (xs : List Taken) × (ts ≡ x ∷ xs) × IsTakenAs s.line s.unfinished x
+    × Reads (after_taken s x) bs xs t)
     (Reads (record s { unfinished = s.unfinished ++ b ∷ [] }) bs ts t))
 
 -- reading bytes in two pieces gives the same lines as reading them at once
 abbrev pub CutsAgree : Type 0
-CutsAgree = (front back : List ℕ) (s t u : Reading) (xs ys : List Taken) → Reads s front xs t → Reads t back ys u → Reads s (front ++ back) (xs ++ ys) u
+CutsAgree =
+    (front back : List ℕ) (s t u : Reading) (xs ys : List Taken) → Reads s front xs t
+    → Reads t back ys u → Reads s (front ++ back) (xs ++ ys) u
 
 -- the line of an answer, if it has one
 abbrev pub lines_of : Taken → List Taken
@@ -60,7 +65,9 @@ fault_of t = None
 
 -- the first line that breaks the form if the text ends here, as a missing header or line end does
 abbrev pub first_breach : Reading → Option ℕ
-first_breach s = option_map_or (λ k. Some k) s.fault (if s.line == 1 || not (is_nil s.unfinished) then Some s.line else None)
+first_breach s =
+    option_map_or (λ k. Some k) s.fault
+    (if s.line == 1 || not (is_nil s.unfinished) then Some s.line else None)
 
 -- the lines of a derivation, as lines of a text
 abbrev pub bodies : List Line → List Taken

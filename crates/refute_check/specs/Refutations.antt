@@ -29,7 +29,8 @@ abbrev pub hints_fault : ℕ → KeptClauses → List ℤ → List ℕ → Optio
 hints_fault n kept given [] = Some (NoConflict n)
 hints_fault n kept given (h ∷ hs) =
     option_map_or
-    (λ c. by_left (left_of_clause given c) (if is_nil hs then None else Some (Hint n)) (λ l. hints_fault n kept (given ++ l ∷ []) hs) (Some (Hint n)))
+    (λ c. by_left (left_of_clause given c) (if is_nil hs then None else Some (Hint n))
+    (λ l. hints_fault n kept (given ++ l ∷ []) hs) (Some (Hint n)))
     (get kept h)
     (Some (NoClause n))
 
@@ -44,7 +45,8 @@ without_clauses kept ns = fold remove kept ns
 
 -- the first fault of line `n` if it adds a clause, over `vars` variables and the kept clauses
 abbrev pub clause_fault : ℕ → ℕ → KeptClauses → List ℤ → List ℕ → Option CheckFault
-clause_fault n vars kept lits hints = if is_within vars lits then hints_fault n kept (map neg_ℤ lits) hints else Some (NoVariable n)
+clause_fault n vars kept lits hints =
+    if is_within vars lits then hints_fault n kept (map neg_ℤ lits) hints else Some (NoVariable n)
 
 -- the first fault of line `n`
 abbrev pub line_fault : ℕ → ℕ → KeptClauses → Line → Option CheckFault
@@ -70,7 +72,8 @@ keep s c = record s { kept = insert s.kept s.next c; next = s.next + 1 }
 
 -- the state before any clause, over `vars` variables
 abbrev pub opening : ℕ → Checking
-opening vars = record { line = 1; vars = vars; kept = empty; next = 1; closed = false; fault = None }
+opening vars =
+    record { line = 1; vars = vars; kept = empty; next = 1; closed = false; fault = None }
 
 -- the state with the clauses of a formula, numbered 1, 2 and so on
 abbrev pub start : Formula → Checking
@@ -96,7 +99,8 @@ state_after_verdict (Some f) s l = state_after_fault f s
 
 -- the state after a line; after a fault, nothing changes any more
 abbrev pub state_after_line : Checking → Line → Checking
-state_after_line s l = if is_some s.fault then s else state_after_verdict (line_fault (s.line + 1) s.vars s.kept l) s l
+state_after_line s l =
+    if is_some s.fault then s else state_after_verdict (line_fault (s.line + 1) s.vars s.kept l) s l
 
 -- the first fault, or else whether an empty clause was added
 abbrev pub verdict_of : Option CheckFault → Bool → Result Checked CheckFault

@@ -29,7 +29,8 @@ numbers_text ns = flat_map (λ n. codes " " ++ signed_decimal n) ns
 
 -- another line, without its line end: a letter, then lists of numbers that each end with 0
 abbrev pub line_text : Line → List ℕ
-line_text (Add lits hints) = codes "a" ++ numbers_text lits ++ codes " 0" ++ numbers_text (map pos hints) ++ codes " 0"
+line_text (Add lits hints) =
+    codes "a" ++ numbers_text lits ++ codes " 0" ++ numbers_text (map pos hints) ++ codes " 0"
 line_text (Delete ns) = codes "d" ++ numbers_text (map pos ns) ++ codes " 0"
 
 -- a line with its line end
@@ -42,7 +43,9 @@ refutation_text h lines = ended (head_text h) ++ flat_map (λ l. ended (line_tex
 
 -- a line that the format can express: sorted literals, numbers of 32 bits, no empty deletion
 abbrev pub is_readable : Line → Bool
-is_readable (Add lits hints) = is_clause lits && list_all (λ l. nat_lt (var_of l) 2147483648) lits && list_all (λ n. nat_lt 0 n && nat_lt n 4294967296) hints
+is_readable (Add lits hints) =
+    is_clause lits && list_all (λ l. nat_lt (var_of l) 2147483648) lits
+    && list_all (λ n. nat_lt 0 n && nat_lt n 4294967296) hints
 is_readable (Delete ns) = not (is_nil ns) && list_all (λ n. nat_lt 0 n && nat_lt n 4294967296) ns
 
 -- the bytes aren't the text of a line

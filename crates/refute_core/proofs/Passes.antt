@@ -11,7 +11,7 @@ use Rattle.std.proofs.lemmas.Bool.{false≢true}
 use Rattle.std.proofs.lemmas.Option.{none-some}
 use borrow.Author.Tests.{eqb-true}
 use Rattle.cnf_core.specs.Clauses.{is_within, Formula}
-use Rattle.list_laws.specs.Lists.{is_nil}
+use Rattle.refute_check.specs.list_laws.Lists.{is_nil}
 use Rattle.refute_check.specs.Kept.{KeptClauses}
 use Rattle.refute_check.specs.Left.{by_left, left_of_clause}
 use Rattle.refute_check.specs.Refutations.{Checking, IsClosed, keep, opening, start, without_clauses, hints_fault, line_fault, state_after_line, state_after_verdict, state_after_pass, verdict_of}

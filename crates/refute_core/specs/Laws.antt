@@ -10,5 +10,6 @@ use Rattle.refute_core.specs.Reached.{IsReached}
 abbrev pub ReachedAreUnsatisfiable : Type 0
 ReachedAreUnsatisfiable =
     (f : Formula) (lines : List Line) (places : List ℕ) → IsClosed f lines
-    → ((place : ℕ) → place < length f.clauses → IsReached (length f.clauses) lines (place + 1) → Contains places place)
+    → ((place : ℕ) → place < length f.clauses → IsReached (length f.clauses) lines (place + 1)
+    → Contains places place)
     → IsUnsatisfiable (map (λ place. get_or f.clauses place []) places)

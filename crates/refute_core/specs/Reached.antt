@@ -2,7 +2,7 @@
 use Rattle.std.specs.Prelude.{◌≡◌, ℕ, ◌+◌, ◌<◌, List, [], ◌∷◌, length, get_or, Bool, true, false, if◌then◌else◌}
 use Rattle.std.specs.List.{Contains}
 use Rattle.cnf_core.specs.Clauses.{Formula}
-use Rattle.list_laws.specs.Lists.{is_nil}
+use Rattle.refute_check.specs.list_laws.Lists.{is_nil}
 use Rattle.refute_check.specs.declared.line.Line.{Line}
 use Rattle.refute_check.specs.declared.line.Line.TheVariants.{Add, Delete}
 
@@ -18,10 +18,13 @@ pub data IsReached (size : ℕ) (lines : List Line) : ℕ → Type 0 where
   -- the first empty clause
   First : (n : ℕ) → n ≡ size + length (hints_used lines) → IsReached size lines n
   -- a hint of a reached clause that was added after `others` others
-  Hinted : (others n : ℕ) → IsReached size lines (size + others + 1) → Contains (get_or (hints_used lines) others []) n → IsReached size lines n
+  Hinted : (others n : ℕ) → IsReached size lines (size + others + 1)
+      → Contains (get_or (hints_used lines) others []) n → IsReached size lines n
 
 -- the marks tell for each clause of a formula, in order, whether it is reached
 pub record AreReached (f : Formula) (lines : List Line) (marks : List Bool) : Type 0 where
   pub all : length marks ≡ length f.clauses
-  pub reached : (place : ℕ) → get_or marks place false ≡ true → IsReached (length f.clauses) lines (place + 1)
-  pub every : (place : ℕ) → place < length f.clauses → IsReached (length f.clauses) lines (place + 1) → get_or marks place false ≡ true
+  pub reached : (place : ℕ) → get_or marks place false ≡ true
+      → IsReached (length f.clauses) lines (place + 1)
+  pub every : (place : ℕ) → place < length f.clauses
+      → IsReached (length f.clauses) lines (place + 1) → get_or marks place false ≡ true

@@ -2,9 +2,9 @@
 use Rattle.std.proofs.Common.{◌≡◌, ◌≢◌, ◌∙◌, ◌⊎◌, inl, inr, ap, refl, sym, subst, ℕ, List, [], ◌∷◌, Option, Some, None, IfSome, Result, Ok, Err}
 use Rattle.schedule_replay.specs.declared.verdict.Verdict.{Verdict}
 use Rattle.schedule_replay.specs.declared.verdict.Verdict.TheVariants as verdict
-use Rattle.tc_compile.specs.Programs.{IsRefusal}
+use Rattle.command_inputs.specs.tc_compile.Programs.{IsRefusal}
 use Rattle.tc_io.specs.Outside.{Files, SinkTells, Wrote, bytes_at}
-use Rattle.tc_parser.specs.declared.fault.TextFault.{TextFault}
+use Rattle.command_inputs.specs.tc_parser.declared.fault.TextFault.{TextFault}
 use Rattle.command_frame.specs.Answers.{IsFaultStatus, number_of}
 use Rattle.command_frame.specs.ByStatus.{Decides}
 use Rattle.command_frame.specs.Inputs.{Texts}

@@ -1,7 +1,7 @@
 -- What comes of three files is one thing.
 use Rattle.std.proofs.Common.{◌≡◌, ℕ, List, refl, ap, subst, Result, Ok, Err}
-use Rattle.path_log.proofs.Logs.{log_or_fault, one_fault, one_log}
-use Rattle.path_log.specs.Texts.{IsOfOther}
+use Rattle.command_inputs.proofs.path_log.Logs.{log_or_fault, one_fault, one_log}
+use Rattle.command_inputs.specs.path_log.Texts.{IsOfOther}
 use Rattle.run_log.specs.Logs.{StoredLog}
 use Rattle.schedule_file.proofs.Schedules as schedules
 use Rattle.schedule_replay.proofs.OneVerdict.{one_verdict}
@@ -9,9 +9,9 @@ use Rattle.schedule_replay.specs.Verdicts.{IsVerdict}
 use Rattle.schedule_replay.specs.declared.verdict.Verdict.{Verdict}
 use Rattle.store_buffers.specs.Buffers.{buffer_of}
 use Rattle.tc_code.specs.Code.{Code}
-use Rattle.tc_compile.proofs.OnePrograms.{one_code, one_refusal, refused_no_code}
-use Rattle.tc_compile.specs.Programs.{IsRefusal}
-use Rattle.tc_parser.specs.declared.fault.TextFault.{TextFault}
+use Rattle.command_inputs.proofs.tc_compile.OnePrograms.{one_code, one_refusal, refused_no_code}
+use Rattle.command_inputs.specs.tc_compile.Programs.{IsRefusal}
+use Rattle.command_inputs.specs.tc_parser.declared.fault.TextFault.{TextFault}
 use Rattle.command_inputs.proofs.Schedules.{one_schedule, schedule_or_fault}
 use Rattle.command_inputs.specs.Forms.{Schedule}
 use Rattle.command_inputs.specs.declared.refusal.LogRefusal.{LogRefusal}

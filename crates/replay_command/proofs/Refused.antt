@@ -1,12 +1,12 @@
 -- From a file that isn't of its form to why there is no verdict.
 use Rattle.std.proofs.Common.{ℕ, List}
-use Rattle.path_log.specs.Texts.{IsLog}
+use Rattle.command_inputs.specs.path_log.Texts.{IsLog}
 use Rattle.run_log.specs.Logs.{StoredLog}
 use Rattle.schedule_file.specs.Faults.{IsFault}
 use Rattle.schedule_file.specs.declared.fault.ScheduleFault.{ScheduleFault}
 use Rattle.schedule_file.specs.declared.fault.ScheduleFault.TheVariants.{Form, Memory}
 use Rattle.tc_code.specs.Code.{Code}
-use Rattle.tc_compile.specs.Programs.{IsCodeOf}
+use Rattle.command_inputs.specs.tc_compile.Programs.{IsCodeOf}
 use Rattle.command_inputs.specs.Forms.{IsOther, IsSchedule, IsUnread, IsWhy, Schedule}
 use Rattle.command_inputs.specs.helpers.Faults.{schedule_fault}
 use Rattle.command_inputs.specs.declared.refusal.Fault.{Fault}

@@ -2,9 +2,9 @@
 use Rattle.std.specs.Prelude.{◌≡◌, ◌≢◌, ◌⊎◌, ℕ, List, [], ◌∷◌, Result}
 use Rattle.schedule_replay.specs.declared.verdict.Verdict.{Verdict}
 use Rattle.schedule_replay.specs.declared.verdict.Verdict.TheVariants.{Reproduces}
-use Rattle.tc_compile.specs.Programs.{IsRefusal}
+use Rattle.command_inputs.specs.tc_compile.Programs.{IsRefusal}
 use Rattle.tc_io.specs.Outside.{SinkTells, Wrote}
-use Rattle.tc_parser.specs.declared.fault.TextFault.{TextFault}
+use Rattle.command_inputs.specs.tc_parser.declared.fault.TextFault.{TextFault}
 use Rattle.command_frame.specs.Answers.{IsFaultStatus, limit_line, number_of}
 use Rattle.command_frame.specs.ByStatus.{IsStatus}
 use Rattle.command_frame.specs.Inputs.{AreWithin, IsTooLong, Limit}
@@ -18,22 +18,35 @@ use Rattle.replay_command.specs.Meanings.{files_of}
 
 -- the first of the three that is too long passes this limit, whatever their names
 abbrev pub IsFirstTooLong : (program log schedule : List ℕ) → Limit → Type 0
-IsFirstTooLong program log schedule limit = IsTooLong (files_of [] [] []) (program ∷ log ∷ schedule ∷ []) limit
+IsFirstTooLong program log schedule limit =
+    IsTooLong (files_of [] [] []) (program ∷ log ∷ schedule ∷ []) limit
 
 -- none of the three is too long
 abbrev pub AreShort : (program log schedule : List ℕ) → Type 0
 AreShort program log schedule = AreWithin (files_of [] [] []) (program ∷ log ∷ schedule ∷ [])
 
 -- the answers, by status
-pub record ReplayAnswers (program log schedule : List ℕ) (status : ℕ) (before after : SinkTells) : Type 0 where
-  pub reproduces : status ≡ 0 → IsReplayed program log schedule Reproduces × Wrote before after (verdict_line Reproduces)
-  pub differs : status ≡ 1 → (v : Verdict) × (v ≢ Reproduces) × IsReplayed program log schedule v × Wrote before after (verdict_line v)
-  pub refused : status ≡ 3 → (fault : TextFault) × IsRefusal program fault × Wrote before after (program_line fault)
-  pub log_refused : status ≡ 4 → (r : LogRefusal) × IsLogRefused program log schedule r × Wrote before after (log_line r)
-  pub schedule_refused : status ≡ 5 → (line : ℕ) × IsScheduleRefused program log schedule line × Wrote before after (schedule_line line)
-  pub limit : status ≡ 6 → (limit : Limit) × IsFirstTooLong program log schedule limit × Wrote before after (limit_line limit)
+pub record ReplayAnswers (program log schedule : List ℕ) (status : ℕ)
+    (before after : SinkTells) : Type 0 where
+  pub reproduces : status ≡ 0
+      → IsReplayed program log schedule Reproduces × Wrote before after (verdict_line Reproduces)
+  pub differs : status ≡ 1
+      → (v : Verdict) × (v ≢ Reproduces) × IsReplayed program log schedule v
+      × Wrote before after (verdict_line v)
+  pub refused : status ≡ 3
+      → (fault : TextFault) × IsRefusal program fault × Wrote before after (program_line fault)
+  pub log_refused : status ≡ 4
+      → (r : LogRefusal) × IsLogRefused program log schedule r × Wrote before after (log_line r)
+  pub schedule_refused : status ≡ 5
+      → (line : ℕ) × IsScheduleRefused program log schedule line
+      × Wrote before after (schedule_line line)
+  pub limit : status ≡ 6
+      → (limit : Limit) × IsFirstTooLong program log schedule limit
+      × Wrote before after (limit_line limit)
   -- what comes of files that aren't too long is what is answered
-  pub exactly : (x : Result Verdict Refusal) → AreShort program log schedule → IsReplay program log schedule x
+  pub exactly : (x : Result Verdict Refusal) → AreShort program log schedule
+      → IsReplay program log schedule x
       → IsStatus status (number_of (outcome_status verdict_status x))
   -- no others, but for devices and memory
-  pub alone : (status ≡ 0) ⊎ (status ≡ 1) ⊎ (status ≡ 3) ⊎ (status ≡ 4) ⊎ (status ≡ 5) ⊎ (status ≡ 6) ⊎ IsFaultStatus status
+  pub alone : (status ≡ 0) ⊎ (status ≡ 1) ⊎ (status ≡ 3) ⊎ (status ≡ 4) ⊎ (status ≡ 5)
+      ⊎ (status ≡ 6) ⊎ IsFaultStatus status

@@ -1,14 +1,14 @@
 -- What comes of a program, a log and a schedule.
 use Rattle.std.specs.Prelude.{ℕ, List, [], ◌∷◌, Result, Ok, Err}
-use Rattle.path_log.specs.Faults.{BreaksAt as LogBreaksAt}
-use Rattle.path_log.specs.Texts.{IsLog, IsOfOther}
+use Rattle.command_inputs.specs.path_log.Faults.{BreaksAt as LogBreaksAt}
+use Rattle.command_inputs.specs.path_log.Texts.{IsLog, IsOfOther}
 use Rattle.run_log.specs.Logs.{StoredLog}
 use Rattle.schedule_file.specs.Faults.{BreaksAt as ScheduleBreaksAt}
 use Rattle.schedule_replay.specs.Verdicts.{IsVerdict}
 use Rattle.schedule_replay.specs.declared.verdict.Verdict.{Verdict}
 use Rattle.store_buffers.specs.Buffers.{buffer_of}
 use Rattle.tc_code.specs.Code.{Code}
-use Rattle.tc_compile.specs.Programs.{IsCodeOf, IsRefusal}
+use Rattle.command_inputs.specs.tc_compile.Programs.{IsCodeOf, IsRefusal}
 use Rattle.command_frame.specs.Inputs.{Texts}
 use Rattle.command_inputs.specs.Forms.{IsSchedule, Schedule}
 use Rattle.command_inputs.specs.declared.refusal.LogRefusal.{LogRefusal}
@@ -39,7 +39,8 @@ pub record IsForeign (program log schedule : List ℕ) : Type 0 where
 
 -- the program has its form and the log breaks its; or all have theirs, and the log is another's
 abbrev pub IsLogRefused : (program log schedule : List ℕ) → LogRefusal → Type 0
-IsLogRefused program log schedule (Form offset) = (code : Code) × IsCodeOf program code × LogBreaksAt log offset
+IsLogRefused program log schedule (Form offset) =
+    (code : Code) × IsCodeOf program code × LogBreaksAt log offset
 IsLogRefused program log schedule OtherProgram = IsForeign program log schedule
 IsLogRefused program log schedule (Unfit _ _) = ⊥
 
@@ -55,7 +56,8 @@ pub record IsScheduleRefused (program log schedule : List ℕ) (line : ℕ) : Ty
 abbrev pub IsUnreplayed : (program log schedule : List ℕ) → Refusal → Type 0
 IsUnreplayed program log schedule (refusal.Program fault) = IsRefusal program fault
 IsUnreplayed program log schedule (refusal.Log refused) = IsLogRefused program log schedule refused
-IsUnreplayed program log schedule (refusal.Schedule line) = IsScheduleRefused program log schedule line
+IsUnreplayed program log schedule (refusal.Schedule line) =
+    IsScheduleRefused program log schedule line
 IsUnreplayed program log schedule _ = ⊥
 
 -- the verdict on three files, or why there is none

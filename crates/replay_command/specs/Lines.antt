@@ -1,8 +1,8 @@
 -- The line and the status of each verdict.
 use Rattle.std.specs.Prelude.{ℕ, List, ◌++◌, codes}
 use Rattle.std.specs.Fmt.{decimal}
-use Rattle.tc_base.specs.Names.{name_text}
-use Rattle.tc_machine.specs.Why.{why_text}
+use Rattle.run_log.specs.tc_base.Names.{name_text}
+use Rattle.schedule_replay.specs.tc_machine.Why.{why_text}
 use Rattle.schedule_replay.specs.declared.verdict.Verdict.{Verdict}
 use Rattle.schedule_replay.specs.declared.verdict.Verdict.TheVariants as verdict
 use Rattle.command_frame.specs.declared.status.Status.{Status}
@@ -10,7 +10,8 @@ use Rattle.command_frame.specs.declared.status.Status.TheVariants.{Done, Fails}
 
 abbrev pub verdict_line : Verdict → List ℕ
 verdict_line verdict.Reproduces = codes "reproduces\n"
-verdict_line (verdict.Stops n reason) = codes "stops at move " ++ (decimal n ++ (codes ": " ++ (why_text reason ++ codes "\n")))
+verdict_line (verdict.Stops n reason) =
+    codes "stops at move " ++ (decimal n ++ (codes ": " ++ (why_text reason ++ codes "\n")))
 verdict_line verdict.NoFailure = codes "no failure\n"
 verdict_line verdict.NotStuck = codes "not stuck\n"
 verdict_line (verdict.OtherFailure n) = codes "other failure " ++ (name_text n ++ codes "\n")

@@ -11,7 +11,8 @@ use Rattle.replay_command.specs.Lines.{verdict_line, verdict_status}
 
 -- the three files, by their names
 abbrev pub files_of : (program log schedule : List ℕ) → List Wanted
-files_of program log schedule = Whole program_limit program ∷ Whole log_limit log ∷ Whole schedule_limit schedule ∷ []
+files_of program log schedule =
+    Whole program_limit program ∷ Whole log_limit log ∷ Whole schedule_limit schedule ∷ []
 
 -- `replay PROGRAM LOG SCHEDULE`
 abbrev pub replay_of : (program log schedule : List ℕ) → Meaning (Result Verdict Refusal)

@@ -10,23 +10,9 @@ use schedule_replay::Verdict;
 use std::alloc::{AllocError, Global};
 
 /// Replays a schedule of a log of a program.
-#[derive(Drop)]
+#[derive(Clone, Copy)]
 pub struct Replay<'a> {
     pub inputs: ((ProgramFile<'a>, LogFile<'a>), ScheduleFile<'a>),
-}
-
-impl<'a> Replay<'a> {
-    /// By the names of the three files.
-    pub fn new(program: &'a str, log: &'a str, schedule: &'a str) -> Replay<'a>
-        ensures program { result.inputs.0.0.name.now ≡ program.entry.now }
-        ensures log { result.inputs.0.1.name.now ≡ log.entry.now }
-        ensures schedule { result.inputs.1.name.now ≡ schedule.entry.now }
-    {
-        let both = (ProgramFile { name: program }, LogFile { name: log });
-        Replay {
-            inputs: (both, ScheduleFile { name: schedule }),
-        }
-    }
 }
 
 impl<'a> Command for Replay<'a> {

@@ -15,19 +15,17 @@ use command_frame::run;
 use std::alloc::Global;
 use tc_io::{Shelf, Sink};
 
-/// Replays the schedule of a log of a program, by the names of the three files.
+/// Replays the schedule of a log of a program.
 pub fn replay_files<H: Shelf, K: Sink>(
     alloc: Global,
-    program: &str,
-    log: &str,
-    schedule: &str,
+    replay: &Replay<'_>,
     shelf: &mut H,
     sink: &mut K,
 ) -> u8
-    ensures runs { Runs (replay_of program.now log.now schedule.now) (H.tells shelf.old) (H.tells shelf.new) result (K.tells sink.old) (K.tells sink.new) }
-    ensures answers { IfSome (H.tells shelf.old).held (λ files. ReplayAnswers (bytes_at files program.now) (bytes_at files log.now)
-        (bytes_at files schedule.now) result (K.tells sink.old) (K.tells sink.new)) }
+    ensures runs { Runs (replay_of replay.now.inputs.0.0.name.now replay.now.inputs.0.1.name.now replay.now.inputs.1.name.now)
+        (H.tells shelf.old) (H.tells shelf.new) result (K.tells sink.old) (K.tells sink.new) }
+    ensures answers { IfSome (H.tells shelf.old).held (λ files. ReplayAnswers (bytes_at files replay.now.inputs.0.0.name.now)
+        (bytes_at files replay.now.inputs.0.1.name.now) (bytes_at files replay.now.inputs.1.name.now) result (K.tells sink.old) (K.tells sink.new)) }
 {
-    let replay = Replay::new(program, log, schedule);
-    run(alloc, &replay, shelf, sink)
+    run(alloc, replay, shelf, sink)
 }

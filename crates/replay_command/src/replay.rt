@@ -1,7 +1,7 @@
 //! Replaying a schedule under the memory model that it names.
 ghost use Rattle.std.specs.Prelude.{◌≤◌, length, IfErr, IfOk};
 ghost use Rattle.store_buffers.specs.Buffers.{buffer_of};
-ghost use Rattle.tc_limits.specs.declared.limits.TheConstants.{PROGRAM_BYTES};
+ghost use Rattle.schedule_file.specs.tc_limits.declared.limits.TheConstants.{PROGRAM_BYTES};
 ghost use Rattle.schedule_replay.specs.Verdicts.{IsVerdict};
 ghost use Rattle.command_inputs.specs.Forms.{IsWhy};
 ghost use Rattle.replay_command.specs.Causes.{IsReplayed, IsUnreplayed};

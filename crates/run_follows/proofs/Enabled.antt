@@ -6,24 +6,24 @@ use Rattle.std.specs.FinMap as fin
 use Rattle.std.specs.FinSet as set
 use Rattle.std.proofs.lemmas.Bool.{false≢true, cases_Bool, and_parts}
 use Rattle.std.proofs.lemmas.List.{map-append}
-use Rattle.tc_base.specs.Names.{Name, child}
-use Rattle.tc_base.specs.Buffers.{BufferOps}
-use Rattle.list_laws.specs.Lists.{is_nil}
-use Rattle.tc_base.specs.States.{Thread, State}
-use Rattle.memory_models.specs.declared.model.Model.{Model}
-use Rattle.tc_base.specs.declared.moves.Move.{Move}
-use Rattle.tc_base.specs.declared.moves.Move.TheVariants as move
-use Rattle.tc_base.specs.declared.request.Request.{Request}
-use Rattle.tc_base.specs.declared.request.Request.TheVariants.{Read, Exchange, CompareExchange, Acquire, EndWait, WakeOne, Await}
-use Rattle.tc_code.specs.declared.instr.Instr.{Instr}
-use Rattle.tc_code.specs.declared.instr.Instr.TheVariants.{Inside, Holds, Signal, Ready, Assert, Nonzero, InRange}
-use Rattle.tc_code.specs.Code.{Code}
-use Rattle.tc_code.specs.Step.{request, site, instr_of, loaded, drains_first, is_let, allows, perform, state_after_wake, step, move_of}
-use Rattle.tc_code.specs.Step.{run_of, wake_of, drain_of, opening}
-use Rattle.tc_code.specs.Step as stepping
-use Rattle.tc_code.specs.Run.{run}
-use Rattle.store_buffers.specs.Pending.{Store, stores, Binding, Stands, waits}
-use Rattle.store_buffers.specs.Laws.{Laws, SomeDrains}
+use Rattle.run_history.specs.tc_base.Names.{Name, child}
+use Rattle.run_history.specs.tc_base.Buffers.{BufferOps}
+use Rattle.run_history.specs.list_laws.Lists.{is_nil}
+use Rattle.run_history.specs.tc_base.States.{Thread, State}
+use Rattle.run_history.specs.memory_models.declared.model.Model.{Model}
+use Rattle.run_history.specs.tc_base.declared.moves.Move.{Move}
+use Rattle.run_history.specs.tc_base.declared.moves.Move.TheVariants as move
+use Rattle.run_history.specs.tc_base.declared.request.Request.{Request}
+use Rattle.run_history.specs.tc_base.declared.request.Request.TheVariants.{Read, Exchange, CompareExchange, Acquire, EndWait, WakeOne, Await}
+use Rattle.run_history.specs.tc_code.declared.instr.Instr.{Instr}
+use Rattle.run_history.specs.tc_code.declared.instr.Instr.TheVariants.{Inside, Holds, Signal, Ready, Assert, Nonzero, InRange}
+use Rattle.run_history.specs.tc_code.Code.{Code}
+use Rattle.run_history.specs.tc_code.Step.{request, site, instr_of, loaded, drains_first, is_let, allows, perform, state_after_wake, step, move_of}
+use Rattle.run_history.specs.tc_code.Step.{run_of, wake_of, drain_of, opening}
+use Rattle.run_history.specs.tc_code.Step as stepping
+use Rattle.run_history.specs.tc_code.Run.{run}
+use Rattle.run_history.specs.store_buffers.Pending.{Store, stores, Binding, Stands, waits}
+use Rattle.run_history.specs.store_buffers.Laws.{Laws, SomeDrains}
 use Rattle.run_history.specs.History.{Deed, pending, value_taken, history, Issue, pending_issues}
 use Rattle.run_follows.specs.Follow.{seen_in, is_let_in, is_allowed_in, may_wake_in, taken_in, IsNextDrain, HasTurn}
 use Rattle.run_history.specs.Told.{failed_in}
@@ -33,7 +33,7 @@ use Rattle.run_history.proofs.Shared.{WaitersAre, keeps_waiters, opening_waiters
 use Rattle.run_history.proofs.of_pending.Apart.{DeedsAre, keeps_deeds, opening_deeds}
 use Rattle.run_history.proofs.of_pending.Issues.{Rises, whats, SplitAt, split_at}
 use Rattle.run_history.proofs.of_pending.Turns.{next_by_steps, split_by_steps}
-use Rattle.run_laws.proofs.Asks.{AsksOf}
+use Rattle.run_history.proofs.run_laws.Asks.{AsksOf}
 use Rattle.run_history.proofs.Frame.{Keeps, holds_after}
 
 module _ {B : Type 0} (ops : BufferOps B) (model : Model) (bound : Binding) (laws : Laws ops model bound) (code : Code) where

@@ -6,20 +6,20 @@ use Rattle.std.specs.Option.{option_map_or}
 use Rattle.std.specs.FinMap as fin
 use Rattle.std.specs.FinSet as set
 use Rattle.std.proofs.lemmas.Bool.{false≢true, and_from}
-use Rattle.tc_base.specs.Names.{Name, child}
-use Rattle.list_laws.specs.Lists.{is_nil}
-use Rattle.tc_base.specs.States.{Local, Thread, State}
-use Rattle.tc_base.specs.declared.moves.Move.{Move}
-use Rattle.tc_base.specs.declared.request.Request.{Request}
-use Rattle.tc_base.specs.declared.request.Request.TheVariants.{Silent, WakeOne, Start}
-use Rattle.tc_code.specs.declared.instr.Instr.{Instr}
-use Rattle.tc_code.specs.declared.instr.Instr.TheVariants.{Signal}
-use Rattle.tc_code.specs.Code.{Code}
-use Rattle.tc_code.specs.Step.{request, instr_of, waiting_on, opening}
-use Rattle.tc_code.specs.Step as stepping
-use Rattle.tc_code.specs.Run.{IsReached, run}
-use Rattle.store_buffers.specs.Pending.{Store, stores, Binding, waits}
-use Rattle.store_buffers.specs.helpers.Lists.{not_nil}
+use Rattle.run_history.specs.tc_base.Names.{Name, child}
+use Rattle.run_history.specs.list_laws.Lists.{is_nil}
+use Rattle.run_history.specs.tc_base.States.{Local, Thread, State}
+use Rattle.run_history.specs.tc_base.declared.moves.Move.{Move}
+use Rattle.run_history.specs.tc_base.declared.request.Request.{Request}
+use Rattle.run_history.specs.tc_base.declared.request.Request.TheVariants.{Silent, WakeOne, Start}
+use Rattle.run_history.specs.tc_code.declared.instr.Instr.{Instr}
+use Rattle.run_history.specs.tc_code.declared.instr.Instr.TheVariants.{Signal}
+use Rattle.run_history.specs.tc_code.Code.{Code}
+use Rattle.run_history.specs.tc_code.Step.{request, instr_of, waiting_on, opening}
+use Rattle.run_history.specs.tc_code.Step as stepping
+use Rattle.run_history.specs.tc_code.Run.{IsReached, run}
+use Rattle.run_history.specs.store_buffers.Pending.{Store, stores, Binding, waits}
+use Rattle.run_history.specs.store_buffers.helpers.Lists.{not_nil}
 use Rattle.run_history.specs.History.{Deed, Did, Drained, pending_issues, pending, did, woke, drained, created_by, history}
 use Rattle.run_history.specs.Told.{is_thread_in, has_exited_in, children_in, failed_in, waiting_in}
 use Rattle.run_follows.specs.Machine.{Machine}
@@ -27,11 +27,11 @@ use Rattle.run_follows.specs.Follow.{may_do_in, is_allowed_in}
 use Rattle.run_follows.specs.Follow.{OtherIs, MayFollow, AllFollow, IsLeftIn, StepsAreOfThreads}
 use Rattle.run_history.specs.pending.Deeds.{name_of}
 use Rattle.run_history.specs.Locals.{asks_next}
-use Rattle.run_laws.proofs.Basics.{unless}
+use Rattle.run_history.proofs.run_laws.Basics.{unless}
 use Rattle.run_history.proofs.of_pending.Issues.{split_at}
 use Rattle.run_history.proofs.of_pending.Buffers.{deed_is}
 use Rattle.run_history.proofs.of_pending.Apart.{last_or_before}
-use Rattle.run_laws.proofs.Asks.{AsksOf, next_asks_within}
+use Rattle.run_history.proofs.run_laws.Asks.{AsksOf, next_asks_within}
 use Rattle.run_follows.proofs.Enabled.{Tells, keeps_tells, opening_tells, drains_by_buffers, next_drain, empty_told, taken_told, allowed_told}
 use Rattle.run_history.proofs.Threads.{number_is, children_are}
 use Rattle.run_history.proofs.Frame.{Keeps, holds_after}

@@ -8,21 +8,21 @@ use Rattle.std.specs.FinSet as set
 use Rattle.std.proofs.lemmas.Bool.{and_parts}
 use Rattle.std.proofs.lemmas.List.{map-append}
 use Rattle.std.proofs.lemmas.Option.{none-some, same_Some}
-use Rattle.tc_base.specs.Names.{Name, child}
-use Rattle.tc_base.specs.Buffers.{Entry}
-use Rattle.list_laws.specs.Lists.{is_nil}
-use Rattle.tc_base.specs.States.{Local, Thread, State}
-use Rattle.tc_base.specs.declared.moves.Move.TheVariants as move
-use Rattle.tc_base.specs.declared.request.Request.{Request}
-use Rattle.tc_base.specs.declared.request.Request.TheVariants.{Silent, WakeOne, Start}
-use Rattle.tc_code.specs.declared.instr.Instr.{Instr}
-use Rattle.tc_code.specs.declared.instr.Instr.TheVariants.{Signal}
-use Rattle.tc_code.specs.Code.{Code}
-use Rattle.tc_code.specs.Step.{request, instr_of, step, opening}
-use Rattle.tc_code.specs.Step as stepping
-use Rattle.tc_code.specs.Run.{IsReached, run_from, run}
-use Rattle.tc_code.proofs.Facts.{opening_is_reached, step_is_reached}
-use Rattle.store_buffers.specs.Pending.{Store, stores, form_of, waits}
+use Rattle.run_history.specs.tc_base.Names.{Name, child}
+use Rattle.run_history.specs.tc_base.Buffers.{Entry}
+use Rattle.run_history.specs.list_laws.Lists.{is_nil}
+use Rattle.run_history.specs.tc_base.States.{Local, Thread, State}
+use Rattle.run_history.specs.tc_base.declared.moves.Move.TheVariants as move
+use Rattle.run_history.specs.tc_base.declared.request.Request.{Request}
+use Rattle.run_history.specs.tc_base.declared.request.Request.TheVariants.{Silent, WakeOne, Start}
+use Rattle.run_history.specs.tc_code.declared.instr.Instr.{Instr}
+use Rattle.run_history.specs.tc_code.declared.instr.Instr.TheVariants.{Signal}
+use Rattle.run_history.specs.tc_code.Code.{Code}
+use Rattle.run_history.specs.tc_code.Step.{request, instr_of, step, opening}
+use Rattle.run_history.specs.tc_code.Step as stepping
+use Rattle.run_history.specs.tc_code.Run.{IsReached, run_from, run}
+use Rattle.run_history.proofs.tc_code.Facts.{opening_is_reached, step_is_reached}
+use Rattle.run_history.specs.store_buffers.Pending.{Store, stores, form_of, waits}
 use Rattle.run_history.specs.History.{Deed, Did, Drained, Issue, pending_issues, pending, did, woke, drained, value_taken, created_by}
 use Rattle.run_history.specs.History.{by_instr, deed_of, history_from, history}
 use Rattle.run_history.specs.Locals.{asks_next}
@@ -34,12 +34,12 @@ use Rattle.run_history.proofs.of_pending.Issues.{Rises, whats, SplitAt}
 use Rattle.run_history.proofs.of_pending.In.{In, all_in, in_at}
 use Rattle.run_history.proofs.of_pending.Turns.{split_by_steps}
 use Rattle.run_history.proofs.of_pending.Buffers.{deed_is}
-use Rattle.run_laws.proofs.Asks.{AsksOf, next_asks_within}
-use Rattle.run_laws.proofs.Stuck.{signals}
+use Rattle.run_history.proofs.run_laws.Asks.{AsksOf, next_asks_within}
+use Rattle.run_history.proofs.run_laws.Stuck.{signals}
 use Rattle.run_follows.proofs.Enabled.{Tells, keeps_tells, opening_tells, empty_told, taken_told, allowed_told}
 use Rattle.run_history.proofs.Threads.{number_is, none_done, children_are}
 use Rattle.run_history.proofs.Frame.{kept_by_step}
-use Rattle.run_laws.proofs.Makes.{makes_run, makes_wake, makes_drain}
+use Rattle.run_history.proofs.run_laws.Makes.{makes_run, makes_wake, makes_drain}
 
 -- the instruction with this request
 pub record AsksBy (code : Code) (t : Local) (r : Request) : Type 0 where

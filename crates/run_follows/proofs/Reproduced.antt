@@ -2,16 +2,16 @@
 use Rattle.std.proofs.Common.{◌≡◌, ◌∙◌, List, Option, Some, None, refl, sym, ap, subst}
 use Rattle.std.specs.Prelude.{option_map, slice_get, IsSomeAnd}
 use Rattle.std.specs.FinMap as fin
-use Rattle.tc_base.specs.Buffers.{BufferOps}
-use Rattle.tc_base.specs.Paths.{ThreadPath}
-use Rattle.run_log.specs.Logs.{Log}
-use Rattle.tc_base.specs.declared.failing.Failing.{Failing}
-use Rattle.tc_base.specs.declared.failing.Failing.TheVariants as failing
-use Rattle.tc_base.specs.Names.{Name}
-use Rattle.tc_base.specs.States.{Thread, State}
-use Rattle.tc_base.specs.declared.moves.Move.{Move}
-use Rattle.tc_code.specs.Code.{Code}
-use Rattle.tc_code.specs.Run.{run, EndsAs, Reproduces, path_of, path_in}
+use Rattle.run_history.specs.tc_base.Buffers.{BufferOps}
+use Rattle.run_history.specs.tc_base.Paths.{ThreadPath}
+use Rattle.run_history.specs.run_log.Logs.{Log}
+use Rattle.run_history.specs.tc_base.declared.failing.Failing.{Failing}
+use Rattle.run_history.specs.tc_base.declared.failing.Failing.TheVariants as failing
+use Rattle.run_history.specs.tc_base.Names.{Name}
+use Rattle.run_history.specs.tc_base.States.{Thread, State}
+use Rattle.run_history.specs.tc_base.declared.moves.Move.{Move}
+use Rattle.run_history.specs.tc_code.Code.{Code}
+use Rattle.run_history.specs.tc_code.Run.{run, EndsAs, Reproduces, path_of, path_in}
 use Rattle.run_history.specs.History.{Deed, history}
 use Rattle.run_history.specs.Told.{failed_in}
 use Rattle.run_history.proofs.Frame.{holds_after}

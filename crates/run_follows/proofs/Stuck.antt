@@ -4,13 +4,13 @@ use Rattle.std.specs.Prelude.{is_some}
 use Rattle.std.specs.Option.{option_map_or}
 use Rattle.std.specs.FinMap as fin
 use Rattle.std.proofs.lemmas.Option.{none-some}
-use Rattle.tc_base.specs.Names.{Name}
-use Rattle.tc_base.specs.States.{Thread, State}
-use Rattle.tc_base.specs.declared.moves.Move.{Move}
-use Rattle.tc_code.specs.Step.{step}
-use Rattle.tc_code.specs.Run.{IsReached, IsLeft, IsStuck, run}
-use Rattle.run_laws.proofs.Basics.{none_unless, some_value}
-use Rattle.run_laws.proofs.Steps.{step_went}
+use Rattle.run_history.specs.tc_base.Names.{Name}
+use Rattle.run_history.specs.tc_base.States.{Thread, State}
+use Rattle.run_history.specs.tc_base.declared.moves.Move.{Move}
+use Rattle.run_history.specs.tc_code.Step.{step}
+use Rattle.run_history.specs.tc_code.Run.{IsReached, IsLeft, IsStuck, run}
+use Rattle.run_history.proofs.run_laws.Basics.{none_unless, some_value}
+use Rattle.run_history.proofs.run_laws.Steps.{step_went}
 use Rattle.run_history.specs.History.{Deed, deed_of, history}
 use Rattle.run_history.proofs.Frame.{kept_by_step}
 use Rattle.run_history.proofs.Grows.{one_deed}

@@ -2,17 +2,17 @@
 use Rattle.std.specs.Prelude.{◌≡◌, ℕ, ◌+◌, ◌==◌, ℤ, pos, Bool, true, false, not, ◌&&◌, ◌||◌, Option, Some, None, is_none, unwrap_or}
 use Rattle.std.specs.Prelude.{List, ◌∷◌, ◌++◌, map}
 use Rattle.std.specs.FinSet as set
-use Rattle.tc_base.specs.Names.{Name, child}
-use Rattle.store_buffers.specs.Buffers.{newest}
-use Rattle.list_laws.specs.Lists.{is_nil}
-use Rattle.tc_base.specs.declared.moves.Move.{Move}
-use Rattle.tc_base.specs.declared.moves.Move.TheVariants as move
-use Rattle.tc_base.specs.declared.request.Request.{Request}
-use Rattle.tc_base.specs.declared.request.Request.TheVariants.{Read, Exchange, CompareExchange, Acquire, EndWait}
-use Rattle.tc_base.specs.declared.request.Request.TheVariants.{WakeOne, Start, Await}
-use Rattle.tc_code.specs.Code.{Code}
-use Rattle.tc_code.specs.Step.{drains_first}
-use Rattle.store_buffers.specs.Pending.{stores, Binding, form_of}
+use Rattle.run_history.specs.tc_base.Names.{Name, child}
+use Rattle.run_history.specs.store_buffers.Buffers.{newest}
+use Rattle.run_history.specs.list_laws.Lists.{is_nil}
+use Rattle.run_history.specs.tc_base.declared.moves.Move.{Move}
+use Rattle.run_history.specs.tc_base.declared.moves.Move.TheVariants as move
+use Rattle.run_history.specs.tc_base.declared.request.Request.{Request}
+use Rattle.run_history.specs.tc_base.declared.request.Request.TheVariants.{Read, Exchange, CompareExchange, Acquire, EndWait}
+use Rattle.run_history.specs.tc_base.declared.request.Request.TheVariants.{WakeOne, Start, Await}
+use Rattle.run_history.specs.tc_code.Code.{Code}
+use Rattle.run_history.specs.tc_code.Step.{drains_first}
+use Rattle.run_history.specs.store_buffers.Pending.{stores, Binding, form_of}
 use Rattle.run_history.specs.History.{Deed, Did, Drained, pending}
 use Rattle.run_history.specs.Locals.{asks_next}
 use Rattle.run_history.specs.Told.{value_in, owner_in, waiting_in, is_thread_in, steps_in, children_in, has_exited_in, failed_in}
@@ -20,7 +20,8 @@ use Rattle.run_history.specs.pending.Deeds.{MayDrainNext}
 
 -- what a load returns: the thread's newest pending store to the cell, else the value in memory
 abbrev pub seen_in : Bool → Code → List Deed → Name → ℕ → ℤ
-seen_in buffered code h n c = unwrap_or (newest (stores (pending buffered h n)) c) (value_in buffered code h c)
+seen_in buffered code h n c =
+    unwrap_or (newest (stores (pending buffered h n)) c) (value_in buffered code h c)
 
 -- whether mutexes, waiters and children allow a request
 abbrev pub is_let_in : List Deed → Name → Request → Bool
@@ -32,11 +33,13 @@ is_let_in h n _ = true
 
 -- whether a request may be done: `is_let_in`, and the thread's stores have drained if they must
 abbrev pub is_allowed_in : Bool → List Deed → Name → Request → Bool
-is_allowed_in buffered h n r = (not (drains_first r) || is_nil (stores (pending buffered h n))) && is_let_in h n r
+is_allowed_in buffered h n r =
+    (not (drains_first r) || is_nil (stores (pending buffered h n))) && is_let_in h n r
 
 -- whether a request of n is a signal that may wake u: n has no pending store, and u waits
 abbrev pub may_wake_in : Bool → List Deed → Name → Name → Request → Bool
-may_wake_in buffered h n u (WakeOne c) = is_nil (stores (pending buffered h n)) && set.contains (waiting_in h c) u
+may_wake_in buffered h n u (WakeOne c) =
+    is_nil (stores (pending buffered h n)) && set.contains (waiting_in h c) u
 may_wake_in buffered h n u _ = false
 
 -- the value that a request reads, and 0 if it reads none
@@ -58,7 +61,8 @@ OtherIs h n (WakeOne c) other = Unit {0}
 OtherIs h n _ other = other ≡ None
 
 -- a step is the next of its thread: it may be done, and its request, number and value are right
-pub record IsNextStep (buffered : Bool) (code : Code) (h : List Deed) (n : Name) (k : ℕ) (r : Request) (took : ℤ) (other : Option Name) : Type 0 where
+pub record IsNextStep (buffered : Bool) (code : Code) (h : List Deed) (n : Name) (k : ℕ)
+    (r : Request) (took : ℤ) (other : Option Name) : Type 0 where
   pub asks : asks_next code h n ≡ Some r
   pub number : k ≡ steps_in h n
   pub may : may_do_in buffered h n r other ≡ true
@@ -66,12 +70,14 @@ pub record IsNextStep (buffered : Bool) (code : Code) (h : List Deed) (n : Name)
   pub other_is : OtherIs h n r other
 
 -- the model has buffers, and this store may drain next
-pub record IsNextDrain (buffered : Bool) (bound : Binding) (h : List Deed) (n : Name) (k c : ℕ) (v : ℤ) : Type 0 where
+pub record IsNextDrain (buffered : Bool) (bound : Binding) (h : List Deed) (n : Name) (k c : ℕ)
+    (v : ℤ) : Type 0 where
   pub buffers : buffered ≡ true
   pub next : MayDrainNext bound h n k c v
 
 -- some store of the thread may drain next, by this form
-pub record HasTurn (buffered : Bool) (bound : Binding) (h : List Deed) (n : Name) (form : Option ℕ) : Type 0 where
+pub record HasTurn (buffered : Bool) (bound : Binding) (h : List Deed) (n : Name)
+    (form : Option ℕ) : Type 0 where
   pub number : ℕ
   pub cell : ℕ
   pub value : ℤ
@@ -86,7 +92,8 @@ MayFollow buffered bound code h (Drained n k c v) = IsNextDrain buffered bound h
 -- each deed may come after those before it, and nothing comes after a failure
 abbrev pub AllFollow : Bool → Binding → Code → List Deed → Type 0
 AllFollow buffered bound code h =
-    (older newer : List Deed) (d : Deed) → h ≡ older ++ d ∷ newer → (failed_in older ≡ None) × MayFollow buffered bound code older d
+    (older newer : List Deed) (d : Deed) → h ≡ older ++ d ∷ newer
+    → (failed_in older ≡ None) × MayFollow buffered bound code older d
 
 -- no deed may come after a history
 abbrev pub NothingFollows : Bool → Binding → Code → List Deed → Type 0
@@ -98,7 +105,8 @@ pub record IsLeftIn (h : List Deed) (n : Name) : Type 0 where
   pub going : has_exited_in h n ≡ false
 
 -- a deadlock: no thread has failed, no deed may follow, and some thread has not exited
-pub record IsStuckIn (buffered : Bool) (bound : Binding) (code : Code) (h : List Deed) : Type 0 where
+pub record IsStuckIn (buffered : Bool) (bound : Binding) (code : Code)
+    (h : List Deed) : Type 0 where
   pub unfailed : failed_in h ≡ None
   pub still : NothingFollows buffered bound code h
   pub left : (n : Name) × IsLeftIn h n
@@ -106,7 +114,8 @@ pub record IsStuckIn (buffered : Bool) (bound : Binding) (code : Code) (h : List
 -- every step is by a thread that exists and has not exited
 abbrev pub StepsAreOfThreads : List Deed → Type 0
 StepsAreOfThreads h =
-    (older newer : List Deed) (n : Name) (k : ℕ) (r : Request) (took : ℤ) (other : Option Name) → h ≡ older ++ Did n k r took other ∷ newer → IsLeftIn older n
+    (older newer : List Deed) (n : Name) (k : ℕ) (r : Request) (took : ℤ) (other : Option Name)
+    → h ≡ older ++ Did n k r took other ∷ newer → IsLeftIn older n
 
 -- the move that does a deed; the model's binding decides whether a drain names its cell
 abbrev pub move_for : Binding → Deed → Move

@@ -1,14 +1,14 @@
 -- Histories that match a log.
 use Rattle.std.specs.Prelude.{◌≡◌, Bool, List, Option, Some, option_map, slice_get, IsSomeAnd}
 use Rattle.std.specs.FinMap as fin
-use Rattle.tc_base.specs.Paths.{Path, ThreadPath, path_under}
-use Rattle.run_log.specs.Logs.{Log}
-use Rattle.tc_base.specs.Names.{Name}
-use Rattle.tc_base.specs.States.{Local}
-use Rattle.tc_base.specs.declared.failing.Failing.{Failing}
-use Rattle.tc_base.specs.declared.failing.Failing.TheVariants as failing
-use Rattle.tc_code.specs.Code.{Code}
-use Rattle.store_buffers.specs.Pending.{Binding}
+use Rattle.run_history.specs.tc_base.Paths.{Path, ThreadPath, path_under}
+use Rattle.run_history.specs.run_log.Logs.{Log}
+use Rattle.run_history.specs.tc_base.Names.{Name}
+use Rattle.run_history.specs.tc_base.States.{Local}
+use Rattle.run_history.specs.tc_base.declared.failing.Failing.{Failing}
+use Rattle.run_history.specs.tc_base.declared.failing.Failing.TheVariants as failing
+use Rattle.run_history.specs.tc_code.Code.{Code}
+use Rattle.run_history.specs.store_buffers.Pending.{Binding}
 use Rattle.run_history.specs.History.{Deed}
 use Rattle.run_history.specs.Locals.{locals_in}
 use Rattle.run_history.specs.Told.{failed_in}
@@ -24,10 +24,12 @@ path_told code h n = option_map path_by (fin.get (locals_in code h) n)
 
 -- the history ends as logged: the thread at the index has failed, or there is a deadlock
 abbrev pub EndsAsIn : Bool → Binding → Code → Failing → List ThreadPath → List Deed → Type 0
-EndsAsIn buffered bound code (failing.Thread k) threads h = IsSomeAnd (slice_get threads k) (λ t. failed_in h ≡ Some t.name)
+EndsAsIn buffered bound code (failing.Thread k) threads h =
+    IsSomeAnd (slice_get threads k) (λ t. failed_in h ≡ Some t.name)
 EndsAsIn buffered bound code failing.Deadlock threads h = IsStuckIn buffered bound code h
 
 -- the history ends as the log says, and each thread has the same path in both
-pub record GoesAsLogged (buffered : Bool) (bound : Binding) (code : Code) (log : Log) (h : List Deed) : Type 0 where
+pub record GoesAsLogged (buffered : Bool) (bound : Binding) (code : Code) (log : Log)
+    (h : List Deed) : Type 0 where
   pub ends : EndsAsIn buffered bound code log.failing log.threads h
   pub paths : (n : Name) → path_told code h n ≡ path_under n log.threads

@@ -1,10 +1,10 @@
 -- What runs: lawful code under a memory model that obeys its laws.
-use Rattle.tc_base.specs.Buffers.{BufferOps}
-use Rattle.memory_models.specs.declared.model.Model.{Model}
-use Rattle.tc_code.specs.Code.{Code}
-use Rattle.tc_code.specs.Lawful.{IsLawful}
-use Rattle.store_buffers.specs.Laws.{Laws}
-use Rattle.store_buffers.specs.Pending.{Binding}
+use Rattle.run_history.specs.tc_base.Buffers.{BufferOps}
+use Rattle.run_history.specs.memory_models.declared.model.Model.{Model}
+use Rattle.run_history.specs.tc_code.Code.{Code}
+use Rattle.run_history.specs.tc_code.Lawful.{IsLawful}
+use Rattle.run_history.specs.store_buffers.Laws.{Laws}
+use Rattle.run_history.specs.store_buffers.Pending.{Binding}
 
 pub record Machine (B : Type 0) : Type 0 where
   pub ops : BufferOps B

@@ -1,16 +1,16 @@
 //! What blocks each thread when no deed may follow a history. Each function states a law, and its
 //! body does nothing.
 ghost use Rattle.std.specs.Prelude.{◌≡◌, ◌↔◌, Bool, List, Some};
-ghost use Rattle.tc_base.specs.Buffers.{BufferOps};
-ghost use Rattle.tc_base.specs.Names.{Name};
-ghost use Rattle.tc_base.specs.States.{State};
-ghost use Rattle.memory_models.specs.declared.model.Model.{Model};
-ghost use Rattle.tc_base.specs.declared.moves.Move.{Move};
-ghost use Rattle.tc_base.specs.declared.request.Request.{Request};
-ghost use Rattle.tc_code.specs.Code.{Code};
-ghost use Rattle.tc_code.specs.Run.{run, IsStuck};
-ghost use Rattle.store_buffers.specs.Laws.{Laws};
-ghost use Rattle.store_buffers.specs.Pending.{Binding};
+ghost use Rattle.run_history.specs.tc_base.Buffers.{BufferOps};
+ghost use Rattle.run_history.specs.tc_base.Names.{Name};
+ghost use Rattle.run_history.specs.tc_base.States.{State};
+ghost use Rattle.run_history.specs.memory_models.declared.model.Model.{Model};
+ghost use Rattle.run_history.specs.tc_base.declared.moves.Move.{Move};
+ghost use Rattle.run_history.specs.tc_base.declared.request.Request.{Request};
+ghost use Rattle.run_history.specs.tc_code.Code.{Code};
+ghost use Rattle.run_history.specs.tc_code.Run.{run, IsStuck};
+ghost use Rattle.run_history.specs.store_buffers.Laws.{Laws};
+ghost use Rattle.run_history.specs.store_buffers.Pending.{Binding};
 ghost use Rattle.run_history.specs.History.{Deed, history};
 ghost use Rattle.run_history.specs.Locals.{asks_next};
 ghost use Rattle.run_follows.specs.Machine.{Machine};

@@ -2,10 +2,10 @@
 //! nothing.
 ghost use Rattle.std.specs.Prelude.{◌≡◌, ◌↔◌, ◌<◌, ◌==◌, ℕ, ℤ, Bool, true, false, Option, Some, None, List, [], ◌∷◌, ◌++◌, length};
 ghost use Rattle.std.specs.FinSet as set;
-ghost use Rattle.tc_base.specs.Names.{Name};
-ghost use Rattle.tc_base.specs.declared.request.Request.{Request};
-ghost use Rattle.tc_code.specs.Code.{Code};
-ghost use Rattle.store_buffers.specs.Pending.{Binding};
+ghost use Rattle.run_history.specs.tc_base.Names.{Name};
+ghost use Rattle.run_history.specs.tc_base.declared.request.Request.{Request};
+ghost use Rattle.run_history.specs.tc_code.Code.{Code};
+ghost use Rattle.run_history.specs.store_buffers.Pending.{Binding};
 ghost use Rattle.run_history.specs.History.{Deed, Did, Drained};
 ghost use Rattle.run_history.specs.Last.{IsLast};
 ghost use Rattle.run_history.specs.Locals.{asks_next};

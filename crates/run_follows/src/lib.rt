@@ -6,24 +6,24 @@
 
 ghost use Rattle.std.specs.Prelude.{◌≡◌, ◌<◌, ℕ, List, length, Some, is_some, ◌↔◌, ◌&&◌, true, Option, is_none};
 ghost use Rattle.std.specs.FinMap as fin;
-ghost use Rattle.tc_base.specs.Buffers.{BufferOps};
-ghost use Rattle.run_log.specs.Logs.{Log};
-ghost use Rattle.tc_base.specs.Names.{Name};
-ghost use Rattle.tc_base.specs.States.{State, Thread};
-ghost use Rattle.memory_models.specs.declared.model.Model.{Model};
-ghost use Rattle.tc_base.specs.declared.moves.Move.{Move};
-ghost use Rattle.tc_code.specs.Code.{Code};
-ghost use Rattle.tc_code.specs.Run.{run, IsStuck, Reproduces};
-ghost use Rattle.tc_code.specs.Step.{step, request, instr_of, loaded};
-ghost use Rattle.store_buffers.specs.Laws.{Laws};
-ghost use Rattle.store_buffers.specs.Pending.{Binding};
+ghost use Rattle.run_history.specs.tc_base.Buffers.{BufferOps};
+ghost use Rattle.run_history.specs.run_log.Logs.{Log};
+ghost use Rattle.run_history.specs.tc_base.Names.{Name};
+ghost use Rattle.run_history.specs.tc_base.States.{State, Thread};
+ghost use Rattle.run_history.specs.memory_models.declared.model.Model.{Model};
+ghost use Rattle.run_history.specs.tc_base.declared.moves.Move.{Move};
+ghost use Rattle.run_history.specs.tc_code.Code.{Code};
+ghost use Rattle.run_history.specs.tc_code.Run.{run, IsStuck, Reproduces};
+ghost use Rattle.run_history.specs.tc_code.Step.{step, request, instr_of, loaded};
+ghost use Rattle.run_history.specs.store_buffers.Laws.{Laws};
+ghost use Rattle.run_history.specs.store_buffers.Pending.{Binding};
 ghost use Rattle.run_history.specs.History.{Deed, history};
 ghost use Rattle.run_history.specs.Told.{failed_in};
 ghost use Rattle.run_follows.specs.Machine.{Machine};
 ghost use Rattle.run_follows.specs.Follow.{AllFollow, IsStuckIn, seen_in, is_allowed_in, may_wake_in, StepsAreOfThreads, moves_for, HasTurn};
 ghost use Rattle.run_follows.specs.Logged.{GoesAsLogged};
-ghost use Rattle.tc_base.specs.declared.moves.Move.TheVariants as move;
-ghost use Rattle.tc_code.specs.declared.instr.Instr.{Instr};
+ghost use Rattle.run_history.specs.tc_base.declared.moves.Move.TheVariants as move;
+ghost use Rattle.run_history.specs.tc_code.declared.instr.Instr.{Instr};
 
 pub mod blocked;
 pub mod deeds;

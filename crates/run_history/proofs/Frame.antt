@@ -4,20 +4,20 @@ use Rattle.std.specs.Option.{option_map_or}
 use Rattle.std.specs.FinMap as fin
 use Rattle.std.specs.FinSet as set
 use Rattle.std.proofs.lemmas.Option.{same_Some, option_and_then_some}
-use Rattle.tc_base.specs.Names.{Name}
-use Rattle.tc_base.specs.Buffers.{BufferOps}
-use Rattle.tc_base.specs.States.{Thread, State}
-use Rattle.tc_base.specs.declared.moves.Move.{Move}
-use Rattle.tc_base.specs.declared.moves.Move.TheVariants as move
-use Rattle.tc_base.specs.declared.request.Request.{Request}
-use Rattle.tc_base.specs.declared.request.Request.TheVariants.{WakeOne}
-use Rattle.tc_code.specs.declared.instr.Instr.{Instr}
-use Rattle.tc_code.specs.declared.instr.Instr.TheVariants.{Signal}
-use Rattle.tc_code.specs.Code.{Code}
-use Rattle.tc_code.specs.Step.{request, instr_of, allows, perform, waiting_on, state_after_wake, step, opening}
-use Rattle.tc_code.specs.Step as machine
-use Rattle.tc_code.specs.Run.{run_from, run, IsReached}
-use Rattle.tc_code.proofs.Facts.{opening_is_reached, step_is_reached}
+use Rattle.store_buffers.specs.tc_base.Names.{Name}
+use Rattle.store_buffers.specs.tc_base.Buffers.{BufferOps}
+use Rattle.store_buffers.specs.tc_base.States.{Thread, State}
+use Rattle.store_buffers.specs.tc_base.declared.moves.Move.{Move}
+use Rattle.store_buffers.specs.tc_base.declared.moves.Move.TheVariants as move
+use Rattle.store_buffers.specs.tc_base.declared.request.Request.{Request}
+use Rattle.store_buffers.specs.tc_base.declared.request.Request.TheVariants.{WakeOne}
+use Rattle.run_laws.specs.tc_code.declared.instr.Instr.{Instr}
+use Rattle.run_laws.specs.tc_code.declared.instr.Instr.TheVariants.{Signal}
+use Rattle.run_laws.specs.tc_code.Code.{Code}
+use Rattle.run_laws.specs.tc_code.Step.{request, instr_of, allows, perform, waiting_on, state_after_wake, step, opening}
+use Rattle.run_laws.specs.tc_code.Step as machine
+use Rattle.run_laws.specs.tc_code.Run.{run_from, run, IsReached}
+use Rattle.run_laws.proofs.tc_code.Facts.{opening_is_reached, step_is_reached}
 use Rattle.run_laws.proofs.Steps.{Went, step_went, none_failed}
 use Rattle.run_history.specs.History.{Deed, did, woke, drained, by_instr, deed_of, history_from, history}
 

@@ -4,17 +4,17 @@ use Rattle.std.specs.List.{All}
 use Rattle.std.specs.Option.{option_or}
 use Rattle.std.proofs.lemmas.List.Elements.{All-nil, All-push}
 use Rattle.std.proofs.lemmas.Option.{none-some, cond_some}
-use Rattle.int_ops.specs.Arith.{IsInt}
-use Rattle.tc_base.specs.Buffers.{BufferOps, Entry}
+use Rattle.run_laws.specs.int_ops.Arith.{IsInt}
+use Rattle.store_buffers.specs.tc_base.Buffers.{BufferOps, Entry}
 use Rattle.store_buffers.specs.Buffers.{newest}
-use Rattle.tc_base.specs.States.{Thread, State}
-use Rattle.memory_models.specs.declared.model.Model.{Model}
-use Rattle.tc_base.specs.declared.moves.Move.{Move}
-use Rattle.tc_base.specs.declared.request.Request.{Request}
-use Rattle.tc_base.specs.declared.request.Request.TheVariants.{Read, Exchange, CompareExchange}
-use Rattle.tc_code.specs.Code.{Code}
-use Rattle.tc_code.specs.Lawful.{IsLawful}
-use Rattle.tc_code.specs.Run.{run}
+use Rattle.store_buffers.specs.tc_base.States.{Thread, State}
+use Rattle.store_buffers.specs.memory_models.declared.model.Model.{Model}
+use Rattle.store_buffers.specs.tc_base.declared.moves.Move.{Move}
+use Rattle.store_buffers.specs.tc_base.declared.request.Request.{Request}
+use Rattle.store_buffers.specs.tc_base.declared.request.Request.TheVariants.{Read, Exchange, CompareExchange}
+use Rattle.run_laws.specs.tc_code.Code.{Code}
+use Rattle.run_laws.specs.tc_code.Lawful.{IsLawful}
+use Rattle.run_laws.specs.tc_code.Run.{run}
 use Rattle.store_buffers.specs.Pending.{Pending, Store, Bar, stores, Binding, Stands}
 use Rattle.store_buffers.specs.Laws.{Laws}
 use Rattle.store_buffers.specs.helpers.Lists.{store_last, bar_last}

@@ -9,13 +9,13 @@ use Rattle.std.proofs.lemmas.Bool.{false≢true}
 use Rattle.std.proofs.lemmas.Cmp.{nat_list_cmp_total}
 use Rattle.std.proofs.lemmas.List.Elements.{filter_map-append}
 use Rattle.std.proofs.lemmas.Option.{none-some}
-use Rattle.tc_base.specs.Names.{Name, by_name}
-use Rattle.list_laws.proofs.Options.{or_none}
-use Rattle.tc_base.specs.Buffers.{Entry}
+use Rattle.store_buffers.specs.tc_base.Names.{Name, by_name}
+use Rattle.store_buffers.proofs.list_laws.Options.{or_none}
+use Rattle.store_buffers.specs.tc_base.Buffers.{Entry}
 use Rattle.store_buffers.specs.Buffers.{newest}
-use Rattle.tc_base.specs.declared.request.Request.TheVariants.{Silent, BeginWait, WakeOne, WakeAll}
-use Rattle.tc_code.specs.Code.{Code}
-use Rattle.tc_code.specs.Step.{NameSet}
+use Rattle.store_buffers.specs.tc_base.declared.request.Request.TheVariants.{Silent, BeginWait, WakeOne, WakeAll}
+use Rattle.run_laws.specs.tc_code.Code.{Code}
+use Rattle.run_laws.specs.tc_code.Step.{NameSet}
 use Rattle.run_history.specs.History.{Deed, Did, same}
 use Rattle.run_history.specs.Told.{reaches, value_in, owner_by, owner_in, waiting_after, waiting_in}
 use Rattle.run_history.specs.Last.{IsLast, brings, waits_by}

@@ -8,7 +8,7 @@ use Rattle.std.proofs.lemmas.Bool.{false≢true, eqb-true, eq-eqb}
 use Rattle.std.proofs.lemmas.List.{get_or-set_same, get_or-set_other}
 use Rattle.std.proofs.lemmas.List.Elements.{filter_map-append}
 use Rattle.std.proofs.lemmas.List.Sums.{sum_by-append}
-use Rattle.tc_base.specs.Buffers.{Entry}
+use Rattle.store_buffers.specs.tc_base.Buffers.{Entry}
 use Rattle.store_buffers.specs.Buffers.{newest}
 use Rattle.store_buffers.specs.helpers.Lists.{newest-append}
 

@@ -7,16 +7,16 @@ use Rattle.std.specs.FinSet as set
 use Rattle.std.proofs.lemmas.Bool.{eqb-true}
 use Rattle.std.proofs.lemmas.List.{length-set, length-replicate}
 use Rattle.std.proofs.lemmas.List.Sums.{fold-append}
-use Rattle.tc_base.specs.Names.{Name}
-use Rattle.tc_base.specs.Buffers.{BufferOps, Entry}
-use Rattle.tc_base.specs.States.{Thread, State}
-use Rattle.tc_base.specs.declared.request.Request.{Request}
-use Rattle.tc_base.specs.declared.request.Request.TheVariants.{Read, Write, Acquire, Release, BeginWait, EndWait}
-use Rattle.tc_base.specs.declared.request.Request.TheVariants.{WakeOne, WakeAll, Fail}
-use Rattle.tc_code.specs.declared.instr.Instr.{Instr}
-use Rattle.tc_code.specs.Code.{Code}
-use Rattle.tc_code.specs.Step.{perform, with_thread, local_after, state_after_wake, waiting_on, in_memory, NameSet, opening}
-use Rattle.tc_code.specs.Step as machine
+use Rattle.store_buffers.specs.tc_base.Names.{Name}
+use Rattle.store_buffers.specs.tc_base.Buffers.{BufferOps, Entry}
+use Rattle.store_buffers.specs.tc_base.States.{Thread, State}
+use Rattle.store_buffers.specs.tc_base.declared.request.Request.{Request}
+use Rattle.store_buffers.specs.tc_base.declared.request.Request.TheVariants.{Read, Write, Acquire, Release, BeginWait, EndWait}
+use Rattle.store_buffers.specs.tc_base.declared.request.Request.TheVariants.{WakeOne, WakeAll, Fail}
+use Rattle.run_laws.specs.tc_code.declared.instr.Instr.{Instr}
+use Rattle.run_laws.specs.tc_code.Code.{Code}
+use Rattle.run_laws.specs.tc_code.Step.{perform, with_thread, local_after, state_after_wake, waiting_on, in_memory, NameSet, opening}
+use Rattle.run_laws.specs.tc_code.Step as machine
 use Rattle.run_laws.proofs.Basics.{by_bool, either, index_or-replicate}
 use Rattle.run_laws.proofs.Whole.{performed_shares}
 use Rattle.run_history.specs.History.{Deed, did, woke}

@@ -7,17 +7,17 @@ use Rattle.std.specs.List.{filter_map, cons_option, list_any}
 use Rattle.std.specs.FinMap as fin
 use Rattle.std.proofs.Math.Bool.{and-true, and-false, or-true, or-false, or_assoc}
 use Rattle.std.proofs.lemmas.List.Folds.{list_any-append}
-use Rattle.tc_base.specs.Names.{Name, ByName, main, child, by_name}
-use Rattle.tc_base.specs.Buffers.{BufferOps}
-use Rattle.tc_base.specs.States.{Local, Thread, State}
-use Rattle.tc_base.specs.declared.request.Request.{Request}
-use Rattle.tc_base.specs.declared.request.Request.TheVariants.{Silent, Write, Bar, WakeOne, Start, Finish, Fail}
-use Rattle.tc_code.specs.declared.instr.Instr.{Instr}
-use Rattle.tc_code.specs.declared.instr.Instr.TheVariants.{Inside, Branch, Holds, Signal, Create, Ready, Assert, Nonzero, InRange, Exit}
-use Rattle.tc_code.specs.Code.{Code}
-use Rattle.tc_code.specs.Step.{request, site, local_after, arguments_of, perform, with_thread, born, state_after_wake, opening}
-use Rattle.tc_code.specs.Step as machine
-use Rattle.tc_code.specs.Run.{IsReached}
+use Rattle.store_buffers.specs.tc_base.Names.{Name, ByName, main, child, by_name}
+use Rattle.store_buffers.specs.tc_base.Buffers.{BufferOps}
+use Rattle.store_buffers.specs.tc_base.States.{Local, Thread, State}
+use Rattle.store_buffers.specs.tc_base.declared.request.Request.{Request}
+use Rattle.store_buffers.specs.tc_base.declared.request.Request.TheVariants.{Silent, Write, Bar, WakeOne, Start, Finish, Fail}
+use Rattle.run_laws.specs.tc_code.declared.instr.Instr.{Instr}
+use Rattle.run_laws.specs.tc_code.declared.instr.Instr.TheVariants.{Inside, Branch, Holds, Signal, Create, Ready, Assert, Nonzero, InRange, Exit}
+use Rattle.run_laws.specs.tc_code.Code.{Code}
+use Rattle.run_laws.specs.tc_code.Step.{request, site, local_after, arguments_of, perform, with_thread, born, state_after_wake, opening}
+use Rattle.run_laws.specs.tc_code.Step as machine
+use Rattle.run_laws.specs.tc_code.Run.{IsReached}
 use Rattle.run_laws.proofs.Basics.{by_bool}
 use Rattle.run_laws.proofs.After.{branch_is}
 use Rattle.run_laws.proofs.Counts.{after_counts}

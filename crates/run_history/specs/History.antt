@@ -3,15 +3,15 @@ use Rattle.std.specs.Prelude.{ℕ, ◌+◌, ◌==◌, ℤ, pos, Bool, false, not
 use Rattle.std.specs.List.{filter, filter_map, list_any}
 use Rattle.std.specs.Option.{option_map_or}
 use Rattle.std.specs.FinMap as fin
-use Rattle.tc_base.specs.Names.{Name, child}
-use Rattle.tc_base.specs.Buffers.{BufferOps, Entry}
-use Rattle.tc_base.specs.States.{Local, Thread, State}
-use Rattle.tc_base.specs.declared.moves.Move.{Move}
-use Rattle.tc_base.specs.declared.moves.Move.TheVariants as move
-use Rattle.tc_base.specs.declared.request.Request.{Request}
-use Rattle.tc_base.specs.declared.request.Request.TheVariants.{Read, Write, Exchange, CompareExchange, Bar, Start}
-use Rattle.tc_code.specs.Code.{Code}
-use Rattle.tc_code.specs.Step.{request, instr_of, loaded, in_memory, step, opening}
+use Rattle.store_buffers.specs.tc_base.Names.{Name, child}
+use Rattle.store_buffers.specs.tc_base.Buffers.{BufferOps, Entry}
+use Rattle.store_buffers.specs.tc_base.States.{Local, Thread, State}
+use Rattle.store_buffers.specs.tc_base.declared.moves.Move.{Move}
+use Rattle.store_buffers.specs.tc_base.declared.moves.Move.TheVariants as move
+use Rattle.store_buffers.specs.tc_base.declared.request.Request.{Request}
+use Rattle.store_buffers.specs.tc_base.declared.request.Request.TheVariants.{Read, Write, Exchange, CompareExchange, Bar, Start}
+use Rattle.run_laws.specs.tc_code.Code.{Code}
+use Rattle.run_laws.specs.tc_code.Step.{request, instr_of, loaded, in_memory, step, opening}
 use Rattle.store_buffers.specs.Pending.{Pending, Store, Bar as barred}
 pub use Rattle.run_laws.specs.Alone.{same}
 
@@ -29,8 +29,10 @@ pub record Issue : Type 0 where
 -- what a deed puts into a thread's buffer, if anything; a store only if the model has buffers
 abbrev pub issue_of : Bool → Name → Deed → Option Issue
 issue_of buffered n (Did q k (Write c v) took other) =
-    if buffered && same n q then Some (record { number = k; what = Store (record { cell = c; value = v }) }) else None
-issue_of buffered n (Did q k Bar took other) = if same n q then Some (record { number = k; what = barred }) else None
+    if buffered && same n q
+    then Some (record { number = k; what = Store (record { cell = c; value = v }) }) else None
+issue_of buffered n (Did q k Bar took other) =
+    if same n q then Some (record { number = k; what = barred }) else None
 issue_of buffered n _ = None
 
 -- whether a deed drains the store of the thread's step number k
@@ -43,7 +45,8 @@ has_drained h n k = list_any (drains n k) h
 
 -- the stores and bars that a thread has issued and not drained, in order of issue
 abbrev pub pending_issues : Bool → List Deed → Name → List Issue
-pending_issues buffered h n = filter (λ i. not (has_drained h n i.number)) (filter_map (issue_of buffered n) h)
+pending_issues buffered h n =
+    filter (λ i. not (has_drained h n i.number)) (filter_map (issue_of buffered n) h)
 
 abbrev pub pending : Bool → List Deed → Name → List Pending
 pending buffered h n = map (λ i. i.what) (pending_issues buffered h n)
@@ -88,13 +91,16 @@ module _ {B : Type 0} (ops : BufferOps B) (code : Code) where
   -- the deed of a move made after a history, if any
   abbrev pub deed_of : State B → List Deed → Move → List Deed
   deed_of s h (move.Run n) = option_map_or (λ t. by_instr t (did s n t)) (fin.get s.threads n) []
-  deed_of s h (move.Wake n u) = option_map_or (λ t. by_instr t (woke n u t)) (fin.get s.threads n) []
-  deed_of s h (move.Drain n form) = option_map_or (λ t. drained h n (ops.drain t.buffer form).entry ∷ []) (fin.get s.threads n) []
+  deed_of s h (move.Wake n u) =
+      option_map_or (λ t. by_instr t (woke n u t)) (fin.get s.threads n) []
+  deed_of s h (move.Drain n form) =
+      option_map_or (λ t. drained h n (ops.drain t.buffer form).entry ∷ []) (fin.get s.threads n) []
 
   -- the history after more moves
   abbrev pub history_from : State B → List Deed → List Move → List Deed
   history_from s h [] = h
-  history_from s h (m ∷ ms) = option_map_or (λ u. history_from u (h ++ deed_of s h m) ms) (step ops code s m) h
+  history_from s h (m ∷ ms) =
+      option_map_or (λ u. history_from u (h ++ deed_of s h m) ms) (step ops code s m) h
 
   abbrev pub history : List Move → List Deed
   history ms = history_from (opening ops code) [] ms

@@ -1,5 +1,5 @@
 -- Deeds whose values are all ints.
-use Rattle.int_ops.specs.Arith.{IsInt}
+use Rattle.run_laws.specs.int_ops.Arith.{IsInt}
 use Rattle.run_laws.specs.Ints.{AsksInts}
 use Rattle.run_history.specs.History.{Deed, Did, Drained}
 

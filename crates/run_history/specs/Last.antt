@@ -1,8 +1,8 @@
 -- The last deed for which a function gives a value.
 use Rattle.std.specs.Prelude.{◌≡◌, ℕ, ◌==◌, ℤ, Bool, true, false, ◌&&◌, Option, Some, None, List, [], ◌∷◌, ◌++◌, option_and_then, if◌then◌else◌}
 use Rattle.std.specs.List.{filter_map}
-use Rattle.tc_base.specs.Names.{Name}
-use Rattle.tc_base.specs.declared.request.Request.TheVariants.{BeginWait, WakeOne, WakeAll}
+use Rattle.store_buffers.specs.tc_base.Names.{Name}
+use Rattle.store_buffers.specs.tc_base.declared.request.Request.TheVariants.{BeginWait, WakeOne, WakeAll}
 use Rattle.run_history.specs.History.{Deed, Did, same}
 use Rattle.run_history.specs.Told.{reaches}
 
@@ -17,7 +17,8 @@ pub record IsLast {X : Type 0} (f : Deed → Option X) (h : List Deed) (x : X) :
 
 -- the value that a deed writes to a cell of memory, if it writes there
 abbrev pub brings : Bool → ℕ → Deed → Option ℤ
-brings buffered c d = option_and_then (λ e. if e.cell == c then Some e.value else None) (reaches buffered d)
+brings buffered c d =
+    option_and_then (λ e. if e.cell == c then Some e.value else None) (reaches buffered d)
 
 -- whether a thread waits on a condition after a deed, if the deed begins or ends the wait
 abbrev pub waits_by : ℕ → Name → Deed → Option Bool

@@ -3,26 +3,29 @@ use Rattle.std.specs.Prelude.{ℕ, ◌==◌, ℤ, pos, Bool, false, ◌||◌, Op
 use Rattle.std.specs.Prelude.{List, fold, slice_index_or, if◌then◌else◌}
 use Rattle.std.specs.List.{filter_map, list_any, last_or, count_by}
 use Rattle.std.specs.FinSet as set
-use Rattle.tc_base.specs.Names.{Name, main}
-use Rattle.tc_base.specs.Buffers.{Entry}
+use Rattle.store_buffers.specs.tc_base.Names.{Name, main}
+use Rattle.store_buffers.specs.tc_base.Buffers.{Entry}
 use Rattle.store_buffers.specs.Buffers.{newest}
-use Rattle.tc_base.specs.declared.request.Request.TheVariants.{Write, Exchange, CompareExchange, Acquire, Release, BeginWait, EndWait}
-use Rattle.tc_base.specs.declared.request.Request.TheVariants.{WakeOne, WakeAll, Start, Finish, Fail}
-use Rattle.tc_code.specs.Code.{Code}
-use Rattle.tc_code.specs.Step.{replaced, NameSet}
+use Rattle.store_buffers.specs.tc_base.declared.request.Request.TheVariants.{Write, Exchange, CompareExchange, Acquire, Release, BeginWait, EndWait}
+use Rattle.store_buffers.specs.tc_base.declared.request.Request.TheVariants.{WakeOne, WakeAll, Start, Finish, Fail}
+use Rattle.run_laws.specs.tc_code.Code.{Code}
+use Rattle.run_laws.specs.tc_code.Step.{replaced, NameSet}
 use Rattle.run_history.specs.History.{Deed, Did, Drained, same}
 
 -- the store that reaches memory by a deed, if any; with buffers, a write has to drain first
 abbrev pub reaches : Bool → Deed → Option Entry
-reaches buffered (Did n k (Write c v) took other) = if buffered then None else Some (record { cell = c; value = v })
+reaches buffered (Did n k (Write c v) took other) =
+    if buffered then None else Some (record { cell = c; value = v })
 reaches buffered (Did n k (Exchange c v) took other) = Some (record { cell = c; value = v })
-reaches buffered (Did n k (CompareExchange c e v) took other) = Some (record { cell = c; value = replaced took e v })
+reaches buffered (Did n k (CompareExchange c e v) took other) =
+    Some (record { cell = c; value = replaced took e v })
 reaches buffered (Did n k _ took other) = None
 reaches buffered (Drained n k c v) = Some (record { cell = c; value = v })
 
 -- a cell's value: that of the last store that reached it, else its initial value
 abbrev pub value_in : Bool → Code → List Deed → ℕ → ℤ
-value_in buffered code h c = unwrap_or (newest (filter_map (reaches buffered) h) c) (slice_index_or code.memory c (pos 0))
+value_in buffered code h c =
+    unwrap_or (newest (filter_map (reaches buffered) h) c) (slice_index_or code.memory c (pos 0))
 
 -- the owner of a mutex after a deed, if the deed acquires or releases it
 abbrev pub owner_by : ℕ → Deed → Option (Option Name)

@@ -1,19 +1,19 @@
 -- The world of a run is lawful, since it meets each rule.
 use Rattle.std.proofs.Common.{List}
-use Rattle.tc_base.specs.declared.moves.Move.{Move}
-use Rattle.tc_code.specs.Run.{Reproduces}
-use Rattle.run_history.specs.History.{history}
-use Rattle.path_walk.specs.Paths.{Paths, paths_of}
-use Rattle.path_laws.specs.Setting.{Setting}
-use Rattle.path_laws.proofs.Logs.{reproduced_fits, reproduced_alive}
-use Rattle.sym_terms.specs.Terms.{AreTerms}
-use Rattle.sym_terms.specs.declared.node.Node.{Node}
-use Rattle.sym_exec.specs.Executed.{Executed}
-use Rattle.sym_laws.specs.Valued.{found}
-use Rattle.order_formula.specs.Worlds.{World}
-use Rattle.order_formula.specs.declared.group.Group.{Group}
-use Rattle.order_formula.specs.declared.group.Group.TheVariants.{Own, Child, Read, Mutex, Condition, Test, Stuck}
-use Rattle.lawful_order.specs.Lawful as order
+use Rattle.sym_events.specs.tc_base.declared.moves.Move.{Move}
+use Rattle.sym_events.specs.tc_code.Run.{Reproduces}
+use Rattle.sym_steps.specs.run_history.History.{history}
+use Rattle.sym_events.specs.path_walk.Paths.{Paths, paths_of}
+use Rattle.sym_steps.specs.path_laws.Setting.{Setting}
+use Rattle.sym_steps.proofs.path_laws.Logs.{reproduced_fits, reproduced_alive}
+use Rattle.sym_events.specs.sym_terms.Terms.{AreTerms}
+use Rattle.sym_events.specs.sym_terms.declared.node.Node.{Node}
+use Rattle.sym_events.specs.sym_exec.Executed.{Executed}
+use Rattle.sym_steps.specs.sym_laws.Valued.{found}
+use Rattle.sym_events.specs.order_formula.Worlds.{World}
+use Rattle.sym_events.specs.order_formula.declared.group.Group.{Group}
+use Rattle.sym_events.specs.order_formula.declared.group.Group.TheVariants.{Own, Child, Read, Mutex, Condition, Test, Stuck}
+use Rattle.sym_events.specs.lawful_order.Lawful as order
 use Rattle.world_plan.specs.Going.{IsLawfulWorld}
 use Rattle.run_lawful.specs.world.WorldOf.{world_in}
 use Rattle.run_lawful.proofs.of_world.Loads.{agrees}

@@ -1,3 +1,4 @@
+pub use Rattle.bit_ranks.proofs as bit_ranks
 pub mod Lawful
 pub mod of_world
 pub mod of_own

@@ -1,1 +1,2 @@
+pub use Rattle.bit_ranks.specs as bit_ranks
 pub mod world

@@ -3,14 +3,14 @@
 #![tactic(auto)]
 
 ghost use Rattle.std.specs.Prelude.{List};
-ghost use Rattle.tc_base.specs.declared.moves.Move.{Move};
-ghost use Rattle.tc_code.specs.Run.{Reproduces};
-ghost use Rattle.run_history.specs.History.{history};
-ghost use Rattle.path_walk.specs.Paths.{paths_of};
-ghost use Rattle.sym_terms.specs.Terms.{AreTerms};
-ghost use Rattle.sym_terms.specs.declared.node.Node.{Node};
-ghost use Rattle.sym_laws.specs.Valued.{found};
-ghost use Rattle.path_laws.specs.Setting.{Setting};
+ghost use Rattle.sym_events.specs.tc_base.declared.moves.Move.{Move};
+ghost use Rattle.sym_events.specs.tc_code.Run.{Reproduces};
+ghost use Rattle.sym_steps.specs.run_history.History.{history};
+ghost use Rattle.sym_events.specs.path_walk.Paths.{paths_of};
+ghost use Rattle.sym_events.specs.sym_terms.Terms.{AreTerms};
+ghost use Rattle.sym_events.specs.sym_terms.declared.node.Node.{Node};
+ghost use Rattle.sym_steps.specs.sym_laws.Valued.{found};
+ghost use Rattle.sym_steps.specs.path_laws.Setting.{Setting};
 ghost use Rattle.world_plan.specs.Going.{IsLawfulWorld};
 ghost use Rattle.world_plan.specs.Sights.{AreInOrder};
 ghost use Rattle.run_lawful.specs.world.WorldOf.{world_in};

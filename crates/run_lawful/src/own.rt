@@ -3,17 +3,17 @@
 //!
 //! Each law is the contract of a function with an empty body.
 ghost use Rattle.std.specs.Prelude.{ℕ, List};
-ghost use Rattle.tc_base.specs.declared.moves.Move.{Move};
-ghost use Rattle.tc_code.specs.Run.{Reproduces};
-ghost use Rattle.run_history.specs.History.{history};
-ghost use Rattle.path_walk.specs.Paths.{paths_of};
-ghost use Rattle.sym_terms.specs.Terms.{AreTerms};
-ghost use Rattle.sym_terms.specs.declared.node.Node.{Node};
-ghost use Rattle.sym_laws.specs.Valued.{found};
-ghost use Rattle.lawful_order.specs.Memory.{OwnRule};
-ghost use Rattle.lawful_order.specs.Tests.{TestRule};
+ghost use Rattle.sym_events.specs.tc_base.declared.moves.Move.{Move};
+ghost use Rattle.sym_events.specs.tc_code.Run.{Reproduces};
+ghost use Rattle.sym_steps.specs.run_history.History.{history};
+ghost use Rattle.sym_events.specs.path_walk.Paths.{paths_of};
+ghost use Rattle.sym_events.specs.sym_terms.Terms.{AreTerms};
+ghost use Rattle.sym_events.specs.sym_terms.declared.node.Node.{Node};
+ghost use Rattle.sym_steps.specs.sym_laws.Valued.{found};
+ghost use Rattle.sym_events.specs.lawful_order.Memory.{OwnRule};
+ghost use Rattle.sym_events.specs.lawful_order.Tests.{TestRule};
 ghost use Rattle.run_lawful.specs.world.WorldOf.{world_in};
-ghost use Rattle.path_laws.specs.Setting.{Setting};
+ghost use Rattle.sym_steps.specs.path_laws.Setting.{Setting};
 
 /// A thread's events stay in program order where the model requires it: a step that needs an empty
 /// buffer finds one, and a store that is bound after another drains after it. No step comes after

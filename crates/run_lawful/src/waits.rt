@@ -2,18 +2,18 @@
 //!
 //! Each law is the contract of a function with an empty body.
 ghost use Rattle.std.specs.Prelude.{ℕ, List};
-ghost use Rattle.tc_base.specs.declared.moves.Move.{Move};
-ghost use Rattle.tc_code.specs.Run.{Reproduces};
-ghost use Rattle.run_history.specs.History.{history};
-ghost use Rattle.path_walk.specs.Paths.{paths_of};
-ghost use Rattle.sym_terms.specs.declared.node.Node.{Node};
-ghost use Rattle.sym_laws.specs.Valued.{found};
-ghost use Rattle.lawful_order.specs.Children.{ChildRule};
-ghost use Rattle.lawful_order.specs.Conditions.{ConditionRule};
-ghost use Rattle.lawful_order.specs.Mutexes.{MutexRule};
-ghost use Rattle.lawful_order.specs.Stuck.{StuckRule};
+ghost use Rattle.sym_events.specs.tc_base.declared.moves.Move.{Move};
+ghost use Rattle.sym_events.specs.tc_code.Run.{Reproduces};
+ghost use Rattle.sym_steps.specs.run_history.History.{history};
+ghost use Rattle.sym_events.specs.path_walk.Paths.{paths_of};
+ghost use Rattle.sym_events.specs.sym_terms.declared.node.Node.{Node};
+ghost use Rattle.sym_steps.specs.sym_laws.Valued.{found};
+ghost use Rattle.sym_events.specs.lawful_order.Children.{ChildRule};
+ghost use Rattle.sym_events.specs.lawful_order.Conditions.{ConditionRule};
+ghost use Rattle.sym_events.specs.lawful_order.Mutexes.{MutexRule};
+ghost use Rattle.sym_events.specs.lawful_order.Stuck.{StuckRule};
 ghost use Rattle.run_lawful.specs.world.WorldOf.{world_in};
-ghost use Rattle.path_laws.specs.Setting.{Setting};
+ghost use Rattle.sym_steps.specs.path_laws.Setting.{Setting};
 
 /// In the world of moves that reproduce a log, a thread's events come after its create, and a join
 /// comes after the child's exit.

@@ -3,17 +3,17 @@
 //!
 //! Each law is the contract of a function with an empty body.
 ghost use Rattle.std.specs.Prelude.{List};
-ghost use Rattle.tc_base.specs.declared.moves.Move.{Move};
-ghost use Rattle.tc_code.specs.Run.{Reproduces};
-ghost use Rattle.run_history.specs.History.{history};
-ghost use Rattle.path_walk.specs.Paths.{paths_of};
-ghost use Rattle.sym_terms.specs.declared.node.Node.{Node};
-ghost use Rattle.sym_laws.specs.Valued.{found};
-ghost use Rattle.order_formula.specs.Worlds.{IsWorld};
-ghost use Rattle.lawful_order.specs.Lawful.{IsWorldOf};
+ghost use Rattle.sym_events.specs.tc_base.declared.moves.Move.{Move};
+ghost use Rattle.sym_events.specs.tc_code.Run.{Reproduces};
+ghost use Rattle.sym_steps.specs.run_history.History.{history};
+ghost use Rattle.sym_events.specs.path_walk.Paths.{paths_of};
+ghost use Rattle.sym_events.specs.sym_terms.declared.node.Node.{Node};
+ghost use Rattle.sym_steps.specs.sym_laws.Valued.{found};
+ghost use Rattle.sym_events.specs.order_formula.Worlds.{IsWorld};
+ghost use Rattle.sym_events.specs.lawful_order.Lawful.{IsWorldOf};
 ghost use Rattle.run_lawful.specs.world.Order.{IsOrderOf};
 ghost use Rattle.run_lawful.specs.world.WorldOf.{world_in};
-ghost use Rattle.path_laws.specs.Setting.{Setting};
+ghost use Rattle.sym_steps.specs.path_laws.Setting.{Setting};
 
 /// The history of moves that reproduce a log has a world with the events in the order in which they
 /// take place. Each event takes place once, except stores that never leave a buffer.

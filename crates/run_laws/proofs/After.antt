@@ -1,7 +1,7 @@
 -- The state of a thread after an instruction.
 use Rattle.std.proofs.Common.{◌≡◌, ◌⊎◌, inl, inr, ℕ, ◌+◌, length, ℤ, [], ◌∷◌, ◌++◌, Bool, true, false, cond, Some, refl, sym, subst}
 use Rattle.std.proofs.lemmas.List.{length-set}
-use Rattle.tc_base.specs.States.{Local}
+use Rattle.tc_code.specs.tc_base.States.{Local}
 use Rattle.tc_code.specs.Expr.{Expr}
 use Rattle.tc_code.specs.declared.instr.Instr.{Instr}
 use Rattle.tc_code.specs.declared.instr.Instr.TheVariants.{Set, Load, LoadAt, Branch, Goto, Lock, Unlock, Sleep, Wake, Create, Join, Swap, Cas}

@@ -2,10 +2,10 @@
 use Rattle.std.proofs.Common.{◌≡◌, ◌∙◌, inl, inr, ℕ, ◌+◌, ◌-◌, ◌≤◌, length, List, [], Some, sym, subst, arith}
 use Rattle.std.specs.FinMap as fin
 use Rattle.std.proofs.lemmas.Option.{none-some}
-use Rattle.tc_base.specs.Names.{Name, ByName, main, by_name}
-use Rattle.tc_base.specs.Buffers.{BufferOps}
-use Rattle.tc_base.specs.States.{Local, Thread, State}
-use Rattle.tc_base.specs.declared.moves.Move.{Move}
+use Rattle.tc_code.specs.tc_base.Names.{Name, ByName, main, by_name}
+use Rattle.tc_code.specs.tc_base.Buffers.{BufferOps}
+use Rattle.tc_code.specs.tc_base.States.{Local, Thread, State}
+use Rattle.tc_code.specs.tc_base.declared.moves.Move.{Move}
 use Rattle.tc_code.specs.Expr.{Expr}
 use Rattle.tc_code.specs.declared.instr.Instr.{Instr}
 use Rattle.tc_code.specs.declared.instr.Instr.TheVariants.{Create}

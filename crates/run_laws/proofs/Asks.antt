@@ -5,10 +5,10 @@ use Rattle.std.specs.FinMap as fin
 use Rattle.std.proofs.lemmas.Bool.{and_parts}
 use Rattle.std.proofs.lemmas.Bool.Decides.{nat_tests}
 use Rattle.std.proofs.lemmas.Int.{ints}
-use Rattle.tc_base.specs.Names.{Name}
-use Rattle.tc_base.specs.Buffers.{BufferOps}
-use Rattle.tc_base.specs.States.{Local, Thread, State}
-use Rattle.tc_base.specs.declared.request.Request.{Request}
+use Rattle.tc_code.specs.tc_base.Names.{Name}
+use Rattle.tc_code.specs.tc_base.Buffers.{BufferOps}
+use Rattle.tc_code.specs.tc_base.States.{Local, Thread, State}
+use Rattle.tc_code.specs.tc_base.declared.request.Request.{Request}
 use Rattle.tc_code.specs.declared.instr.Instr.{Instr}
 use Rattle.tc_code.specs.declared.instr.Instr.TheVariants.{Load, LoadAt, Store, StoreAt, Inside, Holds, Lock, Unlock, Sleep, Wake}
 use Rattle.tc_code.specs.declared.instr.Instr.TheVariants.{Signal, Broadcast, Ready, Assert, Nonzero, InRange, Swap, Cas}

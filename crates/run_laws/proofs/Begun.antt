@@ -4,16 +4,16 @@ use Rattle.std.specs.Prelude.{option_and_then}
 use Rattle.std.specs.FinMap as fin
 use Rattle.std.proofs.lemmas.List.{append_assoc, append-nil}
 use Rattle.std.proofs.lemmas.Option.{none-some, same_Some, option_and_then_some}
-use Rattle.tc_base.specs.Names.{Name, main, child, by_name}
-use Rattle.tc_base.specs.Buffers.{BufferOps}
-use Rattle.tc_base.specs.States.{Thread, State}
-use Rattle.tc_base.specs.declared.moves.Move.{Move}
-use Rattle.tc_base.specs.declared.moves.Move.TheVariants as move
+use Rattle.tc_code.specs.tc_base.Names.{Name, main, child, by_name}
+use Rattle.tc_code.specs.tc_base.Buffers.{BufferOps}
+use Rattle.tc_code.specs.tc_base.States.{Thread, State}
+use Rattle.tc_code.specs.tc_base.declared.moves.Move.{Move}
+use Rattle.tc_code.specs.tc_base.declared.moves.Move.TheVariants as move
 use Rattle.tc_code.specs.Expr.{Expr}
 use Rattle.tc_code.specs.declared.instr.Instr.{Instr}
 use Rattle.tc_code.specs.declared.instr.Instr.TheVariants.{Store, StoreAt, Inside, Holds, Create, Ready, Assert, Nonzero, InRange}
 use Rattle.tc_code.specs.Code.{Code}
-use Rattle.tc_base.specs.declared.request.Request.TheVariants.{Write}
+use Rattle.tc_code.specs.tc_base.declared.request.Request.TheVariants.{Write}
 use Rattle.tc_code.specs.Step.{request, site, arguments_of, instr_of, perform, step, opening}
 use Rattle.tc_code.specs.Run.{run, run_from}
 use Rattle.tc_code.proofs.Facts.{run_from-append, run_from-step}

@@ -1,8 +1,8 @@
 -- What holds at an instruction that belongs to the one before it.
 use Rattle.std.proofs.Common.{◌≡◌, ◌∙◌, inl, inr, ℕ, suc, ℤ, List, [], true, false, IsTrue, Some, refl, ap, sym, subst, arith, slice_get, true≢false}
 use Rattle.std.proofs.lemmas.Option.{same_Some}
-use Rattle.tc_base.specs.Buffers.{BufferOps}
-use Rattle.tc_base.specs.States.{Local, State}
+use Rattle.tc_code.specs.tc_base.Buffers.{BufferOps}
+use Rattle.tc_code.specs.tc_base.States.{Local, State}
 use Rattle.tc_code.specs.declared.instr.Instr.{Instr}
 use Rattle.tc_code.specs.declared.instr.Instr.TheVariants.{Holds, Unlock, Sleep, Ready, Join}
 use Rattle.tc_code.specs.Code.{Code}

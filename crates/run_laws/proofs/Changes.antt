@@ -5,17 +5,17 @@ use Rattle.std.specs.FinMap as fin
 use Rattle.std.specs.FinSet as set
 use Rattle.std.proofs.lemmas.Bool.{and_parts}
 use Rattle.std.proofs.lemmas.Cmp.{nat_list_cmp_total}
-use Rattle.tc_base.specs.Names.{Name, ByName, child, by_name}
-use Rattle.tc_base.specs.Buffers.{BufferOps}
-use Rattle.tc_base.specs.States.{Local, Thread, State}
-use Rattle.tc_base.specs.declared.moves.Move.{Move}
-use Rattle.tc_base.specs.declared.moves.Move.TheVariants as move
+use Rattle.tc_code.specs.tc_base.Names.{Name, ByName, child, by_name}
+use Rattle.tc_code.specs.tc_base.Buffers.{BufferOps}
+use Rattle.tc_code.specs.tc_base.States.{Local, Thread, State}
+use Rattle.tc_code.specs.tc_base.declared.moves.Move.{Move}
+use Rattle.tc_code.specs.tc_base.declared.moves.Move.TheVariants as move
 use Rattle.tc_code.specs.declared.instr.Instr.{Instr}
 use Rattle.tc_code.specs.declared.instr.Instr.TheVariants.{Load, LoadAt, Store, StoreAt, Inside, Holds, Lock, Unlock, Sleep, Wake}
 use Rattle.tc_code.specs.declared.instr.Instr.TheVariants.{Signal, Broadcast, Create, Ready, Assert, Nonzero, InRange, Swap, Cas}
 use Rattle.tc_code.specs.Code.{Code}
-use Rattle.tc_base.specs.declared.request.Request.{Request}
-use Rattle.tc_base.specs.declared.request.Request.TheVariants.{WakeOne, Fail}
+use Rattle.tc_code.specs.tc_base.declared.request.Request.{Request}
+use Rattle.tc_code.specs.tc_base.declared.request.Request.TheVariants.{WakeOne, Fail}
 use Rattle.tc_code.specs.Step.{request, site, local_after, arguments_of, instr_of, NameSet, is_let, born, perform, step}
 use Rattle.run_laws.proofs.Basics.{index_or-set_cases, either}
 use Rattle.run_laws.proofs.Names.{tells_names}

@@ -1,9 +1,9 @@
 -- The counters of a thread are at most the number of moves.
 use Rattle.std.proofs.Common.{◌≡◌, ℕ, ◌+◌, ◌<◌, ◌≤◌, ◌^◌, length, List, [], ◌∷◌, Some, refl, sym, subst, arith, ℤ}
 use Rattle.std.proofs.lemmas.Option.{same_Some, option_and_then_some}
-use Rattle.tc_base.specs.Buffers.{BufferOps}
-use Rattle.tc_base.specs.States.{Local, State}
-use Rattle.tc_base.specs.declared.moves.Move.{Move}
+use Rattle.tc_code.specs.tc_base.Buffers.{BufferOps}
+use Rattle.tc_code.specs.tc_base.States.{Local, State}
+use Rattle.tc_code.specs.tc_base.declared.moves.Move.{Move}
 use Rattle.tc_code.specs.declared.instr.Instr.{Instr}
 use Rattle.tc_code.specs.declared.instr.Instr.TheVariants.{Branch}
 use Rattle.tc_code.specs.Code.{Code}

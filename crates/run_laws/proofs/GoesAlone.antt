@@ -5,16 +5,16 @@ use Rattle.std.specs.Option.{option_map_or}
 use Rattle.std.specs.FinMap as fin
 use Rattle.std.proofs.lemmas.Bool.{true≢false}
 use Rattle.std.proofs.lemmas.Option.{same_Some, option_and_then_some}
-use Rattle.tc_base.specs.Names.{Name, child}
-use Rattle.tc_base.specs.Buffers.{BufferOps}
-use Rattle.tc_base.specs.States.{Local, Thread, State}
-use Rattle.tc_base.specs.declared.moves.Move.{Move}
-use Rattle.tc_base.specs.declared.moves.Move.TheVariants as move
+use Rattle.tc_code.specs.tc_base.Names.{Name, child}
+use Rattle.tc_code.specs.tc_base.Buffers.{BufferOps}
+use Rattle.tc_code.specs.tc_base.States.{Local, Thread, State}
+use Rattle.tc_code.specs.tc_base.declared.moves.Move.{Move}
+use Rattle.tc_code.specs.tc_base.declared.moves.Move.TheVariants as move
 use Rattle.tc_code.specs.declared.instr.Instr.{Instr}
 use Rattle.tc_code.specs.declared.instr.Instr.TheVariants.{Signal}
 use Rattle.tc_code.specs.Code.{Code}
-use Rattle.tc_base.specs.declared.request.Request.{Request}
-use Rattle.tc_base.specs.declared.request.Request.TheVariants.{Read, Write, Exchange, CompareExchange, Bar, WakeOne, Start, Fail}
+use Rattle.tc_code.specs.tc_base.declared.request.Request.{Request}
+use Rattle.tc_code.specs.tc_base.declared.request.Request.TheVariants.{Read, Write, Exchange, CompareExchange, Bar, WakeOne, Start, Fail}
 use Rattle.tc_code.specs.Step.{request, step_in_place, local_after, instr_of, loaded, in_memory, perform, step}
 use Rattle.tc_code.specs.Run.{IsReached, run_from}
 use Rattle.tc_code.proofs.Facts.{step_is_reached}

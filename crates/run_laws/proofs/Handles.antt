@@ -2,11 +2,11 @@
 use Rattle.std.proofs.Common.{◌≡◌, inl, inr, ℕ, ◌+◌, ◌≤◌, ℤ, List, [], IsTrue, refl, sym, subst, arith, le_refl, slice_set, slice_index_or}
 use Rattle.std.proofs.lemmas.List.{same_from_push}
 use Rattle.std.specs.FinMap as fin
-use Rattle.tc_base.specs.Names.{Name, child}
-use Rattle.tc_base.specs.Buffers.{BufferOps}
-use Rattle.tc_base.specs.States.{Local, Thread, State}
-use Rattle.tc_base.specs.declared.handle.Handle.{Handle}
-use Rattle.tc_base.specs.declared.handle.Handle.TheVariants.{Unset, Child, Joined}
+use Rattle.tc_code.specs.tc_base.Names.{Name, child}
+use Rattle.tc_code.specs.tc_base.Buffers.{BufferOps}
+use Rattle.tc_code.specs.tc_base.States.{Local, Thread, State}
+use Rattle.tc_code.specs.tc_base.declared.handle.Handle.{Handle}
+use Rattle.tc_code.specs.tc_base.declared.handle.Handle.TheVariants.{Unset, Child, Joined}
 use Rattle.tc_code.specs.declared.instr.Instr.{Instr}
 use Rattle.tc_code.specs.declared.instr.Instr.TheVariants.{Branch, Create, Join}
 use Rattle.tc_code.specs.Code.{Code}

@@ -9,15 +9,15 @@ use Rattle.std.specs.FinMap as fin
 use Rattle.std.proofs.lemmas.Bool.{cond_both}
 use Rattle.std.proofs.lemmas.List.Elements.{All-nil, All-cons, All-head, All-tail, All-append, All-replicate, All-set, All-weaker, All-map}
 use Rattle.std.proofs.lemmas.Option.{none-some}
-use Rattle.int_ops.specs.Arith.{IsInt}
-use Rattle.tc_base.specs.Names.{Name, by_name, main, child}
-use Rattle.tc_base.specs.Buffers.{BufferOps}
-use Rattle.tc_base.specs.States.{Local, Thread, State}
-use Rattle.tc_base.specs.declared.moves.Move.{Move}
-use Rattle.tc_base.specs.declared.moves.Move.TheVariants as move
-use Rattle.tc_base.specs.declared.request.Request.{Request}
-use Rattle.tc_base.specs.declared.request.Request.TheVariants.{Read, Write, Exchange, CompareExchange, Bar, Start, Fail}
-use Rattle.int_ops.proofs.Ints.{there_int, truth_int}
+use Rattle.tc_code.specs.int_ops.Arith.{IsInt}
+use Rattle.tc_code.specs.tc_base.Names.{Name, by_name, main, child}
+use Rattle.tc_code.specs.tc_base.Buffers.{BufferOps}
+use Rattle.tc_code.specs.tc_base.States.{Local, Thread, State}
+use Rattle.tc_code.specs.tc_base.declared.moves.Move.{Move}
+use Rattle.tc_code.specs.tc_base.declared.moves.Move.TheVariants as move
+use Rattle.tc_code.specs.tc_base.declared.request.Request.{Request}
+use Rattle.tc_code.specs.tc_base.declared.request.Request.TheVariants.{Read, Write, Exchange, CompareExchange, Bar, Start, Fail}
+use Rattle.tc_code.proofs.int_ops.Ints.{there_int, truth_int}
 use Rattle.tc_code.specs.Expr.{Expr, value_of, HasInts}
 use Rattle.tc_code.specs.declared.instr.Instr.{Instr}
 use Rattle.tc_code.specs.declared.instr.Instr.TheVariants.{Set, Load, LoadAt, Store, StoreAt, Inside, Branch, Holds, Signal, Create}

@@ -1,3 +1,4 @@
+pub use Rattle.tc_code.proofs as tc_code
 pub mod After
 pub mod AllThreads
 pub mod Asks

@@ -1,10 +1,10 @@
 -- Threads stay, and main is one of them.
 use Rattle.std.proofs.Common.{◌≡◌, Some, sym, subst, IsSome}
 use Rattle.std.specs.FinMap as fin
-use Rattle.tc_base.specs.Names.{Name, ByName, main}
-use Rattle.tc_base.specs.Buffers.{BufferOps}
-use Rattle.tc_base.specs.States.{Local, Thread, State}
-use Rattle.tc_base.specs.declared.moves.Move.{Move}
+use Rattle.tc_code.specs.tc_base.Names.{Name, ByName, main}
+use Rattle.tc_code.specs.tc_base.Buffers.{BufferOps}
+use Rattle.tc_code.specs.tc_base.States.{Local, Thread, State}
+use Rattle.tc_code.specs.tc_base.declared.moves.Move.{Move}
 use Rattle.tc_code.specs.declared.instr.Instr.{Instr}
 use Rattle.tc_code.specs.declared.instr.Instr.TheVariants.{Create}
 use Rattle.tc_code.specs.Code.{Code}

@@ -9,7 +9,7 @@ use Rattle.std.proofs.lemmas.List.{length_push}
 use Rattle.std.proofs.lemmas.Map.Lookups.{exact_bytes}
 use Rattle.std.proofs.lemmas.Map.Views.{tells_apart}
 use Rattle.std.proofs.lemmas.Option.{same_Some}
-use Rattle.tc_base.specs.Names.{Name, ByName, main, child, by_name}
+use Rattle.tc_code.specs.tc_base.Names.{Name, ByName, main, child, by_name}
 use Rattle.tc_code.specs.Step.{NameSet}
 use Rattle.run_laws.specs.Alone.{same}
 

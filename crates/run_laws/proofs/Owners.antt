@@ -6,10 +6,10 @@ use Rattle.std.specs.FinSet as set
 use Rattle.std.proofs.lemmas.Bool.{and_parts, cases_eq, ltb-true}
 use Rattle.std.proofs.lemmas.List.{get_or-set_same, get_or-set_other}
 use Rattle.std.proofs.lemmas.Option.{none-some, same_Some}
-use Rattle.tc_base.specs.Names.{Name, ByName, main, child, by_name}
-use Rattle.tc_base.specs.Buffers.{BufferOps}
-use Rattle.tc_base.specs.States.{Local, Thread, State}
-use Rattle.tc_base.specs.declared.moves.Move.{Move}
+use Rattle.tc_code.specs.tc_base.Names.{Name, ByName, main, child, by_name}
+use Rattle.tc_code.specs.tc_base.Buffers.{BufferOps}
+use Rattle.tc_code.specs.tc_base.States.{Local, Thread, State}
+use Rattle.tc_code.specs.tc_base.declared.moves.Move.{Move}
 use Rattle.tc_code.specs.declared.instr.Instr.{Instr}
 use Rattle.tc_code.specs.declared.instr.Instr.TheVariants.{Branch, Lock, Unlock, Sleep, Wake, Create}
 use Rattle.tc_code.specs.Code.{Code}

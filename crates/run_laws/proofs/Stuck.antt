@@ -5,13 +5,13 @@ use Rattle.std.specs.FinMap as fin
 use Rattle.std.proofs.Math.Bool.{or-true}
 use Rattle.std.proofs.lemmas.Bool.{and_from, false_from_ne_true}
 use Rattle.std.proofs.lemmas.Option.{none-some}
-use Rattle.tc_base.specs.Names.{Name}
-use Rattle.tc_base.specs.Buffers.{BufferOps}
-use Rattle.tc_base.specs.States.{Local, Thread, State}
-use Rattle.tc_base.specs.declared.moves.Move.{Move}
-use Rattle.tc_base.specs.declared.moves.Move.TheVariants as move
-use Rattle.tc_base.specs.declared.request.Request.{Request}
-use Rattle.tc_base.specs.declared.request.Request.TheVariants.{Acquire, EndWait, WakeOne, Await}
+use Rattle.tc_code.specs.tc_base.Names.{Name}
+use Rattle.tc_code.specs.tc_base.Buffers.{BufferOps}
+use Rattle.tc_code.specs.tc_base.States.{Local, Thread, State}
+use Rattle.tc_code.specs.tc_base.declared.moves.Move.{Move}
+use Rattle.tc_code.specs.tc_base.declared.moves.Move.TheVariants as move
+use Rattle.tc_code.specs.tc_base.declared.request.Request.{Request}
+use Rattle.tc_code.specs.tc_base.declared.request.Request.TheVariants.{Acquire, EndWait, WakeOne, Await}
 use Rattle.tc_code.specs.Code.{Code}
 use Rattle.tc_code.specs.declared.instr.Instr.{Instr}
 use Rattle.tc_code.specs.declared.instr.Instr.TheVariants.{Inside, Holds, Signal, Ready, Assert, Nonzero, InRange}

@@ -2,10 +2,10 @@
 use Rattle.std.specs.Prelude.{◌≡◌, ◌≢◌, ◌↔◌, ◌+◌, ◌≤◌, ℕ, Option, Some, None, IsSome, IsTrue, slice_index_or}
 use Rattle.std.specs.FinMap as fin
 use Rattle.std.specs.FinSet as set
-use Rattle.tc_base.specs.Names.{Name, main, child}
-use Rattle.tc_base.specs.States.{Local, Thread, State}
-use Rattle.tc_base.specs.declared.handle.Handle.{Handle}
-use Rattle.tc_base.specs.declared.handle.Handle.TheVariants.{Unset, Child, Joined}
+use Rattle.tc_code.specs.tc_base.Names.{Name, main, child}
+use Rattle.tc_code.specs.tc_base.States.{Local, Thread, State}
+use Rattle.tc_code.specs.tc_base.declared.handle.Handle.{Handle}
+use Rattle.tc_code.specs.tc_base.declared.handle.Handle.TheVariants.{Unset, Child, Joined}
 use Rattle.tc_code.specs.declared.instr.Instr.TheVariants.{Unlock, Sleep, Wake, Join, Exit}
 use Rattle.tc_code.specs.Code.{Code, instr_at}
 use Rattle.tc_code.specs.Step.{holds, can_be_joined, handle_of, instr_of, waiting_on}
@@ -16,7 +16,8 @@ owner_of s m = slice_index_or s.owners m None
 
 -- a thread holds a mutex if and only if it owns it, and every owner is a thread
 pub record OwnersHold {B : Type 0} (s : State B) : Type 0 where
-  pub holder : (n : Name) (t : Thread B) (m : ℕ) → fin.get s.threads n ≡ Some t → IsTrue (holds t.local m) ↔ (owner_of s m ≡ Some n)
+  pub holder : (n : Name) (t : Thread B) (m : ℕ) → fin.get s.threads n ≡ Some t
+      → IsTrue (holds t.local m) ↔ (owner_of s m ≡ Some n)
   pub there : (n : Name) (m : ℕ) → owner_of s m ≡ Some n → IsSome (fin.get s.threads n)
 
 -- at the instruction after a site, what the site tested holds
@@ -34,7 +35,8 @@ pub record IsAtWake {B : Type 0} (code : Code) (s : State B) (c : ℕ) (n : Name
 
 -- every waiter of a condition is a thread at a wake on it
 abbrev pub WaitersAreAtWake : {B : Type 0} → Code → State B → Type 0
-WaitersAreAtWake code s = (n : Name) (c : ℕ) → IsTrue (set.contains (waiting_on s c) n) → IsAtWake code s c n
+WaitersAreAtWake code s =
+    (n : Name) (c : ℕ) → IsTrue (set.contains (waiting_on s c) n) → IsAtWake code s c n
 
 -- the instruction before a thread's place is an exit
 pub record IsPastExit (code : Code) (t : Local) : Type 0 where
@@ -62,7 +64,8 @@ pub record IsCreated {B : Type 0} (s : State B) (n : Name) : Type 0 where
 
 -- every created child is a thread, and every thread but main is a created child
 pub record ThreadsAreCreated {B : Type 0} (s : State B) : Type 0 where
-  pub child_is_there : (n : Name) (t : Thread B) (k : ℕ) → fin.get s.threads n ≡ Some t → IsChildOf t.local k → IsSome (fin.get s.threads (child n k))
+  pub child_is_there : (n : Name) (t : Thread B) (k : ℕ) → fin.get s.threads n ≡ Some t
+      → IsChildOf t.local k → IsSome (fin.get s.threads (child n k))
   pub is_created : (n : Name) → IsSome (fin.get s.threads n) → n ≢ main → IsCreated s n
 
 -- a thread variable that holds a child holds one that its thread has created

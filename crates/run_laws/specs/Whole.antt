@@ -1,8 +1,8 @@
 -- Well-formed threads and states of lawful code.
 use Rattle.std.specs.Prelude.{◌≡◌, length, Some, slice_get, IsTrue}
 use Rattle.std.specs.FinMap as fin
-use Rattle.tc_base.specs.Names.{Name, ByName}
-use Rattle.tc_base.specs.States.{Local, Thread, State}
+use Rattle.tc_code.specs.tc_base.Names.{Name, ByName}
+use Rattle.tc_code.specs.tc_base.States.{Local, Thread, State}
 use Rattle.tc_code.specs.declared.instr.Instr.{Instr}
 use Rattle.tc_code.specs.declared.instr.Instr.TheVariants.{LoadAt, StoreAt}
 use Rattle.tc_code.specs.Code.{Code}

@@ -5,11 +5,11 @@
 ghost use Rattle.std.specs.Prelude.{◌≡◌, ◌≤◌, ◌+◌, ℕ, ℤ, List, length, Option, Some, None, IsSome, IsTrue};
 ghost use Rattle.std.specs.FinMap as fin;
 ghost use Rattle.std.specs.List.{All};
-ghost use Rattle.int_ops.specs.Arith.{IsInt};
-ghost use Rattle.tc_base.specs.Buffers.{BufferOps};
-ghost use Rattle.tc_base.specs.Names.{Name, main, child};
-ghost use Rattle.tc_base.specs.States.{State, Thread};
-ghost use Rattle.tc_base.specs.declared.moves.Move.{Move};
+ghost use Rattle.tc_code.specs.int_ops.Arith.{IsInt};
+ghost use Rattle.tc_code.specs.tc_base.Buffers.{BufferOps};
+ghost use Rattle.tc_code.specs.tc_base.Names.{Name, main, child};
+ghost use Rattle.tc_code.specs.tc_base.States.{State, Thread};
+ghost use Rattle.tc_code.specs.tc_base.declared.moves.Move.{Move};
 ghost use Rattle.tc_code.specs.declared.instr.Instr.{Instr};
 ghost use Rattle.tc_code.specs.Code.{Code};
 ghost use Rattle.tc_code.specs.Lawful.{IsLawful};

@@ -1,2 +1,3 @@
+pub use Rattle.tc_base.proofs as tc_base
 pub mod Rising
 pub mod Digests

@@ -17,7 +17,8 @@ pub record Log : Type 0 where
 
 -- the name of the thread that failed, if one did
 abbrev pub failing_of : Log → Option Name
-failing_of log = option_and_then (λ k. option_map (λ t. t.name) (slice_get log.threads k)) (place_in log.failing)
+failing_of log =
+    option_and_then (λ k. option_map (λ t. t.name) (slice_get log.threads k)) (place_in log.failing)
 
 -- a log, and the digest of the recorded program, if it is known
 pub record StoredLog : Type 0 where

@@ -7,26 +7,26 @@ use Rattle.std.specs.FinMap as fin
 use Rattle.std.specs.FinSet as set
 use Rattle.std.proofs.lemmas.Bool.{false≢true, cases_Bool, or_parts, false_from_ne_true}
 use Rattle.std.proofs.lemmas.Option.{none-some, same_Some, option_and_then_some}
-use Rattle.tc_base.specs.Names.{Name, ByName, child, main, by_name}
-use Rattle.tc_base.specs.Buffers.{BufferOps, Entry}
-use Rattle.tc_base.specs.States.{Local, Thread, State}
-use Rattle.tc_base.specs.Paths.{ThreadPath}
-use Rattle.run_log.specs.Logs.{Log}
-use Rattle.tc_base.specs.declared.failing.Failing.{Failing}
-use Rattle.tc_base.specs.declared.failing.Failing.TheVariants as failing
-use Rattle.memory_models.specs.declared.model.Model.{Model}
-use Rattle.tc_base.specs.declared.moves.Move.{Move}
-use Rattle.tc_base.specs.declared.moves.Move.TheVariants as move
-use Rattle.tc_base.specs.declared.request.Request.{Request}
-use Rattle.tc_base.specs.declared.request.Request.TheVariants.{Silent, Read, Write, Exchange, CompareExchange, Bar}
-use Rattle.tc_base.specs.declared.request.Request.TheVariants.{Start, Await, Fail}
-use Rattle.tc_code.specs.declared.instr.Instr.{Instr}
-use Rattle.tc_code.specs.declared.instr.Instr.TheVariants.{Signal}
-use Rattle.tc_code.specs.Code.{Code}
-use Rattle.tc_code.specs.Step.{request, local_after, step_in_place, arguments_of, instr_of, in_memory, drains_first, is_let, with_thread}
-use Rattle.tc_code.specs.Step.{allows, loaded, state_after_read, state_after_step, state_after_store, perform, born, waiting_on, state_after_wake, state_after_drain, step, opening}
-use Rattle.tc_code.specs.Run.{run_from, run, IsStuck, EndsAs, Reproduces, path_of}
-use Rattle.tc_code.proofs.Facts.{run_from-append}
+use Rattle.store_buffers.specs.tc_base.Names.{Name, ByName, child, main, by_name}
+use Rattle.store_buffers.specs.tc_base.Buffers.{BufferOps, Entry}
+use Rattle.store_buffers.specs.tc_base.States.{Local, Thread, State}
+use Rattle.store_buffers.specs.tc_base.Paths.{ThreadPath}
+use Rattle.run_laws.specs.run_log.Logs.{Log}
+use Rattle.store_buffers.specs.tc_base.declared.failing.Failing.{Failing}
+use Rattle.store_buffers.specs.tc_base.declared.failing.Failing.TheVariants as failing
+use Rattle.store_buffers.specs.memory_models.declared.model.Model.{Model}
+use Rattle.store_buffers.specs.tc_base.declared.moves.Move.{Move}
+use Rattle.store_buffers.specs.tc_base.declared.moves.Move.TheVariants as move
+use Rattle.store_buffers.specs.tc_base.declared.request.Request.{Request}
+use Rattle.store_buffers.specs.tc_base.declared.request.Request.TheVariants.{Silent, Read, Write, Exchange, CompareExchange, Bar}
+use Rattle.store_buffers.specs.tc_base.declared.request.Request.TheVariants.{Start, Await, Fail}
+use Rattle.run_laws.specs.tc_code.declared.instr.Instr.{Instr}
+use Rattle.run_laws.specs.tc_code.declared.instr.Instr.TheVariants.{Signal}
+use Rattle.run_laws.specs.tc_code.Code.{Code}
+use Rattle.run_laws.specs.tc_code.Step.{request, local_after, step_in_place, arguments_of, instr_of, in_memory, drains_first, is_let, with_thread}
+use Rattle.run_laws.specs.tc_code.Step.{allows, loaded, state_after_read, state_after_step, state_after_store, perform, born, waiting_on, state_after_wake, state_after_drain, step, opening}
+use Rattle.run_laws.specs.tc_code.Run.{run_from, run, IsStuck, EndsAs, Reproduces, path_of}
+use Rattle.run_laws.proofs.tc_code.Facts.{run_from-append}
 use Rattle.store_buffers.specs.Pending.{Pending, Store, Bar as bar, stores, Binding, waits, form_of, Stands}
 use Rattle.store_buffers.specs.Laws.{Laws}
 use Rattle.store_buffers.specs.helpers.Lists.{store_last, bar_last, store_there, waits_for_none}

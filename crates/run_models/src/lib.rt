@@ -3,16 +3,16 @@
 #![tactic(auto)]
 
 ghost use Rattle.std.specs.Prelude.{◌≡◌, List, Some};
-ghost use Rattle.tc_base.specs.Buffers.{BufferOps};
+ghost use Rattle.store_buffers.specs.tc_base.Buffers.{BufferOps};
 ghost use Rattle.store_buffers.specs.Buffers.{no_buffer, fifo_buffer, cell_buffer};
-ghost use Rattle.tc_base.specs.States.{State};
-ghost use Rattle.memory_models.specs.declared.model.Model.{Model};
-ghost use Rattle.tc_base.specs.declared.moves.Move.{Move};
-ghost use Rattle.tc_code.specs.Code.{Code};
-ghost use Rattle.tc_code.specs.Run.{run, Reproduces};
+ghost use Rattle.store_buffers.specs.tc_base.States.{State};
+ghost use Rattle.store_buffers.specs.memory_models.declared.model.Model.{Model};
+ghost use Rattle.store_buffers.specs.tc_base.declared.moves.Move.{Move};
+ghost use Rattle.run_laws.specs.tc_code.Code.{Code};
+ghost use Rattle.run_laws.specs.tc_code.Run.{run, Reproduces};
 ghost use Rattle.store_buffers.specs.Laws.{Laws};
 ghost use Rattle.store_buffers.specs.Pending.{Binding};
-ghost use Rattle.run_log.specs.Logs.{Log};
+ghost use Rattle.run_laws.specs.run_log.Logs.{Log};
 ghost use Rattle.run_models.specs.Models.{AllowsMore, moves_as, drained_at_once, with_cells, SameButBuffers};
 
 /// A run under one memory model is also a run under every model that allows more, and the two final

@@ -1,23 +1,23 @@
 -- The moves of a lawful world are those of its plan, and they reproduce each log with its paths.
 use Rattle.std.proofs.Common.{◌≡◌, ◌∙◌, ◌++◌, true, List, sym, ap, subst}
-use Rattle.tc_base.specs.Buffers.{BufferOps}
-use Rattle.run_log.specs.Logs.{Log}
-use Rattle.memory_models.specs.declared.model.Model.{Model}
+use Rattle.store_buffers.specs.tc_base.Buffers.{BufferOps}
+use Rattle.tc_code.specs.run_log.Logs.{Log}
+use Rattle.store_buffers.specs.memory_models.declared.model.Model.{Model}
 use Rattle.tc_code.specs.Code.{Code}
 use Rattle.tc_code.specs.Run.{Reproduces}
 use Rattle.store_buffers.specs.Pending.{Binding}
-use Rattle.run_follows.specs.Follow.{moves_for}
-use Rattle.run_log.specs.Logs.{is_log}
+use Rattle.world_moves.specs.run_follows.Follow.{moves_for}
+use Rattle.tc_code.specs.run_log.Logs.{is_log}
 use Rattle.path_walk.specs.Fits.{Fits}
 use Rattle.path_walk.specs.Paths.{Paths, paths_of}
 use Rattle.sym_terms.specs.declared.node.Node.{Node}
 use Rattle.sym_exec.specs.Executed.{Symbolic, executed}
-use Rattle.sym_laws.specs.Valued.{found}
+use Rattle.world_moves.specs.sym_laws.Valued.{found}
 use Rattle.order_formula.specs.Worlds.{World}
-use Rattle.lawful_order.specs.Lawful.{IsLawful, IsWorldOf}
-use Rattle.world_plan.specs.Going.{IsLawfulWorld}
-use Rattle.world_plan.specs.Plan.{plan}
-use Rattle.path_laws.specs.Setting.{Setting, setting_of}
+use Rattle.lawful_terms.specs.lawful_order.Lawful.{IsLawful, IsWorldOf}
+use Rattle.world_moves.specs.world_plan.Going.{IsLawfulWorld}
+use Rattle.world_moves.specs.world_plan.Plan.{plan}
+use Rattle.world_moves.specs.path_laws.Setting.{Setting, setting_of}
 use Rattle.plan_runs.proofs.Laws.{given}
 use Rattle.plan_runs.proofs.Runs.{plan_reproduces}
 use Rattle.world_moves.specs.Moves.{moves_of}

@@ -6,34 +6,34 @@ use Rattle.std.specs.Prelude.{slice_get, option_map, option_and_then}
 use Rattle.std.specs.List.{Contains, last_or}
 use Rattle.std.specs.Option.{option_map_or}
 use Rattle.std.proofs.lemmas.Option.{same_Some, slice_get_within}
-use Rattle.tc_base.specs.Names.{Name}
-use Rattle.tc_base.specs.declared.moves.Move.{Move}
-use Rattle.tc_base.specs.declared.moves.Move.TheVariants as move
-use Rattle.tc_base.specs.declared.request.Request.{Request}
-use Rattle.tc_base.specs.declared.request.Request.TheVariants.{Silent, Read, Write, Exchange, CompareExchange, Bar, Acquire, Release, BeginWait}
-use Rattle.tc_base.specs.declared.request.Request.TheVariants.{EndWait, WakeOne, WakeAll, Start, Await, OrderStores, Finish, Fail}
+use Rattle.store_buffers.specs.tc_base.Names.{Name}
+use Rattle.store_buffers.specs.tc_base.declared.moves.Move.{Move}
+use Rattle.store_buffers.specs.tc_base.declared.moves.Move.TheVariants as move
+use Rattle.store_buffers.specs.tc_base.declared.request.Request.{Request}
+use Rattle.store_buffers.specs.tc_base.declared.request.Request.TheVariants.{Silent, Read, Write, Exchange, CompareExchange, Bar, Acquire, Release, BeginWait}
+use Rattle.store_buffers.specs.tc_base.declared.request.Request.TheVariants.{EndWait, WakeOne, WakeAll, Start, Await, OrderStores, Finish, Fail}
 use Rattle.store_buffers.specs.Pending.{Binding, form_of}
-use Rattle.run_history.specs.History.{Deed, Did, Drained}
-use Rattle.run_history.specs.Told.{steps_in, is_thread_in}
-use Rattle.run_follows.specs.Follow.{move_for, moves_for, taken_in}
+use Rattle.world_moves.specs.run_history.History.{Deed, Did, Drained}
+use Rattle.world_moves.specs.run_history.Told.{steps_in, is_thread_in}
+use Rattle.world_moves.specs.run_follows.Follow.{move_for, moves_for, taken_in}
 use Rattle.path_walk.specs.Paths.{Walk, Paths, paths_of}
 use Rattle.path_walk.specs.declared.event.Event.{Event}
 use Rattle.path_walk.specs.declared.event.EventKind.{EventKind}
 use Rattle.path_walk.specs.declared.event.EventKind.TheVariants as kind
-use Rattle.path_laws.specs.Setting.{Setting}
-use Rattle.path_laws.specs.Deeds.{kind_of}
-use Rattle.path_laws.specs.history.Along.{IsThread, PathThread, path_thread}
+use Rattle.world_moves.specs.path_laws.Setting.{Setting}
+use Rattle.world_moves.specs.path_laws.Deeds.{kind_of}
+use Rattle.world_moves.specs.path_laws.history.Along.{IsThread, PathThread, path_thread}
 use Rattle.sym_terms.specs.declared.node.Node.{Node}
 use Rattle.sym_exec.specs.Alone.{cell_by}
 use Rattle.sym_exec.specs.Executed.{Symbolic}
-use Rattle.sym_laws.specs.Valued.{found}
-use Rattle.sym_steps.specs.Next.{kind_at}
+use Rattle.world_moves.specs.sym_laws.Valued.{found}
+use Rattle.plan_runs.specs.sym_steps.Next.{kind_at}
 use Rattle.order_formula.specs.Worlds.{World, position}
-use Rattle.lawful_order.specs.Events.{Of, all_events, number_of, place_of}
-use Rattle.world_plan.specs.Going.{IsLawfulWorld, is_pending, place}
-use Rattle.world_plan.specs.Plan.{is_failure, woken_by, event_at, end_of, other_of, drains_next, goes_on, goes_to, with_drain, with_event, up_to}
-use Rattle.world_plan.proofs.Numbers.{number_is}
-use Rattle.world_plan.proofs.Places.{event_at_is}
+use Rattle.lawful_terms.specs.lawful_order.Events.{Of, all_events, number_of, place_of}
+use Rattle.world_moves.specs.world_plan.Going.{IsLawfulWorld, is_pending, place}
+use Rattle.world_moves.specs.world_plan.Plan.{is_failure, woken_by, event_at, end_of, other_of, drains_next, goes_on, goes_to, with_drain, with_event, up_to}
+use Rattle.world_moves.proofs.world_plan.Numbers.{number_is}
+use Rattle.world_moves.proofs.world_plan.Places.{event_at_is}
 use Rattle.plan_runs.proofs.Deeds.{steps_own, steps_drained, steps_other}
 use Rattle.plan_runs.proofs.Given.{Gone, Given, Here}
 use Rattle.plan_runs.proofs.Goes.{Reached, quiet_on, quiet_before, quiet_through, few_left, within, not_done, come, next_there, goes_last}

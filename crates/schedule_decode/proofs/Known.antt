@@ -6,33 +6,33 @@ use Rattle.std.specs.List.{Contains, enumerate_from}
 use Rattle.std.specs.Option.{IfSome}
 use Rattle.std.proofs.lemmas.Bool.{and_parts, eqb-true}
 use Rattle.std.proofs.lemmas.Option.{none-some, same_Some, slice_get_within}
-use Rattle.tc_base.specs.declared.request.Request.TheVariants.{Write}
+use Rattle.store_buffers.specs.tc_base.declared.request.Request.TheVariants.{Write}
 use Rattle.tc_code.specs.Code.{Code}
-use Rattle.run_history.specs.History.{Deed}
-use Rattle.run_history.specs.pending.Deeds.{IsIssuedIn}
-use Rattle.run_follows.proofs.of_deeds.Cells.{step_cell}
+use Rattle.world_moves.specs.run_history.History.{Deed}
+use Rattle.world_moves.specs.run_history.pending.Deeds.{IsIssuedIn}
+use Rattle.world_moves.proofs.run_follows.of_deeds.Cells.{step_cell}
 use Rattle.path_walk.specs.Paths.{Walk, Paths, paths_of}
 use Rattle.path_walk.specs.declared.event.Event.{Event}
 use Rattle.path_walk.specs.declared.event.EventKind.{EventKind}
 use Rattle.path_walk.specs.declared.event.EventKind.TheVariants as kind
-use Rattle.path_laws.specs.Setting.{Setting}
-use Rattle.path_laws.specs.history.Along.{IsThread, path_thread}
-use Rattle.path_laws.proofs.of_events.Lists.{in_contains}
+use Rattle.world_moves.specs.path_laws.Setting.{Setting}
+use Rattle.world_moves.specs.path_laws.history.Along.{IsThread, path_thread}
+use Rattle.world_moves.proofs.path_laws.of_events.Lists.{in_contains}
 use Rattle.sym_terms.specs.declared.node.Node.{Node}
 use Rattle.sym_exec.specs.Alone.{cell_by}
 use Rattle.sym_exec.specs.Executed.{Symbolic}
 use Rattle.sym_exec.specs.declared.symbolic.Cell.{Cell}
-use Rattle.sym_laws.specs.Valued.{found}
-use Rattle.sym_events.proofs.Terms.{have_terms}
+use Rattle.world_moves.specs.sym_laws.Valued.{found}
+use Rattle.plan_runs.proofs.sym_events.Terms.{have_terms}
 use Rattle.order_formula.specs.Worlds.{World, position}
-use Rattle.order_cells.specs.Terms.{CellIsOf}
-use Rattle.order_cells.proofs.Stay.{have_later}
-use Rattle.lawful_order.specs.Events.{Of, all_events}
-use Rattle.lawful_order.specs.Memory.{cell_of, is_store}
-use Rattle.world_plan.specs.Going.{IsLawfulWorld, is_pending, place}
-use Rattle.world_plan.specs.Plan.{up_to}
-use Rattle.world_plan.proofs.Numbers.{of_find}
-use Rattle.world_plan.proofs.Places.{event_at_is}
+use Rattle.world_moves.specs.order_cells.Terms.{CellIsOf}
+use Rattle.world_moves.proofs.order_cells.Stay.{have_later}
+use Rattle.lawful_terms.specs.lawful_order.Events.{Of, all_events}
+use Rattle.lawful_terms.specs.lawful_order.Memory.{cell_of, is_store}
+use Rattle.world_moves.specs.world_plan.Going.{IsLawfulWorld, is_pending, place}
+use Rattle.world_moves.specs.world_plan.Plan.{up_to}
+use Rattle.world_moves.proofs.world_plan.Numbers.{of_find}
+use Rattle.world_moves.proofs.world_plan.Places.{event_at_is}
 use Rattle.world_moves.specs.Moves.{event_here, last_place}
 use Rattle.plan_runs.proofs.of_memory.Issued.{event_issued}
 use Rattle.plan_runs.proofs.Given.{Gone, Given}

@@ -1,3 +1,6 @@
+pub use Rattle.world_moves.proofs.path_laws
+pub use Rattle.world_moves.proofs.run_history
+pub use Rattle.world_moves.proofs.sym_laws
 mod Finds
 mod Made
 mod Runs

@@ -5,23 +5,23 @@ use Rattle.std.specs.Prelude.{slice_get, max}
 use Rattle.std.specs.Option.{option_map_or}
 use Rattle.std.proofs.lemmas.Bool.{false≢true, eqb-true, eq-eqb}
 use Rattle.std.proofs.lemmas.Option.{same_Some, slice_get_within}
-use Rattle.run_log.specs.Logs.{Log}
-use Rattle.tc_base.specs.Names.{Name}
-use Rattle.tc_base.specs.declared.moves.Move.{Move}
-use Rattle.tc_base.specs.declared.request.Request.{Request}
+use Rattle.tc_code.specs.run_log.Logs.{Log}
+use Rattle.store_buffers.specs.tc_base.Names.{Name}
+use Rattle.store_buffers.specs.tc_base.declared.moves.Move.{Move}
+use Rattle.store_buffers.specs.tc_base.declared.request.Request.{Request}
 use Rattle.tc_code.specs.Code.{Code}
 use Rattle.store_buffers.specs.Pending.{Binding}
-use Rattle.run_history.specs.History.{Deed, Did}
-use Rattle.run_history.specs.Locals.{asks_next}
-use Rattle.run_history.specs.Told.{steps_in}
-use Rattle.run_history.proofs.Lists.{index_or-set}
-use Rattle.run_follows.specs.Follow.{moves_for, taken_in}
-use Rattle.run_log.specs.Logs.{is_log}
+use Rattle.world_moves.specs.run_history.History.{Deed, Did}
+use Rattle.world_moves.specs.run_history.Locals.{asks_next}
+use Rattle.world_moves.specs.run_history.Told.{steps_in}
+use Rattle.world_moves.proofs.run_history.Lists.{index_or-set}
+use Rattle.world_moves.specs.run_follows.Follow.{moves_for, taken_in}
+use Rattle.tc_code.specs.run_log.Logs.{is_log}
 use Rattle.path_walk.specs.Paths.{Walk, Paths, paths_of}
-use Rattle.path_laws.specs.history.Along.{IsThread}
+use Rattle.world_moves.specs.path_laws.history.Along.{IsThread}
 use Rattle.order_formula.specs.Worlds.{World}
-use Rattle.world_plan.specs.Plan.{other_of, does_next, goes_on}
-use Rattle.world_plan.proofs.Threads.{one_thread}
+use Rattle.world_moves.specs.world_plan.Plan.{other_of, does_next, goes_on}
+use Rattle.world_moves.proofs.world_plan.Threads.{one_thread}
 use Rattle.world_moves.specs.Moves.{Made, steps_of, with_moves}
 use Rattle.plan_runs.proofs.Deeds.{steps_other}
 

@@ -8,34 +8,34 @@ use Rattle.std.proofs.lemmas.Bool.{false≢true, not-true, eqb-true, eq-eqb, ne_
 use Rattle.std.proofs.lemmas.List.{append-nil, map-append, length-map}
 use Rattle.std.proofs.lemmas.List.Sums.{fold-append}
 use Rattle.std.proofs.lemmas.Option.{none-some, same_Some}
-use Rattle.tc_base.specs.Paths.{place_in}
-use Rattle.tc_base.specs.Names.{Name}
-use Rattle.tc_base.specs.declared.failing.Failing.{Failing}
-use Rattle.tc_base.specs.declared.failing.Failing.TheVariants as failing
-use Rattle.tc_base.specs.declared.moves.Move.{Move}
-use Rattle.tc_base.specs.declared.moves.Move.TheVariants as move
-use Rattle.run_history.specs.History.{Deed}
-use Rattle.run_history.specs.Told.{steps_in, is_thread_in}
-use Rattle.run_follows.specs.Follow.{move_for, moves_for, taken_in}
-use Rattle.run_log.specs.Logs.{is_there, rises_from}
+use Rattle.store_buffers.specs.tc_base.Paths.{place_in}
+use Rattle.store_buffers.specs.tc_base.Names.{Name}
+use Rattle.store_buffers.specs.tc_base.declared.failing.Failing.{Failing}
+use Rattle.store_buffers.specs.tc_base.declared.failing.Failing.TheVariants as failing
+use Rattle.store_buffers.specs.tc_base.declared.moves.Move.{Move}
+use Rattle.store_buffers.specs.tc_base.declared.moves.Move.TheVariants as move
+use Rattle.world_moves.specs.run_history.History.{Deed}
+use Rattle.world_moves.specs.run_history.Told.{steps_in, is_thread_in}
+use Rattle.world_moves.specs.run_follows.Follow.{move_for, moves_for, taken_in}
+use Rattle.tc_code.specs.run_log.Logs.{is_there, rises_from}
 use Rattle.path_walk.specs.Fits.{fails_in}
 use Rattle.path_walk.specs.Paths.{Walk, Paths, paths_of, walk_of}
 use Rattle.path_walk.specs.declared.event.Event.{Event}
 use Rattle.path_walk.specs.declared.event.EventKind.TheVariants as kind
-use Rattle.path_laws.specs.Setting.{Setting}
-use Rattle.path_laws.specs.history.Along.{AllAreThere, PathThread, path_thread}
+use Rattle.world_moves.specs.path_laws.Setting.{Setting}
+use Rattle.world_moves.specs.path_laws.history.Along.{AllAreThere, PathThread, path_thread}
 use Rattle.sym_exec.specs.Executed.{Symbolic, has_failed}
-use Rattle.sym_laws.specs.Valued.{found}
-use Rattle.sym_steps.specs.Next.{kind_at}
+use Rattle.world_moves.specs.sym_laws.Valued.{found}
+use Rattle.plan_runs.specs.sym_steps.Next.{kind_at}
 use Rattle.sym_terms.specs.declared.node.Node.{Node}
-use Rattle.order_events.proofs.Lists.{in_front, in_back, of_filter}
+use Rattle.world_moves.proofs.order_events.Lists.{in_front, in_back, of_filter}
 use Rattle.order_formula.specs.Worlds.{World}
-use Rattle.lawful_order.specs.Memory.{is_store}
-use Rattle.world_plan.specs.Going.{IsLawfulWorld}
-use Rattle.world_plan.specs.Plan as plan
-use Rattle.world_plan.specs.Plan.{is_failing, goes_on, goes_to, up_to}
-use Rattle.world_plan.proofs.Numbers.{of_find}
-use Rattle.world_plan.proofs.Threads.{fails_by_place, fail_is_last}
+use Rattle.lawful_terms.specs.lawful_order.Memory.{is_store}
+use Rattle.world_moves.specs.world_plan.Going.{IsLawfulWorld}
+use Rattle.world_moves.specs.world_plan.Plan as plan
+use Rattle.world_moves.specs.world_plan.Plan.{is_failing, goes_on, goes_to, up_to}
+use Rattle.world_moves.proofs.world_plan.Numbers.{of_find}
+use Rattle.world_moves.proofs.world_plan.Threads.{fails_by_place, fail_is_last}
 use Rattle.world_moves.specs.Moves as spec
 use Rattle.world_moves.specs.Moves.{Made, steps_of, runs_to, with_moves, with_passing, last_place, made_to}
 use Rattle.plan_runs.proofs.Deeds.{GoesOn, goes_nowhere, goes_further}

@@ -6,31 +6,31 @@ use Rattle.std.specs.Prelude.{◌==◌, option_map}
 use Rattle.std.specs.List.{find}
 use Rattle.std.proofs.lemmas.Bool.{false≢true, and_parts, eqb-true}
 use Rattle.std.proofs.lemmas.Option.{none-some, same_Some}
-use Rattle.tc_base.specs.Names.{Name}
-use Rattle.tc_base.specs.declared.moves.Move.TheVariants as move
-use Rattle.tc_base.specs.declared.request.Request.{Request}
-use Rattle.tc_base.specs.declared.request.Request.TheVariants.{WakeOne, Silent}
+use Rattle.store_buffers.specs.tc_base.Names.{Name}
+use Rattle.store_buffers.specs.tc_base.declared.moves.Move.TheVariants as move
+use Rattle.store_buffers.specs.tc_base.declared.request.Request.{Request}
+use Rattle.store_buffers.specs.tc_base.declared.request.Request.TheVariants.{WakeOne, Silent}
 use Rattle.store_buffers.specs.Pending.{Binding}
-use Rattle.run_history.specs.History.{Deed, Did}
-use Rattle.run_history.specs.Told.{steps_in, is_thread_in}
-use Rattle.run_follows.specs.Follow.{move_for, moves_for, taken_in}
+use Rattle.world_moves.specs.run_history.History.{Deed, Did}
+use Rattle.world_moves.specs.run_history.Told.{steps_in, is_thread_in}
+use Rattle.world_moves.specs.run_follows.Follow.{move_for, moves_for, taken_in}
 use Rattle.path_walk.specs.Paths.{Walk, Paths, paths_of}
 use Rattle.path_walk.specs.declared.event.Event.{Event}
 use Rattle.path_walk.specs.declared.event.EventKind.TheVariants as kind
-use Rattle.path_laws.specs.Setting.{Setting}
-use Rattle.path_laws.specs.Deeds.{kind_of}
+use Rattle.world_moves.specs.path_laws.Setting.{Setting}
+use Rattle.world_moves.specs.path_laws.Deeds.{kind_of}
 use Rattle.sym_terms.specs.declared.node.Node.{Node}
-use Rattle.sym_steps.specs.Next.{kind_at}
+use Rattle.plan_runs.specs.sym_steps.Next.{kind_at}
 use Rattle.order_formula.specs.Worlds.{World}
-use Rattle.lawful_order.specs.Memory.{is_store}
-use Rattle.world_plan.specs.Going.{IsLawfulWorld}
-use Rattle.world_plan.specs.Plan.{goes_on}
-use Rattle.world_plan.proofs.Numbers.{of_find}
+use Rattle.lawful_terms.specs.lawful_order.Memory.{is_store}
+use Rattle.world_moves.specs.world_plan.Going.{IsLawfulWorld}
+use Rattle.world_moves.specs.world_plan.Plan.{goes_on}
+use Rattle.world_moves.proofs.world_plan.Numbers.{of_find}
 use Rattle.plan_runs.proofs.Given.{Gone, Given}
 use Rattle.plan_runs.proofs.Next as next
 use Rattle.plan_runs.proofs.Next.{next_is}
 use Rattle.plan_runs.proofs.Steps.{QuietAt, quiet_goes, one_more}
-use Rattle.path_laws.specs.history.Along.{PathThread}
+use Rattle.world_moves.specs.path_laws.history.Along.{PathThread}
 
 -- a step other than a signal is a move of its own thread
 pub own_run : (bound : Binding) (n : Name) (k : ℕ) (r : Request) (took : ℤ) (other : Option Name)

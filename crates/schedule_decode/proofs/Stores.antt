@@ -1,21 +1,21 @@
 -- The stores in the plan of a lawful world, by the accesses of its paths.
 use Rattle.std.proofs.Common.{◌≡◌, ◌∙◌, ℕ, ℤ, List, ◌++◌, Some, sym, ap}
-use Rattle.run_history.specs.History.{Deed}
-use Rattle.run_history.specs.pending.Deeds.{IsIssuedIn}
+use Rattle.world_moves.specs.run_history.History.{Deed}
+use Rattle.world_moves.specs.run_history.pending.Deeds.{IsIssuedIn}
 use Rattle.path_walk.specs.Paths.{Walk, paths_of}
-use Rattle.path_laws.specs.Setting.{Setting}
-use Rattle.path_laws.specs.history.Along.{IsThread, path_thread}
+use Rattle.world_moves.specs.path_laws.Setting.{Setting}
+use Rattle.world_moves.specs.path_laws.history.Along.{IsThread, path_thread}
 use Rattle.sym_terms.specs.declared.node.Node.{Node}
 use Rattle.sym_exec.specs.Alone.{Asked, asked_in, cell_by}
 use Rattle.sym_exec.specs.Executed.{Symbolic}
 use Rattle.sym_exec.specs.declared.symbolic.Access.{Access}
-use Rattle.sym_laws.specs.Valued.{found}
-use Rattle.sym_events.proofs.Terms.{have_terms, have_tests}
+use Rattle.world_moves.specs.sym_laws.Valued.{found}
+use Rattle.plan_runs.proofs.sym_events.Terms.{have_terms, have_tests}
 use Rattle.order_formula.specs.Worlds.{World}
-use Rattle.lawful_order.specs.Memory.{cell_of}
-use Rattle.lawful_order.specs.Reads.{HasAccess}
+use Rattle.lawful_terms.specs.lawful_order.Memory.{cell_of}
+use Rattle.lawful_terms.specs.lawful_order.Reads.{HasAccess}
 use Rattle.lawful_terms.proofs.Same.{more_mean_same}
-use Rattle.world_plan.specs.Going.{IsLawfulWorld, HasGone}
+use Rattle.world_moves.specs.world_plan.Going.{IsLawfulWorld, HasGone}
 use Rattle.plan_runs.proofs.of_memory.Accesses.{written, issue_asks, access_of, cell_at_step}
 use Rattle.plan_runs.proofs.Histories.{valued_of}
 

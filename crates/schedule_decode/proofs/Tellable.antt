@@ -4,9 +4,9 @@ use Rattle.std.specs.Prelude.{slice_get}
 use Rattle.std.specs.List.{All}
 use Rattle.std.specs.Option.{IfSome}
 use Rattle.std.proofs.lemmas.Option.{slice_get_within, get_or_from_slice_get}
-use Rattle.tc_base.specs.Buffers.{BufferOps}
-use Rattle.tc_limits.specs.declared.limits.TheConstants.{CELLS, STEPS}
-use Rattle.memory_models.specs.declared.model.Model.{Model}
+use Rattle.store_buffers.specs.tc_base.Buffers.{BufferOps}
+use Rattle.schedule_file.specs.tc_limits.declared.limits.TheConstants.{CELLS, STEPS}
+use Rattle.store_buffers.specs.memory_models.declared.model.Model.{Model}
 use Rattle.tc_code.specs.Code.{Code}
 use Rattle.store_buffers.specs.Pending.{Binding}
 use Rattle.path_walk.specs.Paths.{Walk, Paths}
@@ -14,9 +14,9 @@ use Rattle.sym_terms.specs.declared.node.Node.{Node}
 use Rattle.sym_exec.specs.Executed.{Symbolic}
 use Rattle.sym_exec.specs.declared.symbolic.Cell.{Cell}
 use Rattle.order_formula.specs.Worlds.{World}
-use Rattle.lawful_order.specs.Memory.{cell_of}
+use Rattle.lawful_terms.specs.lawful_order.Memory.{cell_of}
 use Rattle.world_moves.specs.Needs.{IsNumbered, AreTellable}
-use Rattle.path_laws.specs.Setting.{Setting, setting_of}
+use Rattle.world_moves.specs.path_laws.Setting.{Setting, setting_of}
 use Rattle.plan_runs.proofs.Laws.{given}
 use Rattle.schedule_decode.specs.Decodable.{HaveRoom, IsDecodable}
 use Rattle.schedule_decode.proofs.Decoded.{of_found}

@@ -10,14 +10,14 @@ use Rattle.std.proofs.lemmas.List.FromFn.{length-range_with_len}
 use Rattle.std.proofs.lemmas.List.Folds.{list_all-append}
 use Rattle.std.proofs.lemmas.List.Sums.{sum_by-cons, count_by-le-length}
 use Rattle.std.proofs.lemmas.Option.{none-some, same_Some}
-use Rattle.tc_base.specs.Buffers.{BufferOps}
-use Rattle.tc_base.specs.Paths.{place_in}
-use Rattle.tc_base.specs.Names.{Name}
-use Rattle.tc_limits.specs.declared.limits.TheConstants.{CELLS, EVENTS, STEPS}
-use Rattle.memory_models.specs.declared.model.Model.{Model}
-use Rattle.memory_models.specs.declared.model.Model.TheVariants.{Sc, Tso, Pso}
-use Rattle.tc_base.specs.declared.moves.Move.{Move}
-use Rattle.tc_base.specs.declared.moves.Move.TheVariants as move
+use Rattle.store_buffers.specs.tc_base.Buffers.{BufferOps}
+use Rattle.store_buffers.specs.tc_base.Paths.{place_in}
+use Rattle.store_buffers.specs.tc_base.Names.{Name}
+use Rattle.schedule_file.specs.tc_limits.declared.limits.TheConstants.{CELLS, EVENTS, STEPS}
+use Rattle.store_buffers.specs.memory_models.declared.model.Model.{Model}
+use Rattle.store_buffers.specs.memory_models.declared.model.Model.TheVariants.{Sc, Tso, Pso}
+use Rattle.store_buffers.specs.tc_base.declared.moves.Move.{Move}
+use Rattle.store_buffers.specs.tc_base.declared.moves.Move.TheVariants as move
 use Rattle.tc_code.specs.Code.{Code}
 use Rattle.store_buffers.specs.Laws.{model_of}
 use Rattle.store_buffers.specs.Pending.{Binding, form_of}
@@ -32,9 +32,9 @@ use Rattle.sym_exec.specs.Alone.{cell_by}
 use Rattle.sym_exec.specs.Executed.{Symbolic}
 use Rattle.sym_exec.specs.declared.symbolic.Cell.{Cell}
 use Rattle.order_formula.specs.Worlds.{World, is_ended}
-use Rattle.lawful_order.specs.Events.{Of, all_events, all_sleeps}
-use Rattle.lawful_order.specs.Memory.{cell_of, is_store}
-use Rattle.world_plan.specs.Plan.{is_failing, woken_by}
+use Rattle.lawful_terms.specs.lawful_order.Events.{Of, all_events, all_sleeps}
+use Rattle.lawful_terms.specs.lawful_order.Memory.{cell_of, is_store}
+use Rattle.world_moves.specs.world_plan.Plan.{is_failing, woken_by}
 use Rattle.world_moves.specs.Moves.{Made, steps_of, runs_to, with_moves, with_rest, with_passing, own_move, drains_of, with_event, with_number, event_here}
 use Rattle.world_moves.specs.Moves.{last_place, made_to, made_passing, made, moves_of}
 use Rattle.schedule_decode.specs.Decodable.{HaveRoom, IsDecodable}

@@ -1,21 +1,21 @@
 -- The laws of a schedule, by the constants of a memory model.
 use Rattle.std.proofs.Common.{◌≡◌, ◌∙◌, Bool, true, List, sym, ap, subst}
-use Rattle.tc_base.specs.Buffers.{BufferOps}
-use Rattle.run_log.specs.Logs.{Log}
-use Rattle.memory_models.specs.declared.model.Model.{Model}
-use Rattle.tc_base.specs.declared.moves.Move.{Move}
+use Rattle.store_buffers.specs.tc_base.Buffers.{BufferOps}
+use Rattle.tc_code.specs.run_log.Logs.{Log}
+use Rattle.store_buffers.specs.memory_models.declared.model.Model.{Model}
+use Rattle.store_buffers.specs.tc_base.declared.moves.Move.{Move}
 use Rattle.tc_code.specs.Code.{Code}
 use Rattle.tc_code.specs.Run.{Reproduces}
 use Rattle.store_buffers.specs.Pending.{Binding}
 use Rattle.schedule_file.specs.Schedules.{HaveText}
-use Rattle.run_follows.specs.Follow.{moves_for}
-use Rattle.run_log.specs.Logs.{is_log}
+use Rattle.world_moves.specs.run_follows.Follow.{moves_for}
+use Rattle.tc_code.specs.run_log.Logs.{is_log}
 use Rattle.path_walk.specs.Fits.{Fits}
 use Rattle.path_walk.specs.Paths.{Paths, paths_of}
 use Rattle.sym_terms.specs.declared.node.Node.{Node}
 use Rattle.sym_exec.specs.Executed.{Symbolic}
 use Rattle.order_formula.specs.Worlds.{World}
-use Rattle.world_plan.specs.Plan.{plan}
+use Rattle.world_moves.specs.world_plan.Plan.{plan}
 use Rattle.world_moves.specs.Moves.{moves_of}
 use Rattle.world_moves.specs.Needs.{AreTellable}
 use Rattle.schedule_decode.specs.Decodable.{HaveRoom, IsDecodable}

@@ -1,23 +1,23 @@
 -- The worlds that have a schedule.
 use Rattle.std.specs.Prelude.{◌≡◌, ◌≤◌, true, List, ◌++◌, length, IsTrue}
 use Rattle.std.specs.List.{All}
-use Rattle.tc_base.specs.Buffers.{BufferOps}
-use Rattle.run_log.specs.Logs.{Log, is_log}
-use Rattle.tc_limits.specs.declared.limits.TheConstants.{THREADS, STEPS, EVENTS}
-use Rattle.memory_models.specs.declared.model.Model.{Model}
+use Rattle.store_buffers.specs.tc_base.Buffers.{BufferOps}
+use Rattle.tc_code.specs.run_log.Logs.{Log, is_log}
+use Rattle.schedule_file.specs.tc_limits.declared.limits.TheConstants.{THREADS, STEPS, EVENTS}
+use Rattle.store_buffers.specs.memory_models.declared.model.Model.{Model}
 use Rattle.tc_code.specs.Code.{Code}
 use Rattle.tc_code.specs.Lawful.{IsLawful}
 use Rattle.store_buffers.specs.Laws.{Laws}
 use Rattle.store_buffers.specs.Pending.{Binding}
 use Rattle.schedule_file.specs.Schedules.{is_name}
 use Rattle.path_walk.specs.Paths.{Paths, paths_of}
-use Rattle.path_laws.specs.Setting.{setting_of}
+use Rattle.world_moves.specs.path_laws.Setting.{setting_of}
 use Rattle.sym_terms.specs.declared.node.Node.{Node}
 use Rattle.sym_exec.specs.Executed.{Symbolic}
-use Rattle.sym_laws.specs.Valued.{found}
+use Rattle.world_moves.specs.sym_laws.Valued.{found}
 use Rattle.order_formula.specs.Worlds.{World}
-use Rattle.lawful_order.specs.Events.{all_events}
-use Rattle.world_plan.specs.Going.{IsLawfulWorld}
+use Rattle.lawful_terms.specs.lawful_order.Events.{all_events}
+use Rattle.world_moves.specs.world_plan.Going.{IsLawfulWorld}
 
 -- paths that fit into a schedule
 pub record HaveRoom (paths : Paths) : Type 0 where
@@ -27,7 +27,8 @@ pub record HaveRoom (paths : Paths) : Type 0 where
   pub events : length (all_events paths) ≤ EVENTS
 
 -- a lawful world of a log's paths; `symbolic` and the first of `nodes` come from their execution
-pub record IsDecodable {B : Type 0} (ops : BufferOps B) (model : Model) (bound : Binding) (code : Code) (paths : Paths) (symbolic : Symbolic)
+pub record IsDecodable {B : Type 0} (ops : BufferOps B) (model : Model) (bound : Binding)
+    (code : Code) (paths : Paths) (symbolic : Symbolic)
     (nodes : List Node) (w : World) : Type 0 where
   pub laws : Laws ops model bound
   pub code_is : IsLawful code

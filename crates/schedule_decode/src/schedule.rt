@@ -1,12 +1,12 @@
 //! The schedule of a lawful world.
 ghost use Rattle.std.specs.Prelude.{◌≡◌, true, IfOk};
-ghost use Rattle.run_log.specs.Logs.{Log};
+ghost use Rattle.tc_code.specs.run_log.Logs.{Log};
 ghost use Rattle.tc_code.specs.Run.{Reproduces};
-ghost use Rattle.run_log.specs.Logs.{is_log};
+ghost use Rattle.tc_code.specs.run_log.Logs.{is_log};
 ghost use Rattle.path_walk.specs.Fits.{Fits};
 ghost use Rattle.path_walk.specs.Paths.{paths_of};
-ghost use Rattle.run_follows.specs.Follow.{moves_for};
-ghost use Rattle.world_plan.specs.Plan.{plan};
+ghost use Rattle.world_moves.specs.run_follows.Follow.{moves_for};
+ghost use Rattle.world_moves.specs.world_plan.Plan.{plan};
 ghost use Rattle.schedule_decode.specs.Decodable.{HaveRoom, IsDecodable};
 
 use order_formula::World;

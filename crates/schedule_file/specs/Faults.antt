@@ -12,7 +12,8 @@ BeginsNoSchedule text = (model : Model) (after : List ℕ) → text ≡ header m
 
 -- the text doesn't begin with the line of a move of this model
 abbrev pub BeginsNoMove : Model → List ℕ → Type 0
-BeginsNoMove model text = (move : Move) (after : List ℕ) → IsTrue (is_move model move) → text ≡ line move ++ after → ⊥
+BeginsNoMove model text =
+    (move : Move) (after : List ℕ) → IsTrue (is_move model move) → text ≡ line move ++ after → ⊥
 
 -- the lines before this one are a schedule; this one is not the line of a move, or is one too many
 pub record EndsBefore (text : List ℕ) (number : ℕ) : Type 0 where

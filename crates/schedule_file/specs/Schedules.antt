@@ -17,9 +17,11 @@ header model = codes "clap-schedule 1 " ++ (model_name model ++ codes "\n")
 -- a move's line
 abbrev pub line : Move → List ℕ
 line (Run n) = codes "r " ++ (name_text n ++ codes "\n")
-line (Wake n waiter) = codes "w " ++ (name_text n ++ (codes " " ++ (name_text waiter ++ codes "\n")))
+line (Wake n waiter) =
+    codes "w " ++ (name_text n ++ (codes " " ++ (name_text waiter ++ codes "\n")))
 line (Drain n None) = codes "d " ++ (name_text n ++ codes "\n")
-line (Drain n (Some cell)) = codes "d " ++ (name_text n ++ (codes " " ++ (decimal cell ++ codes "\n")))
+line (Drain n (Some cell)) =
+    codes "d " ++ (name_text n ++ (codes " " ++ (decimal cell ++ codes "\n")))
 
 -- the header, and a line for each move
 abbrev pub schedule_text : Model → List Move → List ℕ

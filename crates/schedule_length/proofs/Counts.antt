@@ -4,7 +4,7 @@ use Rattle.std.proofs.Common.{Option, Some, None, refl, ap, arith}
 use Rattle.std.specs.Prelude.{is_some, slice_get}
 use Rattle.std.specs.List.{count_by, sum_by, filter_map, cons_option}
 use Rattle.std.proofs.lemmas.List.Sums.{sum_by-cons, sum_by-append, sum_by-le-sum_by}
-use Rattle.run_history.proofs.of_pending.In.{In}
+use Rattle.path_laws.proofs.run_history.of_pending.In.{In}
 
 -- 1 if a test passes, else 0
 abbrev pub tally : Bool → ℕ

@@ -6,16 +6,16 @@ use Rattle.std.specs.List.{count_by, filter_map}
 use Rattle.std.proofs.Math.Bool.{or-true}
 use Rattle.std.proofs.lemmas.Bool.{false≢true, and_parts, eq-eqb}
 use Rattle.std.proofs.lemmas.List.Folds.{list_any-append}
-use Rattle.tc_base.specs.Names.{Name}
-use Rattle.tc_base.specs.declared.request.Request.{Request}
-use Rattle.tc_base.specs.declared.request.Request.TheVariants.{Silent, Write, WakeOne}
-use Rattle.tc_code.specs.Code.{Code}
-use Rattle.store_buffers.specs.Pending.{Binding}
-use Rattle.run_laws.proofs.Names.{same_self, same_other, same_or_apart}
-use Rattle.run_history.specs.History.{Deed, Did, Drained, same, drains, has_drained}
-use Rattle.run_history.specs.pending.Deeds.{IsIssuedIn}
-use Rattle.run_history.proofs.Lists.{count-push}
-use Rattle.run_follows.specs.Follow.{AllFollow}
+use Rattle.path_log.specs.tc_base.Names.{Name}
+use Rattle.path_log.specs.tc_base.declared.request.Request.{Request}
+use Rattle.path_log.specs.tc_base.declared.request.Request.TheVariants.{Silent, Write, WakeOne}
+use Rattle.path_laws.specs.tc_code.Code.{Code}
+use Rattle.path_laws.specs.store_buffers.Pending.{Binding}
+use Rattle.path_laws.proofs.run_laws.Names.{same_self, same_other, same_or_apart}
+use Rattle.path_laws.specs.run_history.History.{Deed, Did, Drained, same, drains, has_drained}
+use Rattle.path_laws.specs.run_history.pending.Deeds.{IsIssuedIn}
+use Rattle.path_laws.proofs.run_history.Lists.{count-push}
+use Rattle.path_laws.specs.run_follows.Follow.{AllFollow}
 use Rattle.path_laws.specs.Deeds.{event_by}
 use Rattle.schedule_length.proofs.Counts.{tally, one_passes, count-more, count-one_more, count-given}
 

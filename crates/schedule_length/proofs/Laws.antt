@@ -5,20 +5,20 @@ use Rattle.std.specs.List.{All, list_all}
 use Rattle.std.proofs.lemmas.Bool.{and_parts, ltb-true}
 use Rattle.std.proofs.lemmas.List.Elements.{All-weaker}
 use Rattle.std.proofs.lemmas.List.Sums.{AllPass-from_list_all, sum-map}
-use Rattle.tc_base.specs.Buffers.{BufferOps}
-use Rattle.run_log.specs.Logs.{Log}
-use Rattle.tc_base.specs.Paths.{ThreadPath}
-use Rattle.tc_limits.specs.declared.limits.TheConstants.{SCHEDULE_BYTES, STEPS, EVENTS}
-use Rattle.memory_models.specs.declared.model.Model.{Model}
-use Rattle.tc_base.specs.declared.moves.Move.{Move}
-use Rattle.tc_code.specs.Code.{Code}
-use Rattle.tc_code.specs.Lawful.{IsLawful}
-use Rattle.tc_code.specs.Run.{Reproduces}
-use Rattle.store_buffers.specs.Laws.{Laws}
-use Rattle.store_buffers.specs.Pending.{Binding}
-use Rattle.run_follows.specs.Machine.{Machine}
+use Rattle.path_log.specs.tc_base.Buffers.{BufferOps}
+use Rattle.path_log.specs.run_log.Logs.{Log}
+use Rattle.path_log.specs.tc_base.Paths.{ThreadPath}
+use Rattle.schedule_file.specs.tc_limits.declared.limits.TheConstants.{SCHEDULE_BYTES, STEPS, EVENTS}
+use Rattle.path_log.specs.memory_models.declared.model.Model.{Model}
+use Rattle.path_log.specs.tc_base.declared.moves.Move.{Move}
+use Rattle.path_laws.specs.tc_code.Code.{Code}
+use Rattle.path_laws.specs.tc_code.Lawful.{IsLawful}
+use Rattle.path_laws.specs.tc_code.Run.{Reproduces}
+use Rattle.path_laws.specs.store_buffers.Laws.{Laws}
+use Rattle.path_laws.specs.store_buffers.Pending.{Binding}
+use Rattle.path_laws.specs.run_follows.Machine.{Machine}
 use Rattle.path_log.specs.Texts.{is_of_format, is_thread, is_within}
-use Rattle.path_walk.specs.Paths.{walk_of}
+use Rattle.path_laws.specs.path_walk.Paths.{walk_of}
 use Rattle.schedule_file.specs.Schedules.{HaveText, schedule_text}
 use Rattle.schedule_length.specs.Lengths.{IsSmall, most_bytes}
 use Rattle.schedule_length.proofs.Lines.{text_length}

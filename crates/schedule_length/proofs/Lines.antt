@@ -7,12 +7,12 @@ use Rattle.std.specs.List.{flat_map, list_all, count_by}
 use Rattle.std.proofs.lemmas.Bool.{false≢true, and_parts, leb-true, ltb-true}
 use Rattle.std.proofs.lemmas.Fmt.{length-decimal-le}
 use Rattle.std.proofs.lemmas.List.Sums.{sum_by-cons}
-use Rattle.tc_base.specs.Names.{Name, name_text}
-use Rattle.tc_limits.specs.declared.limits.TheConstants.{CELLS, DEPTH}
-use Rattle.memory_models.specs.declared.model.Model.{Model}
-use Rattle.memory_models.specs.declared.model.Model.TheVariants.{Sc, Tso, Pso}
-use Rattle.tc_base.specs.declared.moves.Move.{Move}
-use Rattle.tc_base.specs.declared.moves.Move.TheVariants.{Run, Wake, Drain}
+use Rattle.path_log.specs.tc_base.Names.{Name, name_text}
+use Rattle.schedule_file.specs.tc_limits.declared.limits.TheConstants.{CELLS, DEPTH}
+use Rattle.path_log.specs.memory_models.declared.model.Model.{Model}
+use Rattle.path_log.specs.memory_models.declared.model.Model.TheVariants.{Sc, Tso, Pso}
+use Rattle.path_log.specs.tc_base.declared.moves.Move.{Move}
+use Rattle.path_log.specs.tc_base.declared.moves.Move.TheVariants.{Run, Wake, Drain}
 use Rattle.schedule_file.specs.Schedules.{header, line, schedule_text, is_child, is_name, is_move}
 use Rattle.schedule_length.specs.Lengths.{header_bytes, name_bytes, run_bytes, line_bytes}
 

@@ -3,16 +3,16 @@ use Rattle.std.proofs.Common.{◌≡◌, ◌∙◌, ◌+◌, ◌≤◌, Bool, tr
 use Rattle.std.specs.List.{count_by}
 use Rattle.std.specs.Option.{option_map_or}
 use Rattle.std.proofs.lemmas.Option.{option_and_then_some}
-use Rattle.tc_base.specs.Buffers.{BufferOps}
-use Rattle.tc_base.specs.States.{Thread, State}
-use Rattle.tc_base.specs.declared.moves.Move.{Move}
-use Rattle.tc_base.specs.declared.moves.Move.TheVariants.{Run, Wake, Drain}
-use Rattle.tc_base.specs.declared.request.Request.TheVariants.{WakeOne}
-use Rattle.tc_code.specs.Code.{Code}
-use Rattle.tc_code.specs.Run.{run_from, run}
-use Rattle.tc_code.specs.Step.{request, step, opening}
-use Rattle.run_laws.proofs.Steps.{Went, step_went}
-use Rattle.run_history.specs.History.{Deed, Did, Drained, did, woke, drained, by_instr, deed_of, history_from, history}
+use Rattle.path_log.specs.tc_base.Buffers.{BufferOps}
+use Rattle.path_log.specs.tc_base.States.{Thread, State}
+use Rattle.path_log.specs.tc_base.declared.moves.Move.{Move}
+use Rattle.path_log.specs.tc_base.declared.moves.Move.TheVariants.{Run, Wake, Drain}
+use Rattle.path_log.specs.tc_base.declared.request.Request.TheVariants.{WakeOne}
+use Rattle.path_laws.specs.tc_code.Code.{Code}
+use Rattle.path_laws.specs.tc_code.Run.{run_from, run}
+use Rattle.path_laws.specs.tc_code.Step.{request, step, opening}
+use Rattle.path_laws.proofs.run_laws.Steps.{Went, step_went}
+use Rattle.path_laws.specs.run_history.History.{Deed, Did, Drained, did, woke, drained, by_instr, deed_of, history_from, history}
 use Rattle.schedule_length.proofs.Counts.{tally, count-cons, count-append}
 use Rattle.schedule_length.proofs.Lines.{is_run, is_seldom}
 

@@ -9,23 +9,23 @@ use Rattle.std.proofs.lemmas.Bool.{false≢true}
 use Rattle.std.proofs.lemmas.List.{length-map}
 use Rattle.std.proofs.lemmas.List.Sums.{count_by-le-length, length-filter}
 use Rattle.std.proofs.lemmas.Option.{none-some, same_Some}
-use Rattle.run_log.specs.Logs.{Log}
-use Rattle.tc_base.specs.Paths.{Path, ThreadPath, path_under}
-use Rattle.tc_base.specs.Names.{Name}
-use Rattle.tc_base.specs.States.{Thread}
-use Rattle.tc_limits.specs.declared.limits.TheConstants.{STEPS}
-use Rattle.tc_base.specs.declared.moves.Move.{Move}
-use Rattle.tc_base.specs.declared.request.Request.{Request}
-use Rattle.tc_base.specs.declared.request.Request.TheVariants.{Silent, Write, WakeOne}
-use Rattle.tc_code.specs.Run.{Reproduces, path_of}
-use Rattle.run_laws.proofs.Names.{same_self}
-use Rattle.run_history.specs.History.{Deed, Did, Drained, history}
-use Rattle.run_history.specs.Told.{is_step_of, steps_in}
-use Rattle.run_history.proofs.of_pending.In.{In, all_in, in_at, in_left, in_split}
-use Rattle.run_follows.specs.Machine.{Machine}
-use Rattle.run_follows.proofs.Follows.{AllTold, all_told}
-use Rattle.path_walk.specs.Paths.{walk_of}
-use Rattle.path_walk.specs.declared.event.Event.{Event}
+use Rattle.path_log.specs.run_log.Logs.{Log}
+use Rattle.path_log.specs.tc_base.Paths.{Path, ThreadPath, path_under}
+use Rattle.path_log.specs.tc_base.Names.{Name}
+use Rattle.path_log.specs.tc_base.States.{Thread}
+use Rattle.schedule_file.specs.tc_limits.declared.limits.TheConstants.{STEPS}
+use Rattle.path_log.specs.tc_base.declared.moves.Move.{Move}
+use Rattle.path_log.specs.tc_base.declared.request.Request.{Request}
+use Rattle.path_log.specs.tc_base.declared.request.Request.TheVariants.{Silent, Write, WakeOne}
+use Rattle.path_laws.specs.tc_code.Run.{Reproduces, path_of}
+use Rattle.path_laws.proofs.run_laws.Names.{same_self}
+use Rattle.path_laws.specs.run_history.History.{Deed, Did, Drained, history}
+use Rattle.path_laws.specs.run_history.Told.{is_step_of, steps_in}
+use Rattle.path_laws.proofs.run_history.of_pending.In.{In, all_in, in_at, in_left, in_split}
+use Rattle.path_laws.specs.run_follows.Machine.{Machine}
+use Rattle.path_laws.proofs.run_follows.Follows.{AllTold, all_told}
+use Rattle.path_laws.specs.path_walk.Paths.{walk_of}
+use Rattle.path_laws.specs.path_walk.declared.event.Event.{Event}
 use Rattle.path_laws.specs.Deeds.{done_as, events_before}
 use Rattle.path_laws.proofs.Deeds.{deeds_are_events}
 use Rattle.path_laws.proofs.Logs.{place_of, reproduced_fits}

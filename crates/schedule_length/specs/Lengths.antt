@@ -1,11 +1,11 @@
 -- A bound on the text of a schedule that reproduces a log.
 use Rattle.std.specs.Prelude.{◌≡◌, ℕ, ◌+◌, ◌*◌, ◌≤◌, true, length}
 use Rattle.std.specs.List.{All}
-use Rattle.run_log.specs.Logs.{Log}
-use Rattle.tc_limits.specs.declared.limits.TheConstants.{THREADS, DEPTH, STEPS, EVENTS}
-use Rattle.tc_code.specs.Code.{Code}
-use Rattle.run_log.specs.Logs.{is_log}
-use Rattle.path_walk.specs.Paths.{paths_of}
+use Rattle.path_log.specs.run_log.Logs.{Log}
+use Rattle.schedule_file.specs.tc_limits.declared.limits.TheConstants.{THREADS, DEPTH, STEPS, EVENTS}
+use Rattle.path_laws.specs.tc_code.Code.{Code}
+use Rattle.path_log.specs.run_log.Logs.{is_log}
+use Rattle.path_laws.specs.path_walk.Paths.{paths_of}
 
 -- the first line: `clap-schedule 1`, a space, a model of at most three letters, and the line's end
 abbrev pub header_bytes : ℕ

@@ -3,14 +3,14 @@
 #![tactic(auto)]
 
 ghost use Rattle.std.specs.Prelude.{◌≤◌, List, length};
-ghost use Rattle.run_log.specs.Logs.{Log};
-ghost use Rattle.tc_limits.specs.declared.limits.TheConstants.{SCHEDULE_BYTES};
-ghost use Rattle.memory_models.specs.declared.model.Model.{Model};
-ghost use Rattle.tc_base.specs.declared.moves.Move.{Move};
-ghost use Rattle.tc_code.specs.Run.{Reproduces};
+ghost use Rattle.path_log.specs.run_log.Logs.{Log};
+ghost use Rattle.schedule_file.specs.tc_limits.declared.limits.TheConstants.{SCHEDULE_BYTES};
+ghost use Rattle.path_log.specs.memory_models.declared.model.Model.{Model};
+ghost use Rattle.path_log.specs.tc_base.declared.moves.Move.{Move};
+ghost use Rattle.path_laws.specs.tc_code.Run.{Reproduces};
 ghost use Rattle.schedule_file.specs.Schedules.{HaveText, schedule_text};
 ghost use Rattle.schedule_length.specs.Lengths.{IsSmall, most_bytes};
-ghost use Rattle.run_follows.specs.Machine.{Machine};
+ghost use Rattle.path_laws.specs.run_follows.Machine.{Machine};
 
 /// The text of a schedule that reproduces a log within the limits has at most `most_bytes` bytes,
 /// and a schedule may have that many.

@@ -14,7 +14,7 @@ use Rattle.std.proofs.lemmas.Cmp.{nat_list_cmp_total}
 use Rattle.std.proofs.lemmas.List.{drop_more, drop_all, length-map}
 use Rattle.std.proofs.lemmas.Option.{none-some, same_Some}
 use Rattle.std.proofs.lemmas.Map.Text.{is_eq-slice_cmp}
-use Rattle.list_laws.proofs.Bools.{first_T, second_T}
+use Rattle.store_buffers.proofs.list_laws.Bools.{first_T, second_T}
 use Rattle.tc_base.specs.Names.{Name, by_name}
 use Rattle.tc_base.proofs.Names.{same_name, itself, between, turned, less_true, equal_of}
 use Rattle.run_log.proofs.Rising.{rises_behind, none_below, under_first}

@@ -21,7 +21,7 @@ use Rattle.tc_code.specs.Code.{Code}
 use Rattle.tc_code.specs.Step.{step, opening}
 use Rattle.tc_code.specs.Run.{run, run_from, IsStuck, EndsAs}
 use Rattle.tc_code.proofs.Facts.{run_from-append, failed_as_logged}
-use Rattle.run_laws.proofs.Basics.{none_unless}
+use Rattle.tc_machine.proofs.run_laws.Basics.{none_unless}
 use Rattle.tc_machine.specs.Why.{why}
 use Rattle.tc_machine.specs.declared.why.Why.{Why}
 use Rattle.tc_machine.proofs.Reasons.{no_reason_where_enabled}

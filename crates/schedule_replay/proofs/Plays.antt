@@ -10,8 +10,8 @@ use Rattle.tc_code.specs.Run.{run, Reproduces}
 use Rattle.tc_code.proofs.Facts.{run_from-step}
 use Rattle.tc_machine.specs.Why.{why}
 use Rattle.tc_machine.specs.declared.why.Why.{Why}
-use Rattle.run_laws.specs.Counters.{CountersAreBelowLast}
-use Rattle.run_laws.proofs.Counts.{counters_below_last}
+use Rattle.tc_machine.specs.run_laws.Counters.{CountersAreBelowLast}
+use Rattle.tc_machine.proofs.run_laws.Counts.{counters_below_last}
 use Rattle.run_log.specs.Logs.{Log}
 use Rattle.schedule_file.specs.Schedules.{most_lines}
 use Rattle.schedule_replay.specs.Verdicts.{StopsAt, IsVerdictAt, IsVerdict}

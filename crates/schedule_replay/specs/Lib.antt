@@ -1,2 +1,3 @@
+pub use Rattle.tc_machine.specs as tc_machine
 pub mod Verdicts
 pub mod helpers

@@ -36,7 +36,8 @@ module _ {B : Type 0} (ops : BufferOps B) (code : Code) where
   IsVerdictAt s log verdict.NoFailure = IsSome (place_in log.failing) × (s.failed ≡ None)
   IsVerdictAt s log (verdict.OtherFailure n) = (s.failed ≡ Some n) × ¬ (failing_of log ≡ Some n)
   IsVerdictAt s log verdict.NotStuck = (log.failing ≡ Deadlock) × (s.failed ≡ None) × GoesOn s
-  IsVerdictAt s log (verdict.OtherPath n) = EndsAs ops code log.failing log.threads s × IsFirstToDiffer s log n
+  IsVerdictAt s log (verdict.OtherPath n) =
+      EndsAs ops code log.failing log.threads s × IsFirstToDiffer s log n
   IsVerdictAt s log _ = ⊥
 
   -- the first move that isn't enabled has this number, from 1, and this reason

@@ -6,20 +6,20 @@ use Rattle.std.specs.FinMap as fin
 use Rattle.std.proofs.lemmas.Bool.{and_parts, eqb-true, false_from_ne_true}
 use Rattle.std.proofs.lemmas.List.{length-append, length-map, map-append}
 use Rattle.std.proofs.lemmas.Option.{none-some, same_Some}
-use Rattle.tc_base.specs.Names.{Name}
-use Rattle.tc_base.specs.States.{Thread, State}
-use Rattle.tc_base.specs.declared.moves.Move.{Move}
-use Rattle.tc_code.specs.Run.{run}
-use Rattle.run_history.specs.History.{Deed, Did, Drained, history}
-use Rattle.run_history.specs.Told.{steps_in, failed_in}
-use Rattle.run_history.proofs.Grows.{one_deed_a_move}
-use Rattle.run_follows.proofs.Plays.{follows_is_run}
-use Rattle.run_follows.proofs.Stuck.{stuck_is_told}
-use Rattle.run_follows.specs.Machine.{Machine}
-use Rattle.run_follows.specs.Follow.{IsStuckIn, AllFollow, move_for, moves_for}
-use Rattle.run_follows.specs.Logged.{path_by}
-use Rattle.run_follows.proofs.Enabled.{Tells, told}
-use Rattle.run_follows.proofs.Follows.{all_follow}
+use Rattle.pure_turns.specs.tc_base.Names.{Name}
+use Rattle.pure_turns.specs.tc_base.States.{Thread, State}
+use Rattle.pure_turns.specs.tc_base.declared.moves.Move.{Move}
+use Rattle.pure_turns.specs.tc_code.Run.{run}
+use Rattle.least_runs.specs.run_history.History.{Deed, Did, Drained, history}
+use Rattle.least_runs.specs.run_history.Told.{steps_in, failed_in}
+use Rattle.least_runs.proofs.run_history.Grows.{one_deed_a_move}
+use Rattle.least_runs.proofs.run_follows.Plays.{follows_is_run}
+use Rattle.least_runs.proofs.run_follows.Stuck.{stuck_is_told}
+use Rattle.least_runs.specs.run_follows.Machine.{Machine}
+use Rattle.least_runs.specs.run_follows.Follow.{IsStuckIn, AllFollow, move_for, moves_for}
+use Rattle.least_runs.specs.run_follows.Logged.{path_by}
+use Rattle.least_runs.proofs.run_follows.Enabled.{Tells, told}
+use Rattle.least_runs.proofs.run_follows.Follows.{all_follow}
 use Rattle.least_runs.specs.Unused.{is_unused, comes_out}
 use Rattle.least_runs.specs.Least.{IsPart}
 use Rattle.least_runs.proofs.Reached.{reaches}
@@ -31,7 +31,7 @@ use Rattle.pure_turns.specs.Live.{Liveness, IsClosed}
 use Rattle.pure_turns.specs.Turn.{HasOutcomesUpTo as HasInState, IsSameBut, without_steps_of}
 use Rattle.pure_turns.proofs.Out.{comes_out as turn_comes_out, stays_stuck}
 use Rattle.pure_turns.proofs.Needs.{up_to_same}
-use Rattle.run_follows.proofs.of_deeds.Follow.{first_follow}
+use Rattle.least_runs.proofs.run_follows.of_deeds.Follow.{first_follow}
 use Rattle.short_runs.specs.Turns.{IsPureTurnIn, HasNoPureTurnIn}
 use Rattle.short_runs.proofs.Turns.{turn_of_moves}
 use Rattle.short_runs.specs.Short.{HasOutcomesUpTo, IsShort}

@@ -7,25 +7,25 @@ use Rattle.std.specs.Ordering.{int_eq}
 use Rattle.std.specs.FinMap as fin
 use Rattle.std.proofs.lemmas.List.{map-append}
 use Rattle.std.proofs.lemmas.Option.{same_Some}
-use Rattle.tc_base.specs.Names.{Name}
-use Rattle.tc_base.specs.States.{Thread, State}
-use Rattle.tc_base.specs.declared.moves.Move.{Move}
-use Rattle.tc_base.specs.declared.request.Request.{Request}
-use Rattle.tc_base.specs.declared.request.Request.TheVariants.{Silent, Exchange, CompareExchange, WakeOne}
-use Rattle.tc_code.specs.declared.instr.Instr.{Instr}
-use Rattle.tc_code.specs.Run.{run, run_from}
-use Rattle.tc_code.specs.Step.{request, instr_of, replaced, opening}
-use Rattle.tc_code.proofs.Facts.{run_from-append}
-use Rattle.store_buffers.specs.Pending.{Binding}
-use Rattle.run_laws.proofs.Asks.{AsksOf, next_asks_within}
-use Rattle.run_laws.proofs.Names.{is_same}
-use Rattle.run_history.specs.History.{Deed, Did, Drained}
-use Rattle.run_history.specs.Told.{is_step_of}
-use Rattle.run_follows.specs.Machine.{Machine}
-use Rattle.run_follows.specs.Follow.{AllFollow, IsNextStep, taken_in, move_for, moves_for}
-use Rattle.run_follows.proofs.Enabled.{Tells}
-use Rattle.run_follows.proofs.Plays.{asker}
-use Rattle.run_follows.proofs.of_deeds.Follow.{first_follow}
+use Rattle.pure_turns.specs.tc_base.Names.{Name}
+use Rattle.pure_turns.specs.tc_base.States.{Thread, State}
+use Rattle.pure_turns.specs.tc_base.declared.moves.Move.{Move}
+use Rattle.pure_turns.specs.tc_base.declared.request.Request.{Request}
+use Rattle.pure_turns.specs.tc_base.declared.request.Request.TheVariants.{Silent, Exchange, CompareExchange, WakeOne}
+use Rattle.pure_turns.specs.tc_code.declared.instr.Instr.{Instr}
+use Rattle.pure_turns.specs.tc_code.Run.{run, run_from}
+use Rattle.pure_turns.specs.tc_code.Step.{request, instr_of, replaced, opening}
+use Rattle.pure_turns.proofs.tc_code.Facts.{run_from-append}
+use Rattle.least_runs.specs.store_buffers.Pending.{Binding}
+use Rattle.pure_turns.proofs.run_laws.Asks.{AsksOf, next_asks_within}
+use Rattle.pure_turns.proofs.run_laws.Names.{is_same}
+use Rattle.least_runs.specs.run_history.History.{Deed, Did, Drained}
+use Rattle.least_runs.specs.run_history.Told.{is_step_of}
+use Rattle.least_runs.specs.run_follows.Machine.{Machine}
+use Rattle.least_runs.specs.run_follows.Follow.{AllFollow, IsNextStep, taken_in, move_for, moves_for}
+use Rattle.least_runs.proofs.run_follows.Enabled.{Tells}
+use Rattle.least_runs.proofs.run_follows.Plays.{asker}
+use Rattle.least_runs.proofs.run_follows.of_deeds.Follow.{first_follow}
 use Rattle.least_runs.proofs.Reached.{Reaches, reaches, has}
 use Rattle.pure_turns.specs.Live.{Liveness, AgreeWhereLive}
 use Rattle.pure_turns.specs.Turn.{is_pure, asks, IsPureTurn, StepsArePure}

@@ -3,15 +3,15 @@ use Rattle.std.specs.Prelude.{◌≡◌, ℕ, ℤ, Bool, true, false, not, Optio
 use Rattle.std.specs.List.{list_any}
 use Rattle.std.specs.Ordering.{int_eq}
 use Rattle.std.specs.FinMap as fin
-use Rattle.tc_base.specs.Names.{Name}
-use Rattle.tc_base.specs.States.{Local}
-use Rattle.tc_base.specs.declared.request.Request.{Request}
-use Rattle.tc_base.specs.declared.request.Request.TheVariants.{Silent, Read, Exchange, CompareExchange, Acquire, Release, OrderStores}
-use Rattle.tc_code.specs.Code.{Code}
-use Rattle.tc_code.specs.Step.{replaced}
-use Rattle.run_history.specs.History.{Deed, Did}
-use Rattle.run_history.specs.Locals.{locals_in}
-use Rattle.run_history.specs.Told.{is_step_of}
+use Rattle.pure_turns.specs.tc_base.Names.{Name}
+use Rattle.pure_turns.specs.tc_base.States.{Local}
+use Rattle.pure_turns.specs.tc_base.declared.request.Request.{Request}
+use Rattle.pure_turns.specs.tc_base.declared.request.Request.TheVariants.{Silent, Read, Exchange, CompareExchange, Acquire, Release, OrderStores}
+use Rattle.pure_turns.specs.tc_code.Code.{Code}
+use Rattle.pure_turns.specs.tc_code.Step.{replaced}
+use Rattle.least_runs.specs.run_history.History.{Deed, Did}
+use Rattle.least_runs.specs.run_history.Locals.{locals_in}
+use Rattle.least_runs.specs.run_history.Told.{is_step_of}
 use Rattle.pure_turns.specs.Live.{Liveness, AgreeWhereLive}
 
 -- whether a step that read this value changes nothing that other threads can use; held is what its
@@ -28,7 +28,8 @@ is_pure_step held _ took = false
 
 -- these deeds after older ones are a pure turn of a thread: it does some steps, all of them pure,
 -- comes back to its place with the same value in each slot that is live there, and holds the same
-pub record IsPureTurnIn (code : Code) (live : Liveness) (n : Name) (older turn : List Deed) : Type 0 where
+pub record IsPureTurnIn (code : Code) (live : Liveness) (n : Name)
+    (older turn : List Deed) : Type 0 where
   pub steps : list_any (is_step_of n) turn ≡ true
   pub first : Local
   pub last : Local

@@ -5,11 +5,11 @@
 #![tactic(auto)]
 
 ghost use Rattle.std.specs.Prelude.{◌≡◌, ℕ, List, Some};
-ghost use Rattle.tc_base.specs.Names.{Name};
-ghost use Rattle.run_history.specs.History.{Deed};
-ghost use Rattle.run_history.specs.Told.{failed_in};
-ghost use Rattle.run_follows.specs.Machine.{Machine};
-ghost use Rattle.run_follows.specs.Follow.{AllFollow, IsStuckIn};
+ghost use Rattle.pure_turns.specs.tc_base.Names.{Name};
+ghost use Rattle.least_runs.specs.run_history.History.{Deed};
+ghost use Rattle.least_runs.specs.run_history.Told.{failed_in};
+ghost use Rattle.least_runs.specs.run_follows.Machine.{Machine};
+ghost use Rattle.least_runs.specs.run_follows.Follow.{AllFollow, IsStuckIn};
 ghost use Rattle.pure_turns.specs.Live.{Liveness, IsClosed};
 ghost use Rattle.short_runs.specs.Short.{HasOutcomesUpTo, IsShort};
 ghost use Rattle.short_runs.specs.Turns.{HasNoPureTurnIn};

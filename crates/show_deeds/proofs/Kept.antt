@@ -14,7 +14,7 @@ use Rattle.std.proofs.lemmas.Slice.Eq.{bytes_eq-Decides}
 use Rattle.tc_base.specs.Names.{Name}
 use Rattle.tc_base.specs.Buffers.{BufferOps, Entry}
 use Rattle.tc_base.specs.States.{Thread, State}
-use Rattle.memory_models.specs.declared.model.Model.{Model}
+use Rattle.store_buffers.specs.memory_models.declared.model.Model.{Model}
 use Rattle.tc_base.specs.declared.moves.Move.{Move}
 use Rattle.tc_base.specs.declared.request.Request.{Request}
 use Rattle.tc_base.specs.declared.request.Request.TheVariants.{Read, Write, Exchange, CompareExchange, Bar, WakeOne}
@@ -23,8 +23,8 @@ use Rattle.tc_code.specs.Code.{Code}
 use Rattle.tc_code.specs.Run.{run}
 use Rattle.tc_code.specs.Step.{perform, state_after_wake, opening}
 use Rattle.tc_code.specs.Step as machine
-use Rattle.run_laws.proofs.Basics.{by_bool}
-use Rattle.run_laws.proofs.Names.{same_self, is_same, same_or_apart, same_other}
+use Rattle.run_history.proofs.run_laws.Basics.{by_bool}
+use Rattle.run_history.proofs.run_laws.Names.{same_self, is_same, same_or_apart, same_other}
 use Rattle.store_buffers.specs.Pending.{Pending, Store, Bar as barred, Binding, waits, has_bar, form_of}
 use Rattle.store_buffers.specs.Laws.{Laws}
 use Rattle.run_history.specs.History.{Deed, Did, Drained, Issue, same, issue_of, drains, has_drained, pending_issues, pending}

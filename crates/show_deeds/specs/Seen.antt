@@ -39,7 +39,12 @@ waiting_after buffered ws (Drained n k c v) = filter (is_other n k) ws
 waiting_after buffered ws _ = ws
 
 abbrev pub seen_after : Bool → Seen → Deed → Seen
-seen_after buffered s d = record { memory = written s.memory (reaches buffered d); waiting = waiting_after buffered s.waiting d }
+seen_after buffered s d =
+    record {
+      memory = written s.memory
+          (reaches buffered d);
+      waiting = waiting_after buffered s.waiting d;
+    }
 
 abbrev pub seen_in : Bool → Code → List Deed → Seen
 seen_in buffered code h = fold (seen_after buffered) (at_start code) h
@@ -52,12 +57,14 @@ is_by (Some only) c = c == only
 -- the first of a thread's stores that drains in this form
 abbrev pub first_by : Name → Option ℕ → List Stored → Option Stored
 first_by n form [] = None
-first_by n form (w ∷ ws) = if bytes_eq w.thread n && is_by form w.cell then Some w else first_by n form ws
+first_by n form (w ∷ ws) =
+    if bytes_eq w.thread n && is_by form w.cell then Some w else first_by n form ws
 
 -- the value that a thread's request takes from this memory and its own buffer, or 0 if it takes
 -- none
 abbrev pub taken_by : {B : Type 0} → BufferOps B → List ℤ → Thread B → Request → ℤ
-taken_by ops memory t (Read c) = unwrap_or (ops.forward t.buffer c) (slice_index_or memory c (pos 0))
+taken_by ops memory t (Read c) =
+    unwrap_or (ops.forward t.buffer c) (slice_index_or memory c (pos 0))
 taken_by ops memory t (Exchange c v) = slice_index_or memory c (pos 0)
 taken_by ops memory t (CompareExchange c e v) = slice_index_or memory c (pos 0)
 taken_by ops memory t _ = pos 0

@@ -6,7 +6,7 @@ use Rattle.std.specs.FinMap as fin
 use Rattle.tc_base.specs.Names.{Name}
 use Rattle.tc_base.specs.Buffers.{BufferOps}
 use Rattle.tc_base.specs.States.{Local, Thread, State}
-use Rattle.memory_models.specs.declared.model.Model.{Model}
+use Rattle.store_buffers.specs.memory_models.declared.model.Model.{Model}
 use Rattle.tc_base.specs.declared.moves.Move.{Move}
 use Rattle.tc_base.specs.declared.moves.Move.TheVariants as move
 use Rattle.tc_base.specs.declared.request.Request.{Request}
@@ -16,16 +16,16 @@ use Rattle.tc_code.specs.Code.{Code}
 use Rattle.tc_code.specs.Lawful.{IsLawful}
 use Rattle.tc_code.specs.Run.{IsReached}
 use Rattle.tc_code.specs.Step.{request, instr_of, step}
-use Rattle.run_laws.specs.Whole.{IsWholeThread}
-use Rattle.run_laws.proofs.Whole.{reached_is_whole}
-use Rattle.run_laws.proofs.Basics.{some_value}
-use Rattle.run_laws.proofs.Steps.{Went, step_went}
+use Rattle.tc_threads.specs.run_laws.Whole.{IsWholeThread}
+use Rattle.tc_threads.proofs.run_laws.Whole.{reached_is_whole}
+use Rattle.tc_threads.proofs.run_laws.Basics.{some_value}
+use Rattle.tc_threads.proofs.run_laws.Steps.{Went, step_went}
 use Rattle.store_buffers.specs.Pending.{Binding}
 use Rattle.store_buffers.specs.Laws.{Laws}
-use Rattle.run_history.specs.History.{Deed, Did, Drained, history, deed_of, did, woke, drained, value_taken, created_by, by_instr}
-use Rattle.run_history.specs.Locals.{locals_in}
-use Rattle.run_history.proofs.Frame.{holds_after}
-use Rattle.run_history.proofs.Locals.{LocalsAre, keeps_locals, opening_locals}
+use Rattle.show_deeds.specs.run_history.History.{Deed, Did, Drained, history, deed_of, did, woke, drained, value_taken, created_by, by_instr}
+use Rattle.show_deeds.specs.run_history.Locals.{locals_in}
+use Rattle.show_deeds.proofs.run_history.Frame.{holds_after}
+use Rattle.show_deeds.proofs.run_history.Locals.{LocalsAre, keeps_locals, opening_locals}
 use Rattle.std.proofs.lemmas.Option.{none-some, same_Some}
 use Rattle.tc_threads.proofs.ByName.{there_and}
 use Rattle.show_deeds.specs.Deeds.{plain_deed, doer}

@@ -10,8 +10,8 @@ use Rattle.tc_code.specs.Run.{run}
 use Rattle.tc_code.specs.Step.{step}
 use Rattle.tc_machine.specs.Why.{why}
 use Rattle.tc_machine.specs.declared.why.Why.{Why}
-use Rattle.run_history.specs.History.{Deed, deed_of, history}
-use Rattle.run_history.proofs.Grows.{moves_add_deeds}
+use Rattle.show_deeds.specs.run_history.History.{Deed, deed_of, history}
+use Rattle.show_deeds.proofs.run_history.Grows.{moves_add_deeds}
 use Rattle.schedule_replay.proofs.Plays.{leads_on, all_made}
 use Rattle.show_deeds.specs.Deeds.{plain_deed}
 use Rattle.show_deeds.specs.Seen.{Seen, at_start, seen_after, seen_in}

@@ -9,7 +9,7 @@ use Rattle.tc_code.specs.declared.code.Func.{Func}
 use Rattle.tc_code.specs.Expr.{Slot}
 use Rattle.tc_code.specs.declared.instr.Instr.TheVariants.{Store}
 use Rattle.tc_threads.specs.CanDo.{CanAsk}
-use Rattle.run_laws.specs.Whole.{IsWholeThread}
+use Rattle.tc_threads.specs.run_laws.Whole.{IsWholeThread}
 
 -- a code with one cell, so that a store may name one
 abbrev pub one_cell : Code → Code

@@ -9,9 +9,9 @@ use Rattle.tc_code.specs.Run.{run, IsStuck}
 use Rattle.tc_code.specs.Step.{step}
 use Rattle.tc_machine.specs.Exits.{all_have_exited}
 use Rattle.tc_machine.specs.Why.{why}
-use Rattle.run_history.specs.History.{history}
-use Rattle.run_history.specs.History.{Deed}
-use Rattle.run_history.specs.Locals.{locals_in}
+use Rattle.show_deeds.specs.run_history.History.{history}
+use Rattle.show_deeds.specs.run_history.History.{Deed}
+use Rattle.show_deeds.specs.run_history.Locals.{locals_in}
 use Rattle.show_deeds.specs.Deeds.{plain_deed, doer}
 use Rattle.show_rows.specs.declared.row.Row.{Row}
 use Rattle.show_rows.specs.declared.told.End.{End}
@@ -24,7 +24,8 @@ deeds rows = map (λ r. plain_deed r.deed) rows
 -- the place of a row's thread after these deeds, and the value of each of its slots
 abbrev pub WasAt : Code → List Deed → Row → Type 0
 WasAt code h r =
-    IsSomeAnd (fin.get (locals_in code h) (doer r.deed)) (λ t. (t.function ≡ r.function) × (t.instruction ≡ r.instruction) × (t.slots ≡ r.slots.items))
+    IsSomeAnd (fin.get (locals_in code h) (doer r.deed))
+    (λ t. (t.function ≡ r.function) × (t.instruction ≡ r.instruction) × (t.slots ≡ r.slots.items))
 
 -- the same for each row, given the deeds before it
 abbrev pub WereAt : Code → List Deed → List Row → Type 0

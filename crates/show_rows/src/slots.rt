@@ -1,6 +1,6 @@
 //! The slots of a thread.
 ghost use Rattle.std.specs.Prelude.{◌≡◌, ◌<◌, length, pos, slice_index_or, IfOk};
-ghost use Rattle.run_laws.specs.Whole.{IsWholeThread};
+ghost use Rattle.tc_threads.specs.run_laws.Whole.{IsWholeThread};
 ghost use Rattle.tc_code.specs.Code as flat;
 ghost use Rattle.tc_code.specs.Lawful.{IsLawful};
 ghost use Rattle.tc_code.specs.Step as plain;

@@ -1,7 +1,7 @@
 //! Makes moves one after another, and records their rows.
 ghost use Rattle.std.specs.Prelude.{◌≡◌, ◌∷◌, ◌++◌, [], IfOk, OnOk, IsSome};
-ghost use Rattle.run_laws.specs.Counters.{CountersAreBelowLast, IsBelowLast};
-ghost use Rattle.run_history.specs.History.{created_by, deed_of};
+ghost use Rattle.tc_threads.specs.run_laws.Counters.{CountersAreBelowLast, IsBelowLast};
+ghost use Rattle.show_deeds.specs.run_history.History.{created_by, deed_of};
 ghost use Rattle.tc_base.specs.declared.moves.Move.TheVariants as move;
 ghost use Rattle.tc_code.specs.Code.{Code as AnyCode};
 ghost use Rattle.tc_code.specs.Step.{step};

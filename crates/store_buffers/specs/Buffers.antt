@@ -83,7 +83,8 @@ first_values (s ∷ ss) c = if has_no_store s then first_values ss c else values
 -- the segments after the first of those values has drained
 abbrev pub drop_first : List Segment → ℕ → List Segment
 drop_first [] c = []
-drop_first (s ∷ ss) c = if has_no_store s then s ∷ drop_first ss c else with_values s c (drop 1 (values_to s c)) ∷ ss
+drop_first (s ∷ ss) c =
+    if has_no_store s then s ∷ drop_first ss c else with_values s c (drop 1 (values_to s c)) ∷ ss
 
 abbrev pub may_drain_cell : List Segment → Option ℕ → Bool
 may_drain_cell ss None = false
@@ -91,7 +92,12 @@ may_drain_cell ss (Some c) = not (is_nil (first_values ss c))
 
 abbrev pub drain_cell : List Segment → Option ℕ → Drained (List Segment)
 drain_cell ss None = record { entry = no_entry; rest = ss }
-drain_cell ss (Some c) = record { entry = record { cell = c; value = slice_index_or (first_values ss c) 0 (pos 0) }; rest = drop_first ss c }
+drain_cell ss (Some c) =
+    record {
+      entry = record
+          { cell = c; value = slice_index_or (first_values ss c) 0 (pos 0) };
+      rest = drop_first ss c;
+    }
 
 -- partial store order: segments separated by bars, oldest first, each with a queue for each cell
 abbrev pub cell_buffer : BufferOps (List Segment)

@@ -24,7 +24,8 @@ module _ {B : Type 0} (ops : BufferOps B) where
     pub drains : Drains bound ps form older store newer
 
   -- a drain may happen, takes out this store, and leaves what is older and what is newer
-  pub record TakesOut (b : B) (form : Option ℕ) (older : List Pending) (store : Entry) (newer : List Pending) : Type 0 where
+  pub record TakesOut (b : B) (form : Option ℕ) (older : List Pending) (store : Entry)
+      (newer : List Pending) : Type 0 where
     pub may : ops.may_drain b form ≡ true
     pub takes : (ops.drain b form).entry ≡ store
     pub leaves : Stands ops (ops.drain b form).rest (older ++ newer)
@@ -41,13 +42,17 @@ module _ {B : Type 0} (ops : BufferOps B) where
     pub same_cell : (barred : Bool) → bound true barred ≡ true
     pub barred : bound false true ≡ true
     -- a buffer is empty exactly if the list that it represents has no store
-    pub empty_law : (b : B) (ps : List Pending) → Stands ops b ps → ops.is_empty b ≡ is_nil (stores ps)
+    pub empty_law : (b : B) (ps : List Pending) → Stands ops b ps
+        → ops.is_empty b ≡ is_nil (stores ps)
     -- a buffer forwards the newest store to the cell
-    pub forward_stands : (b : B) (ps : List Pending) (c : ℕ) → Stands ops b ps → ops.forward b c ≡ newest (stores ps) c
+    pub forward_stands : (b : B) (ps : List Pending) (c : ℕ) → Stands ops b ps
+        → ops.forward b c ≡ newest (stores ps) c
     -- a buffer may drain in a form only if some pending store may
-    pub may_drain_stands : (b : B) (ps : List Pending) (form : Option ℕ) → Stands ops b ps → ops.may_drain b form ≡ true → SomeDrains bound ps form
+    pub may_drain_stands : (b : B) (ps : List Pending) (form : Option ℕ) → Stands ops b ps
+        → ops.may_drain b form ≡ true → SomeDrains bound ps form
     -- if a pending store may drain, a drain in its form takes out that store
-    pub drain_stands : (b : B) (ps : List Pending) (form : Option ℕ) (older : List Pending) (store : Entry) (newer : List Pending) → Stands ops b ps
+    pub drain_stands : (b : B) (ps : List Pending) (form : Option ℕ) (older : List Pending)
+        (store : Entry) (newer : List Pending) → Stands ops b ps
         → Drains bound ps form older store newer → TakesOut b form older store newer
     -- without buffers, nothing may drain
     pub unbuffered : ops.buffered ≡ false → (b : B) (form : Option ℕ) → ops.may_drain b form ≡ false

@@ -45,7 +45,8 @@ abbrev pub stores_by : Binding → Option ℕ → List Pending → List Entry
 stores_by bound form ps = filter (λ e. option_eq nat_eq (form_of bound e.cell) form) (stores ps)
 
 -- this store may drain in this form; `older` and `newer` are the rest of the list
-pub record Drains (bound : Binding) (ps : List Pending) (form : Option ℕ) (older : List Pending) (store : Entry) (newer : List Pending) : Type 0 where
+pub record Drains (bound : Binding) (ps : List Pending) (form : Option ℕ) (older : List Pending)
+    (store : Entry) (newer : List Pending) : Type 0 where
   pub there : ps ≡ older ++ Store store ∷ newer
   pub by_form : form_of bound store.cell ≡ form
   pub is_free : waits bound older store.cell ≡ false

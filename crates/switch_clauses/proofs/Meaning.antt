@@ -8,72 +8,72 @@ use Rattle.std.proofs.lemmas.List.{length-map}
 use Rattle.std.proofs.lemmas.List.Elements.{All-cons, All-contains, All-map, Contains-append_right}
 use Rattle.std.proofs.lemmas.List.Folds.{list_any-append}
 use Rattle.std.proofs.lemmas.Option.{none-some, same_Some}
-use Rattle.tc_base.specs.Buffers.{BufferOps}
-use Rattle.run_log.specs.Logs.{Log}
-use Rattle.memory_models.specs.declared.model.Model.{Model}
-use Rattle.tc_base.specs.declared.moves.Move.{Move}
-use Rattle.tc_code.specs.Code.{Code}
-use Rattle.tc_code.specs.Lawful.{IsLawful}
-use Rattle.tc_code.specs.Run.{Reproduces}
-use Rattle.store_buffers.specs.Laws.{Laws}
-use Rattle.store_buffers.specs.Pending.{Binding}
-use Rattle.run_follows.specs.Follow.{moves_for}
-use Rattle.run_log.specs.Logs.{is_log}
-use Rattle.path_walk.specs.Paths.{Paths, paths_of}
-use Rattle.path_walk.specs.declared.event.Event.{Event}
-use Rattle.order_formula.specs.declared.formula.Body.{Body}
-use Rattle.order_formula.specs.declared.formula.Body.TheVariants as body
-use Rattle.order_formula.specs.declared.formula.Conjunct.{Conjunct}
-use Rattle.order_formula.specs.declared.order.Pair.{Pair}
-use Rattle.order_formula.specs.declared.read.Candidate.{Candidate}
-use Rattle.order_formula.specs.Orders.{BodyIsAsked, BodyIsIn, ConjunctIsAsked, ConjunctIsIn, Grows, IsOrder, Order, pair_of, same_pair}
-use Rattle.order_formula.specs.Worlds.{World}
-use Rattle.order_formula.proofs.Asked.{formula_stays}
-use Rattle.lawful_order.specs.Events.{Of, all_events, number_of}
-use Rattle.order_events.proofs.Lists as lists
-use Rattle.order_events.proofs.Numbers.{has_number}
-use Rattle.order_events.proofs.Parts.{each_in}
-use Rattle.order_events.proofs.Whole as paths_are
-use Rattle.world_plan.specs.Plan.{is_failure, plan}
-use Rattle.world_plan.proofs.Numbers.{event_numbered, of_find}
-use Rattle.cnf_core.specs.Clauses.{Formula, Valuation, satisfies}
-use Rattle.bit_order.specs.Comparators.{pairs_among}
-use Rattle.bit_order.specs.Laws.{IsWorldFor, PairIsAsked}
-use Rattle.bit_order.specs.Layouts.{Layout}
-use Rattle.bit_order.specs.Readings.{world_of}
-use Rattle.bit_order.proofs.Asking.{completed-asked, grows-completed}
-use Rattle.bit_order.proofs.Meaning.{values-say-worlds}
-use Rattle.bit_blast.specs.Blasted.{BlastMeans, IsApart, IsPosed, impossible, layout_of}
-use Rattle.bit_blast.specs.Contended.{contended}
-use Rattle.bit_blast.specs.Laws.{BodyIsTold}
-use Rattle.bit_blast.specs.Whole.{all_clauses}
-use Rattle.bit_blast.specs.Whole as blast
-use Rattle.bit_blast.proofs.Completed.{completed_events, contended_within, same_part}
-use Rattle.bit_blast.proofs.Posed.{blast_means, formula_in}
-use Rattle.bit_blast.proofs.Prefixes.{first_part}
-use Rattle.bit_blast.proofs.WholeLaws.{all_range}
-use Rattle.refute_check.specs.Refutations.{IsClosed}
-use Rattle.refute_check.specs.declared.line.Line.{Line}
-use Rattle.refute_check.proofs.Sound.{closed-means-unsatisfiable}
-use Rattle.switch_order.specs.Laws.{IsReady, LevelsMean}
-use Rattle.switch_order.specs.Levels.{level_clauses}
-use Rattle.switch_order.proofs.Levels.{levels_mean}
+use Rattle.switch_runs.specs.tc_base.Buffers.{BufferOps}
+use Rattle.clap_solve.specs.run_log.Logs.{Log}
+use Rattle.switch_runs.specs.memory_models.declared.model.Model.{Model}
+use Rattle.switch_runs.specs.tc_base.declared.moves.Move.{Move}
+use Rattle.clap_solve.specs.tc_code.Code.{Code}
+use Rattle.clap_solve.specs.tc_code.Lawful.{IsLawful}
+use Rattle.clap_solve.specs.tc_code.Run.{Reproduces}
+use Rattle.clap_solve.specs.store_buffers.Laws.{Laws}
+use Rattle.clap_solve.specs.store_buffers.Pending.{Binding}
+use Rattle.switch_runs.specs.run_follows.Follow.{moves_for}
+use Rattle.clap_solve.specs.run_log.Logs.{is_log}
+use Rattle.clap_solve.specs.path_walk.Paths.{Paths, paths_of}
+use Rattle.clap_solve.specs.path_walk.declared.event.Event.{Event}
+use Rattle.clap_solve.specs.order_formula.declared.formula.Body.{Body}
+use Rattle.clap_solve.specs.order_formula.declared.formula.Body.TheVariants as body
+use Rattle.clap_solve.specs.order_formula.declared.formula.Conjunct.{Conjunct}
+use Rattle.clap_solve.specs.order_formula.declared.order.Pair.{Pair}
+use Rattle.clap_solve.specs.order_formula.declared.read.Candidate.{Candidate}
+use Rattle.clap_solve.specs.order_formula.Orders.{BodyIsAsked, BodyIsIn, ConjunctIsAsked, ConjunctIsIn, Grows, IsOrder, Order, pair_of, same_pair}
+use Rattle.clap_solve.specs.order_formula.Worlds.{World}
+use Rattle.clap_solve.proofs.order_formula.Asked.{formula_stays}
+use Rattle.switch_runs.specs.lawful_order.Events.{Of, all_events, number_of}
+use Rattle.switch_runs.proofs.order_events.Lists as lists
+use Rattle.switch_runs.proofs.order_events.Numbers.{has_number}
+use Rattle.switch_runs.proofs.order_events.Parts.{each_in}
+use Rattle.switch_runs.proofs.order_events.Whole as paths_are
+use Rattle.switch_runs.specs.world_plan.Plan.{is_failure, plan}
+use Rattle.switch_runs.proofs.world_plan.Numbers.{event_numbered, of_find}
+use Rattle.clap_solve.specs.cnf_core.Clauses.{Formula, Valuation, satisfies}
+use Rattle.clap_solve.specs.bit_order.Comparators.{pairs_among}
+use Rattle.clap_solve.specs.bit_order.Laws.{IsWorldFor, PairIsAsked}
+use Rattle.clap_solve.specs.bit_order.Layouts.{Layout}
+use Rattle.clap_solve.specs.bit_order.Readings.{world_of}
+use Rattle.clap_solve.proofs.bit_order.Asking.{completed-asked, grows-completed}
+use Rattle.clap_solve.proofs.bit_order.Meaning.{values-say-worlds}
+use Rattle.clap_solve.specs.bit_blast.Blasted.{BlastMeans, IsApart, IsPosed, impossible, layout_of}
+use Rattle.clap_solve.specs.bit_blast.Contended.{contended}
+use Rattle.clap_solve.specs.bit_blast.Laws.{BodyIsTold}
+use Rattle.clap_solve.specs.bit_blast.Whole.{all_clauses}
+use Rattle.clap_solve.specs.bit_blast.Whole as blast
+use Rattle.clap_solve.proofs.bit_blast.Completed.{completed_events, contended_within, same_part}
+use Rattle.clap_solve.proofs.bit_blast.Posed.{blast_means, formula_in}
+use Rattle.clap_solve.proofs.bit_blast.Prefixes.{first_part}
+use Rattle.clap_solve.proofs.bit_blast.WholeLaws.{all_range}
+use Rattle.clap_solve.specs.refute_check.Refutations.{IsClosed}
+use Rattle.clap_solve.specs.refute_check.declared.line.Line.{Line}
+use Rattle.clap_solve.proofs.refute_check.Sound.{closed-means-unsatisfiable}
+use Rattle.clap_solve.specs.switch_order.Laws.{IsReady, LevelsMean}
+use Rattle.clap_solve.specs.switch_order.Levels.{level_clauses}
+use Rattle.clap_solve.proofs.switch_order.Levels.{levels_mean}
 use Rattle.switch_runs.specs.Switches as runs
 use Rattle.switch_runs.specs.Worlds.{failing_of, threads_of, world_switches}
 use Rattle.switch_runs.proofs.Laws as of_runs
-use Rattle.clap_system.specs.Systems.{System, system_of}
-use Rattle.clap_system.proofs.Choices.{choices_are_enders}
-use Rattle.orders_are_runs.specs.Possible.{IsPossible}
-use Rattle.orders_are_runs.proofs.Systems.{possible_is_lawful}
-use Rattle.plan_runs.proofs.Laws as plans
-use Rattle.plan_runs.proofs.Runs.{plan_reproduces}
+use Rattle.clap_solve.specs.clap_system.Systems.{System, system_of}
+use Rattle.clap_solve.proofs.clap_system.Choices.{choices_are_enders}
+use Rattle.clap_solve.specs.orders_are_runs.Possible.{IsPossible}
+use Rattle.clap_solve.proofs.orders_are_runs.Systems.{possible_is_lawful}
+use Rattle.switch_runs.proofs.plan_runs.Laws as plans
+use Rattle.switch_runs.proofs.plan_runs.Runs.{plan_reproduces}
 use Rattle.clap_solve.specs.Solved.{IsWithin}
 use Rattle.clap_solve.proofs.Meaning as solve
 use Rattle.clap_solve.proofs.Ordered.{completed_lawful}
 use Rattle.switch_clauses.specs.Clauses.{asked_of_all, switch_clauses, clauses_with_levels}
 use Rattle.switch_clauses.proofs.Same.{same_few}
 use Rattle.switch_clauses.proofs.Whole as stands
-use Rattle.path_laws.specs.Setting.{Setting, setting_of}
+use Rattle.switch_runs.specs.path_laws.Setting.{Setting, setting_of}
 
 -- a range contains its numbers
 range_has : (a n e : ℕ) → a ≤ e → e < a + n → Contains (range_with_len a n) e

@@ -3,9 +3,9 @@ use Rattle.std.proofs.Common.{◌≡◌, ◌∙◌, ℕ, ◌+◌, ◌<◌, ◌�
 use Rattle.std.specs.List.{All}
 use Rattle.std.proofs.lemmas.Bool.{ltb-true}
 use Rattle.std.proofs.lemmas.List.Elements.{All-get_or}
-use Rattle.order_formula.specs.Worlds.{World, IsWorld, is_before, position}
-use Rattle.order_switches.specs.Switches.{end_at, switches}
-use Rattle.order_switches.proofs.Levels as levels
+use Rattle.clap_solve.specs.order_formula.Worlds.{World, IsWorld, is_before, position}
+use Rattle.switch_runs.specs.order_switches.Switches.{end_at, switches}
+use Rattle.switch_runs.proofs.order_switches.Levels as levels
 
 module _ (threads : List ℕ) (failing : Option ℕ) (most : ℕ) (w x : World) (is : IsWorld w) (is_too : IsWorld x)
     (long : length threads ≡ length w.positions) (long_too : length threads ≡ length x.positions)

@@ -4,27 +4,27 @@ use Rattle.std.specs.List.{All, list_all, range_with_len}
 use Rattle.std.proofs.lemmas.Bool.{and_from, le-leb}
 use Rattle.std.proofs.lemmas.List.Elements.{All-head, All-map, All-tail}
 use Rattle.std.proofs.lemmas.List.Folds.{list_all-append}
-use Rattle.sym_terms.specs.declared.node.Node.{Node}
-use Rattle.order_formula.specs.declared.formula.Conjunct.{Conjunct}
-use Rattle.cnf_core.specs.Clauses.{Formula, Valuation, is_within, satisfies, var_of}
-use Rattle.cnf_core.specs.Gates.{IsOver}
-use Rattle.bit_gates.specs.Extended.{IsExtended}
-use Rattle.bit_gates.specs.Laws.{IsModel, IsOf}
-use Rattle.bit_gates.proofs.Extended.{gates-extend}
-use Rattle.bit_order.specs.Comparators.{ordered}
-use Rattle.bit_order.specs.Laws.{LiteralsMean}
-use Rattle.bit_order.specs.Layouts.{Layout, base, load_word}
-use Rattle.bit_order.specs.Readings.{world_of}
-use Rattle.bit_order.proofs.Compared.{base_some}
-use Rattle.bit_order.proofs.Meaning.{base-over, literals-mean}
-use Rattle.bit_order.proofs.Three.{ordered-extended}
-use Rattle.bit_ops.specs.Laws.{IsOperand}
-use Rattle.bit_terms.specs.Laws.{HaveInts}
-use Rattle.bit_terms.proofs.Meaning.{terms-mean}
-use Rattle.bit_blast.specs.Laws.{AreRoots}
-use Rattle.bit_blast.specs.Whole.{IsReady, load_words, clauses_with_roots, clauses_with_terms, all_clauses}
-use Rattle.bit_blast.proofs.Prefixes.{first_part}
-use Rattle.bit_blast.proofs.WholeLaws.{all_range, all_roots, first_true}
+use Rattle.clap_solve.specs.sym_terms.declared.node.Node.{Node}
+use Rattle.clap_solve.specs.order_formula.declared.formula.Conjunct.{Conjunct}
+use Rattle.clap_solve.specs.cnf_core.Clauses.{Formula, Valuation, is_within, satisfies, var_of}
+use Rattle.clap_solve.specs.cnf_core.Gates.{IsOver}
+use Rattle.clap_solve.specs.bit_gates.Extended.{IsExtended}
+use Rattle.clap_solve.specs.bit_gates.Laws.{IsModel, IsOf}
+use Rattle.clap_solve.proofs.bit_gates.Extended.{gates-extend}
+use Rattle.clap_solve.specs.bit_order.Comparators.{ordered}
+use Rattle.clap_solve.specs.bit_order.Laws.{LiteralsMean}
+use Rattle.clap_solve.specs.bit_order.Layouts.{Layout, base, load_word}
+use Rattle.clap_solve.specs.bit_order.Readings.{world_of}
+use Rattle.clap_solve.proofs.bit_order.Compared.{base_some}
+use Rattle.clap_solve.proofs.bit_order.Meaning.{base-over, literals-mean}
+use Rattle.clap_solve.proofs.bit_order.Three.{ordered-extended}
+use Rattle.clap_solve.specs.bit_ops.Laws.{IsOperand}
+use Rattle.clap_solve.specs.bit_terms.Laws.{HaveInts}
+use Rattle.clap_solve.proofs.bit_terms.Meaning.{terms-mean}
+use Rattle.clap_solve.specs.bit_blast.Laws.{AreRoots}
+use Rattle.clap_solve.specs.bit_blast.Whole.{IsReady, load_words, clauses_with_roots, clauses_with_terms, all_clauses}
+use Rattle.clap_solve.proofs.bit_blast.Prefixes.{first_part}
+use Rattle.clap_solve.proofs.bit_blast.WholeLaws.{all_range, all_roots, first_true}
 
 units_within : (n : ℕ) (ls : List ℤ) → All (IsOf n) ls → list_all (is_within n) (map (λ l. l ∷ []) ls) ≡ true
 units_within n [] of = refl

@@ -3,19 +3,19 @@
 #![tactic(auto)]
 
 ghost use Rattle.std.specs.Prelude.{◌≡◌, ◌≤◌, ◌<◌, ◌↔◌, ℕ, true, List, IsTrue};
-ghost use Rattle.tc_base.specs.Buffers.{BufferOps};
-ghost use Rattle.run_log.specs.Logs.{Log};
-ghost use Rattle.memory_models.specs.declared.model.Model.{Model};
-ghost use Rattle.tc_base.specs.declared.moves.Move.{Move};
-ghost use Rattle.tc_code.specs.Code.{Code};
-ghost use Rattle.tc_code.specs.Lawful.{IsLawful};
-ghost use Rattle.tc_code.specs.Run.{Reproduces};
-ghost use Rattle.store_buffers.specs.Laws.{Laws};
-ghost use Rattle.store_buffers.specs.Pending.{Binding};
-ghost use Rattle.run_log.specs.Logs.{is_log};
-ghost use Rattle.cnf_core.specs.Clauses.{Valuation, satisfies};
-ghost use Rattle.refute_check.specs.Refutations.{IsClosed};
-ghost use Rattle.refute_check.specs.declared.line.Line.{Line};
+ghost use Rattle.switch_runs.specs.tc_base.Buffers.{BufferOps};
+ghost use Rattle.clap_solve.specs.run_log.Logs.{Log};
+ghost use Rattle.switch_runs.specs.memory_models.declared.model.Model.{Model};
+ghost use Rattle.switch_runs.specs.tc_base.declared.moves.Move.{Move};
+ghost use Rattle.clap_solve.specs.tc_code.Code.{Code};
+ghost use Rattle.clap_solve.specs.tc_code.Lawful.{IsLawful};
+ghost use Rattle.clap_solve.specs.tc_code.Run.{Reproduces};
+ghost use Rattle.clap_solve.specs.store_buffers.Laws.{Laws};
+ghost use Rattle.clap_solve.specs.store_buffers.Pending.{Binding};
+ghost use Rattle.clap_solve.specs.run_log.Logs.{is_log};
+ghost use Rattle.clap_solve.specs.cnf_core.Clauses.{Valuation, satisfies};
+ghost use Rattle.clap_solve.specs.refute_check.Refutations.{IsClosed};
+ghost use Rattle.clap_solve.specs.refute_check.declared.line.Line.{Line};
 ghost use Rattle.switch_runs.specs.Switches.{switches};
 ghost use Rattle.clap_solve.specs.Solved.{IsWithin};
 ghost use Rattle.switch_clauses.specs.Clauses.{switch_clauses};

@@ -15,7 +15,7 @@ use Rattle.bit_order.specs.Layouts.{Layout}
 use Rattle.bit_order.specs.Readings.{world_of}
 use Rattle.bit_order.proofs.ClauseLaws.{clauses-mean}
 use Rattle.bit_order.proofs.Ranges.{list_all-flat_map, range_all, range_at}
-use Rattle.order_formula.specs.Worlds.{World, is_before, position}
+use Rattle.order_switches.specs.order_formula.Worlds.{World, is_before, position}
 use Rattle.order_switches.specs.Levels.{AreLevels, Counts}
 use Rattle.order_switches.specs.Switches.{end_at, switches}
 use Rattle.order_switches.proofs.Levels as levels

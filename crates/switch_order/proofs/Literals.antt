@@ -15,7 +15,7 @@ use Rattle.bit_order.specs.Laws.{IsWorldFor, LiteralsMean}
 use Rattle.bit_order.specs.Layouts.{Layout}
 use Rattle.bit_order.specs.Readings.{world_of}
 use Rattle.bit_order.proofs.Meaning.{literals-mean, values-say-worlds}
-use Rattle.order_formula.specs.Worlds.{World, is_before, position}
+use Rattle.order_switches.specs.order_formula.Worlds.{World, is_before, position}
 use Rattle.order_switches.specs.Switches.{end_at}
 use Rattle.switch_order.specs.Laws.{IsReady}
 use Rattle.switch_order.specs.Levels.{counts_by, counts_literal, level_literal}

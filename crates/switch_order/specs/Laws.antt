@@ -3,7 +3,7 @@ use Rattle.std.specs.Prelude.{◌≡◌, ◌≢◌, ℕ, ◌<◌, ◌≤◌, Lis
 use Rattle.cnf_core.specs.Clauses.{Formula, Valuation}
 use Rattle.cnf_core.specs.Gates.{Agree, IsOver}
 use Rattle.bit_gates.specs.Laws.{IsModel}
-use Rattle.order_formula.specs.Orders.{IsOrder}
+use Rattle.order_switches.specs.order_formula.Orders.{IsOrder}
 use Rattle.order_switches.specs.Switches.{switches}
 use Rattle.bit_order.specs.Comparators.{ordered}
 use Rattle.bit_order.specs.Laws.{PairIsAsked}
@@ -22,8 +22,11 @@ pub record IsReady (y : Layout) (threads : List ℕ) (failing : Option ℕ) (f :
   pub before : (w : Valuation) → IsModel w f → IsModel w (ordered y)
 
 -- the models of a formula with levels are its models whose worlds have at most `most` switches
-pub record LevelsMean (y : Layout) (threads : List ℕ) (failing : Option ℕ) (most : ℕ) (f : Formula) : Type 0 where
+pub record LevelsMean (y : Layout) (threads : List ℕ) (failing : Option ℕ) (most : ℕ)
+    (f : Formula) : Type 0 where
   pub before : (w : Valuation) → IsModel w (with_levels y threads failing most f) → IsModel w f
-  pub few : (w : Valuation) → IsModel w (with_levels y threads failing most f) → switches threads failing (world_of y w) ≤ most
-  pub extends : (v : Valuation) → IsOver f → IsModel v f → switches threads failing (world_of y v) ≤ most
+  pub few : (w : Valuation) → IsModel w (with_levels y threads failing most f)
+      → switches threads failing (world_of y w) ≤ most
+  pub extends : (v : Valuation) → IsOver f → IsModel v f
+      → switches threads failing (world_of y v) ≤ most
       → (w : Valuation) × IsModel w (with_levels y threads failing most f) × Agree f.vars v w

@@ -11,7 +11,8 @@ use Rattle.bit_order.specs.Layouts.{Layout}
 -- the literal of "this event's level is at least `least`"; no level is above `most`
 abbrev pub level_literal : (start most event least : ℕ) → ℤ
 level_literal start most event zero = constant true
-level_literal start most event (suc j) = if nat_lt j most then pos (start + (event * most + j)) else constant false
+level_literal start most event (suc j) =
+    if nat_lt j most then pos (start + (event * most + j)) else constant false
 
 module _ (y : Layout) (threads : List ℕ) (failing : Option ℕ) where
   -- the literal of "this event counts": it is the failing event or before it, or no event fails
@@ -27,13 +28,15 @@ module _ (y : Layout) (threads : List ℕ) (failing : Option ℕ) where
     abbrev pub rise : (first second least : ℕ) → List (List ℤ)
     rise first second least =
         folded_clause
-        (neg_ℤ (before_literal y first second) ∷ neg_ℤ (counts_literal second) ∷ neg_ℤ (level_literal start most first least)
+        (neg_ℤ (before_literal y first second) ∷ neg_ℤ (counts_literal second)
+        ∷ neg_ℤ (level_literal start most first least)
         ∷ level_literal start most second (suc least) ∷ [])
 
     -- the same for all levels, if the two events are of different threads
     abbrev pub rises : (first second : ℕ) → List (List ℤ)
     rises first second =
-        if get_or threads first 0 == get_or threads second 0 then [] else flat_map (rise first second) (range_with_len 0 (most + 1))
+        if get_or threads first 0 == get_or threads second 0 then []
+        else flat_map (rise first second) (range_with_len 0 (most + 1))
 
     abbrev pub rises_from : ℕ → List (List ℤ)
     rises_from first = flat_map (rises first) (range_with_len 0 y.order.events)
@@ -44,4 +47,9 @@ module _ (y : Layout) (threads : List ℕ) (failing : Option ℕ) where
 
   -- a formula with levels of at most `most` added
   abbrev pub with_levels : ℕ → Formula → Formula
-  with_levels most f = record { vars = f.vars + y.order.events * most; clauses = f.clauses ++ level_clauses (suc f.vars) most }
+  with_levels most f =
+      record {
+        vars = f.vars + y.order.events * most;
+        clauses = f.clauses
+            ++ level_clauses (suc f.vars) most;
+      }

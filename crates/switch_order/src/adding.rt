@@ -6,7 +6,7 @@ ghost use Rattle.cnf_core.specs.declared.cnf.TheConstants.{LIMIT};
 ghost use Rattle.bit_gates.specs.Folded.{HasRoom};
 ghost use Rattle.bit_order.specs.Clauses.{with_clause};
 ghost use Rattle.bit_order.specs.Comparators.{ordered};
-ghost use Rattle.order_formula.specs.Orders.{IsOrder};
+ghost use Rattle.order_switches.specs.order_formula.Orders.{IsOrder};
 ghost use Rattle.switch_order.specs.Levels.{counts_literal, level_literal, with_levels, rises_from};
 ghost use Rattle.switch_order.specs.Sizes.{size_of};
 ghost use Rattle.switch_order.specs.helpers.Within.{AreBeforesWithin, rise_of};

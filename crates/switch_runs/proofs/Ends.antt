@@ -6,33 +6,33 @@ use Rattle.std.specs.List.{All, Contains, cons_option, filter_map, find, last_or
 use Rattle.std.proofs.Math.Bool.{and-false}
 use Rattle.std.proofs.lemmas.Bool.{and_parts, true≢false}
 use Rattle.std.proofs.lemmas.Option.{none-some, same_Some}
-use Rattle.tc_base.specs.Paths.{ThreadPath}
-use Rattle.tc_base.specs.Names.{Name}
-use Rattle.tc_base.specs.declared.failing.Failing.{Failing}
-use Rattle.tc_base.specs.declared.failing.Failing.TheVariants as failing
-use Rattle.tc_base.specs.declared.moves.Move.{Move}
-use Rattle.tc_base.specs.declared.request.Request.{Request}
-use Rattle.tc_base.specs.declared.request.Request.TheVariants.{Write, Fail}
-use Rattle.tc_code.specs.Run.{EndsAs, Reproduces}
-use Rattle.run_history.specs.History.{Deed, Did, Drained, has_drained}
-use Rattle.run_history.specs.Told.{failed_in, fails}
-use Rattle.run_history.proofs.of_pending.In.{In, in_at, in_mapped, in_split}
-use Rattle.run_history.proofs.of_pending.Own.{stores_have_drained}
-use Rattle.path_walk.specs.Paths.{Walk, Paths, paths_of}
-use Rattle.path_walk.specs.declared.event.Event.{Event}
-use Rattle.path_walk.specs.declared.event.EventKind.{EventKind}
-use Rattle.path_walk.specs.declared.event.EventKind.TheVariants as kind
-use Rattle.path_laws.specs.Setting.{Setting}
-use Rattle.path_laws.specs.Deeds.{kind_of}
-use Rattle.path_laws.specs.history.Along.{IsThread, HistoryAlong}
-use Rattle.path_laws.specs.events.Done.{IsDoneIn}
-use Rattle.path_laws.proofs.of_events.Lists.{contains_in, in_contains}
-use Rattle.order_formula.specs.Worlds.{World, IsWorld}
-use Rattle.lawful_order.specs.Events.{HasEvent, IsBefore, Of, all_events, number_of, place_of}
-use Rattle.lawful_order.specs.Memory.{is_store}
-use Rattle.lawful_order.specs.Whole.{HasStep}
-use Rattle.world_plan.specs.Plan.{is_failure}
-use Rattle.world_plan.specs.Sights.{AreInOrder, Shows, Sight, sight_of}
+use Rattle.plan_runs.specs.tc_base.Paths.{ThreadPath}
+use Rattle.plan_runs.specs.tc_base.Names.{Name}
+use Rattle.plan_runs.specs.tc_base.declared.failing.Failing.{Failing}
+use Rattle.plan_runs.specs.tc_base.declared.failing.Failing.TheVariants as failing
+use Rattle.plan_runs.specs.tc_base.declared.moves.Move.{Move}
+use Rattle.plan_runs.specs.tc_base.declared.request.Request.{Request}
+use Rattle.plan_runs.specs.tc_base.declared.request.Request.TheVariants.{Write, Fail}
+use Rattle.plan_runs.specs.tc_code.Run.{EndsAs, Reproduces}
+use Rattle.plan_runs.specs.run_history.History.{Deed, Did, Drained, has_drained}
+use Rattle.plan_runs.specs.run_history.Told.{failed_in, fails}
+use Rattle.plan_runs.proofs.run_history.of_pending.In.{In, in_at, in_mapped, in_split}
+use Rattle.plan_runs.proofs.run_history.of_pending.Own.{stores_have_drained}
+use Rattle.plan_runs.specs.path_walk.Paths.{Walk, Paths, paths_of}
+use Rattle.plan_runs.specs.path_walk.declared.event.Event.{Event}
+use Rattle.plan_runs.specs.path_walk.declared.event.EventKind.{EventKind}
+use Rattle.plan_runs.specs.path_walk.declared.event.EventKind.TheVariants as kind
+use Rattle.plan_runs.specs.path_laws.Setting.{Setting}
+use Rattle.plan_runs.specs.path_laws.Deeds.{kind_of}
+use Rattle.plan_runs.specs.path_laws.history.Along.{IsThread, HistoryAlong}
+use Rattle.plan_runs.specs.path_laws.events.Done.{IsDoneIn}
+use Rattle.plan_runs.proofs.path_laws.of_events.Lists.{contains_in, in_contains}
+use Rattle.order_switches.specs.order_formula.Worlds.{World, IsWorld}
+use Rattle.plan_runs.specs.lawful_order.Events.{HasEvent, IsBefore, Of, all_events, number_of, place_of}
+use Rattle.plan_runs.specs.lawful_order.Memory.{is_store}
+use Rattle.plan_runs.specs.lawful_order.Whole.{HasStep}
+use Rattle.plan_runs.specs.world_plan.Plan.{is_failure}
+use Rattle.plan_runs.specs.world_plan.Sights.{AreInOrder, Shows, Sight, sight_of}
 use Rattle.run_lawful.specs.world.Order.{TakesPlace}
 use Rattle.run_lawful.proofs.of_own.Requests.{failure_fails, none_fails}
 use Rattle.run_lawful.proofs.of_world.Run as run
@@ -42,21 +42,21 @@ use Rattle.run_lawful.proofs.of_world.Splits.{TwoPlaces, Before, Same, After, tw
 use Rattle.run_lawful.proofs.of_world.Steps.{drained_at}
 use Rattle.switch_runs.specs.Worlds.{failing_of}
 use Rattle.std.proofs.lemmas.List.Elements.{All-get_or}
-use Rattle.run_history.proofs.Frame.{holds_after}
-use Rattle.run_history.proofs.Shared.{FailureIs, keeps_failure}
-use Rattle.run_follows.specs.blocked.Stuck.{AllDrained}
-use Rattle.run_follows.proofs.of_blocked.Stuck.{deadlock_told}
-use Rattle.path_laws.specs.history.Along.{IsNameOfThread}
-use Rattle.path_laws.proofs.of_events.Events.{done_event}
+use Rattle.plan_runs.proofs.run_history.Frame.{holds_after}
+use Rattle.plan_runs.proofs.run_history.Shared.{FailureIs, keeps_failure}
+use Rattle.plan_runs.specs.run_follows.blocked.Stuck.{AllDrained}
+use Rattle.plan_runs.proofs.run_follows.of_blocked.Stuck.{deadlock_told}
+use Rattle.plan_runs.specs.path_laws.history.Along.{IsNameOfThread}
+use Rattle.plan_runs.proofs.path_laws.of_events.Events.{done_event}
 use Rattle.order_switches.specs.Switches.{end_at}
-use Rattle.order_events.proofs.Lists as lists
-use Rattle.order_events.proofs.Numbers.{has_number}
-use Rattle.world_plan.proofs.Numbers.{event_numbered, in_find, of_find}
-use Rattle.world_plan.proofs.Places.{among_all, same_event}
+use Rattle.plan_runs.proofs.order_events.Lists as lists
+use Rattle.plan_runs.proofs.order_events.Numbers.{has_number}
+use Rattle.plan_runs.proofs.world_plan.Numbers.{event_numbered, in_find, of_find}
+use Rattle.plan_runs.proofs.world_plan.Places.{among_all, same_event}
 use Rattle.plan_runs.proofs.End.{failure_is, failure_of}
 use Rattle.plan_runs.proofs.of_memory.Issued.{step_named}
 use Rattle.run_lawful.proofs.of_own.Requests.{store_writes}
-use Rattle.path_laws.proofs.of_history.Logged.{history_again}
+use Rattle.plan_runs.proofs.path_laws.of_history.Logged.{history_again}
 
 abbrev asked_of : Deed → Option EventKind
 asked_of (Did n k r v o) = kind_of r o

@@ -6,30 +6,30 @@ use Rattle.std.proofs.lemmas.Bool.{and_from, eq-eqb, true≢false}
 use Rattle.std.proofs.lemmas.List.{length-map}
 use Rattle.std.proofs.lemmas.List.Elements.{All-weaker}
 use Rattle.std.proofs.lemmas.Option.{same_Some}
-use Rattle.tc_base.specs.declared.moves.Move.{Move}
-use Rattle.tc_code.specs.Run.{Reproduces}
-use Rattle.run_laws.proofs.Names.{same_self}
-use Rattle.run_history.specs.History.{Deed, Did, Drained, drains, has_drained, history}
-use Rattle.run_history.proofs.of_pending.In.{In, in_any, in_at, one_of_name}
-use Rattle.run_follows.specs.Follow.{moves_for}
-use Rattle.path_walk.specs.Paths.{Walk, Paths, paths_of}
-use Rattle.path_walk.specs.declared.event.Event.{Event}
-use Rattle.path_walk.specs.declared.event.EventKind.{EventKind}
-use Rattle.path_laws.specs.Setting.{Setting}
-use Rattle.path_laws.specs.Deeds.{kind_of}
-use Rattle.path_laws.specs.history.Along.{IsThread}
-use Rattle.path_laws.proofs.of_events.Lists.{in_contains}
-use Rattle.sym_terms.specs.declared.node.Node.{Node}
-use Rattle.sym_exec.specs.Executed.{Symbolic}
-use Rattle.sym_laws.specs.Valued.{found}
-use Rattle.order_formula.specs.Worlds.{World}
-use Rattle.bit_ranks.specs.Ranks.{ranks_of}
-use Rattle.bit_ranks.proofs.RankLaws.{ranks-below}
-use Rattle.lawful_order.specs.Events.{all_events}
-use Rattle.lawful_order.specs.Memory.{is_store}
-use Rattle.world_plan.specs.Going.{IsLawfulWorld}
-use Rattle.world_plan.specs.Plan.{plan}
-use Rattle.world_plan.specs.Sights.{AreInOrder}
+use Rattle.plan_runs.specs.tc_base.declared.moves.Move.{Move}
+use Rattle.plan_runs.specs.tc_code.Run.{Reproduces}
+use Rattle.plan_runs.proofs.run_laws.Names.{same_self}
+use Rattle.plan_runs.specs.run_history.History.{Deed, Did, Drained, drains, has_drained, history}
+use Rattle.plan_runs.proofs.run_history.of_pending.In.{In, in_any, in_at, one_of_name}
+use Rattle.plan_runs.specs.run_follows.Follow.{moves_for}
+use Rattle.plan_runs.specs.path_walk.Paths.{Walk, Paths, paths_of}
+use Rattle.plan_runs.specs.path_walk.declared.event.Event.{Event}
+use Rattle.plan_runs.specs.path_walk.declared.event.EventKind.{EventKind}
+use Rattle.plan_runs.specs.path_laws.Setting.{Setting}
+use Rattle.plan_runs.specs.path_laws.Deeds.{kind_of}
+use Rattle.plan_runs.specs.path_laws.history.Along.{IsThread}
+use Rattle.plan_runs.proofs.path_laws.of_events.Lists.{in_contains}
+use Rattle.order_switches.specs.sym_terms.declared.node.Node.{Node}
+use Rattle.plan_runs.specs.sym_exec.Executed.{Symbolic}
+use Rattle.plan_runs.specs.sym_laws.Valued.{found}
+use Rattle.order_switches.specs.order_formula.Worlds.{World}
+use Rattle.run_lawful.specs.bit_ranks.Ranks.{ranks_of}
+use Rattle.run_lawful.proofs.bit_ranks.RankLaws.{ranks-below}
+use Rattle.plan_runs.specs.lawful_order.Events.{all_events}
+use Rattle.plan_runs.specs.lawful_order.Memory.{is_store}
+use Rattle.plan_runs.specs.world_plan.Going.{IsLawfulWorld}
+use Rattle.plan_runs.specs.world_plan.Plan.{plan}
+use Rattle.plan_runs.specs.world_plan.Sights.{AreInOrder}
 use Rattle.plan_runs.proofs.End.{fail_ends}
 use Rattle.plan_runs.proofs.Laws as plans
 use Rattle.plan_runs.proofs.Rest.{plan_drained, plan_order}

@@ -6,18 +6,18 @@ use Rattle.std.specs.Option.{option_map_or}
 use Rattle.std.proofs.lemmas.Bool.{and_parts, eqb-true}
 use Rattle.std.proofs.lemmas.List.{get_or-map, length-map}
 use Rattle.std.proofs.lemmas.Option.{none-some, same_Some}
-use Rattle.tc_base.specs.Names.{Name, main}
-use Rattle.run_history.specs.History.{Deed}
-use Rattle.run_history.proofs.of_pending.In.{In, in_at, in_split}
-use Rattle.path_walk.specs.Paths.{Walk, Paths}
-use Rattle.path_walk.specs.declared.event.Event.{Event}
-use Rattle.order_formula.specs.Worlds.{World, IsWorld}
+use Rattle.plan_runs.specs.tc_base.Names.{Name, main}
+use Rattle.plan_runs.specs.run_history.History.{Deed}
+use Rattle.plan_runs.proofs.run_history.of_pending.In.{In, in_at, in_split}
+use Rattle.plan_runs.specs.path_walk.Paths.{Walk, Paths}
+use Rattle.plan_runs.specs.path_walk.declared.event.Event.{Event}
+use Rattle.order_switches.specs.order_formula.Worlds.{World, IsWorld}
 use Rattle.order_switches.specs.Switches.{thread_at}
 use Rattle.order_switches.proofs.Threads.{thread_there}
-use Rattle.lawful_order.specs.Events.{Of, all_events, number_of, place_of}
-use Rattle.lawful_order.specs.Whole.{HasStep}
-use Rattle.order_events.proofs.Numbers.{has_number, is_step_at}
-use Rattle.world_plan.specs.Sights.{AreInOrder, Shows, Sight, sight_of}
+use Rattle.plan_runs.specs.lawful_order.Events.{Of, all_events, number_of, place_of}
+use Rattle.plan_runs.specs.lawful_order.Whole.{HasStep}
+use Rattle.plan_runs.proofs.order_events.Numbers.{has_number, is_step_at}
+use Rattle.plan_runs.specs.world_plan.Sights.{AreInOrder, Shows, Sight, sight_of}
 use Rattle.run_lawful.proofs.of_world.Ordered.{AreSeen}
 use Rattle.switch_runs.specs.Worlds.{threads_of}
 use Rattle.switch_runs.proofs.Sorted.{Rises}

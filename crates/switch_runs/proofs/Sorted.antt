@@ -2,7 +2,7 @@
 use Rattle.std.proofs.Common.{◌≡◌, ◌∙◌, inl, inr, ℕ, zero, suc, ◌+◌, ◌<◌, ◌≤◌, List, [], ◌∷◌, Option, Some, None, refl, sym, ap, ap₂, subst, arith}
 use Rattle.std.specs.List.{cons_option, filter_map, range_with_len}
 use Rattle.std.proofs.lemmas.Bool.{cases_order}
-use Rattle.run_history.proofs.of_pending.In.{In}
+use Rattle.plan_runs.proofs.run_history.of_pending.In.{In}
 
 -- the numbers rise, and the first is at least `a`
 abbrev pub Rises : ℕ → List ℕ → Type 0

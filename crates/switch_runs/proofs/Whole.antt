@@ -6,24 +6,24 @@ use Rattle.std.specs.Option.{option_map_or}
 use Rattle.std.proofs.lemmas.Bool.{eq-eqb, eqb-true, false_from_ne_true, true≢false}
 use Rattle.std.proofs.lemmas.List.Elements.{All-cons, All-nil}
 use Rattle.std.proofs.lemmas.Option.{none-some, slice_get-get_or}
-use Rattle.tc_base.specs.Names.{Name, main}
-use Rattle.tc_base.specs.declared.moves.Move.{Move}
-use Rattle.tc_code.specs.Run.{Reproduces}
-use Rattle.run_laws.proofs.Names.{is_same, same_self}
-use Rattle.run_history.specs.History.{Deed, has_drained, same}
-use Rattle.run_history.proofs.of_pending.In.{In, in_at, in_split}
-use Rattle.path_walk.specs.Paths.{Walk, Paths, paths_of}
-use Rattle.path_walk.specs.declared.event.Event.{Event}
-use Rattle.path_walk.specs.declared.event.EventKind.TheVariants as kind
-use Rattle.path_laws.specs.Setting.{Setting}
-use Rattle.path_laws.specs.history.Along.{IsThread}
-use Rattle.order_formula.specs.Worlds.{World, IsWorld, position}
+use Rattle.plan_runs.specs.tc_base.Names.{Name, main}
+use Rattle.plan_runs.specs.tc_base.declared.moves.Move.{Move}
+use Rattle.plan_runs.specs.tc_code.Run.{Reproduces}
+use Rattle.plan_runs.proofs.run_laws.Names.{is_same, same_self}
+use Rattle.plan_runs.specs.run_history.History.{Deed, has_drained, same}
+use Rattle.plan_runs.proofs.run_history.of_pending.In.{In, in_at, in_split}
+use Rattle.plan_runs.specs.path_walk.Paths.{Walk, Paths, paths_of}
+use Rattle.plan_runs.specs.path_walk.declared.event.Event.{Event}
+use Rattle.plan_runs.specs.path_walk.declared.event.EventKind.TheVariants as kind
+use Rattle.plan_runs.specs.path_laws.Setting.{Setting}
+use Rattle.plan_runs.specs.path_laws.history.Along.{IsThread}
+use Rattle.order_switches.specs.order_formula.Worlds.{World, IsWorld, position}
 use Rattle.order_switches.specs.Switches.{changes, end_at, thread_at, threads_in_order}
 use Rattle.order_switches.proofs.Threads.{event_there}
-use Rattle.lawful_order.specs.Events.{HasEvent, IsBefore, Of, all_events, place_of}
-use Rattle.lawful_order.specs.Memory.{is_store}
-use Rattle.world_plan.specs.Sights.{AreInOrder}
-use Rattle.world_plan.proofs.Numbers.{event_numbered, from_mapped_at, number_is}
+use Rattle.plan_runs.specs.lawful_order.Events.{HasEvent, IsBefore, Of, all_events, place_of}
+use Rattle.plan_runs.specs.lawful_order.Memory.{is_store}
+use Rattle.plan_runs.specs.world_plan.Sights.{AreInOrder}
+use Rattle.plan_runs.proofs.world_plan.Numbers.{event_numbered, from_mapped_at, number_is}
 use Rattle.run_lawful.specs.world.Order.{TakesPlace}
 use Rattle.run_lawful.proofs.of_world.Run as run
 use Rattle.run_lawful.proofs.of_world.Ordered.{AreSeen}

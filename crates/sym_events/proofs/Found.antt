@@ -9,19 +9,19 @@ use Rattle.std.proofs.lemmas.Bool.Decides.{Decides-eqb}
 use Rattle.std.proofs.lemmas.List.{length-map, map-append}
 use Rattle.std.proofs.lemmas.List.Elements.{All-nil, All-cons, All-append, All-weaker}
 use Rattle.std.proofs.lemmas.Option.{none-some, same_Some}
-use Rattle.tc_code.specs.Code.{Code, instr_at, line_at}
-use Rattle.tc_code.specs.declared.instr.Instr.{Instr}
-use Rattle.tc_code.specs.declared.instr.Instr.TheVariants.{Load, LoadAt, Store, StoreAt, Inside, Holds, Ready, Assert, Nonzero, InRange, Swap, Cas, Exit}
-use Rattle.path_walk.specs.Steps.{is_site, step_at, steps_at}
-use Rattle.path_walk.specs.Marks.{Marks, marks_after_instr, marked_from}
-use Rattle.path_walk.specs.Events.{asks, kind_with, events_of}
-use Rattle.path_walk.specs.declared.event.Event.{Event}
-use Rattle.path_walk.specs.declared.event.EventKind.{EventKind}
-use Rattle.path_walk.specs.declared.event.EventKind.TheVariants as kind
-use Rattle.sym_exec.specs.Thread.{Doing, after_instr, wanted_of, after_step, after_all}
-use Rattle.sym_exec.specs.declared.symbolic.Access.{Access}
-use Rattle.sym_exec.specs.declared.symbolic.Cell.{Cell}
-use Rattle.lawful_order.specs.Whole.{kind_of}
+use Rattle.order_cells.specs.tc_code.Code.{Code, instr_at, line_at}
+use Rattle.order_cells.specs.tc_code.declared.instr.Instr.{Instr}
+use Rattle.order_cells.specs.tc_code.declared.instr.Instr.TheVariants.{Load, LoadAt, Store, StoreAt, Inside, Holds, Ready, Assert, Nonzero, InRange, Swap, Cas, Exit}
+use Rattle.order_events.specs.path_walk.Steps.{is_site, step_at, steps_at}
+use Rattle.order_events.specs.path_walk.Marks.{Marks, marks_after_instr, marked_from}
+use Rattle.order_events.specs.path_walk.Events.{asks, kind_with, events_of}
+use Rattle.order_events.specs.path_walk.declared.event.Event.{Event}
+use Rattle.order_events.specs.path_walk.declared.event.EventKind.{EventKind}
+use Rattle.order_events.specs.path_walk.declared.event.EventKind.TheVariants as kind
+use Rattle.order_cells.specs.sym_exec.Thread.{Doing, after_instr, wanted_of, after_step, after_all}
+use Rattle.order_cells.specs.sym_exec.declared.symbolic.Access.{Access}
+use Rattle.order_cells.specs.sym_exec.declared.symbolic.Cell.{Cell}
+use Rattle.order_cells.specs.lawful_order.Whole.{kind_of}
 
 -- an access event: its step and its kind
 pub record CellEvent : Type 0 where

@@ -7,26 +7,26 @@ use Rattle.std.specs.List.{All, Contains}
 use Rattle.std.specs.Option.{IfSome, option_map_or}
 use Rattle.std.proofs.lemmas.Bool.{and_parts}
 use Rattle.std.proofs.lemmas.List.Elements.{All-nil, All-weaker, All-push, All-contains}
-use Rattle.int_ops.specs.declared.arith.UnOp.TheVariants.{Neg}
-use Rattle.int_ops.specs.declared.arith.BinOp.TheVariants.{Xor, Eq, And, Le}
-use Rattle.tc_code.specs.Code.{Code, instr_at, line_at}
-use Rattle.tc_code.specs.Expr.{names_slots}
-use Rattle.tc_code.specs.Lawful.{IsLawful}
-use Rattle.tc_code.specs.Step.{ints_of}
-use Rattle.tc_code.specs.declared.instr.Instr.{Instr}
-use Rattle.tc_code.specs.declared.instr.Instr.TheVariants.{Load, LoadAt, Store, StoreAt, Inside, Branch, Assert, Nonzero, InRange, Swap, Cas}
-use Rattle.path_walk.specs.Paths.{Walk, Paths}
-use Rattle.sym_terms.specs.declared.node.Node.{Node}
-use Rattle.sym_terms.specs.declared.node.Node.TheVariants.{Constant, Symbol, Unary, Binary}
-use Rattle.sym_exec.specs.Making.{Made, Grows, term_of_node, last_index, range_test, replaced_term}
-use Rattle.sym_exec.specs.Thread.{HandsOf, Doing, HasTerms, term_in, with_term, symbol_in, after_instr, wanted_of, after_step, after_all}
-use Rattle.sym_exec.specs.Executed.{Course, Executed, arguments_for, fails_at, thread_started, thread_done, with_thread, nothing, executed}
-use Rattle.sym_exec.specs.declared.symbolic.Access.{Access}
-use Rattle.sym_exec.specs.declared.symbolic.Test.{Test}
-use Rattle.sym_exec.specs.helpers.Threads as helpers
-use Rattle.sym_exec.specs.helpers.Threads.{names_within}
-use Rattle.sym_exec.proofs.Grown.{grows_both, grows_made, made_within, stays_within, stay_of, expr_grows, expr_within}
-use Rattle.sym_exec.proofs.Sound.{instr_goes, instr_named, step_goes, all_go, start_sound, start_has, arguments_sound, thread_sound}
+use Rattle.order_cells.specs.int_ops.declared.arith.UnOp.TheVariants.{Neg}
+use Rattle.order_cells.specs.int_ops.declared.arith.BinOp.TheVariants.{Xor, Eq, And, Le}
+use Rattle.order_cells.specs.tc_code.Code.{Code, instr_at, line_at}
+use Rattle.order_cells.specs.tc_code.Expr.{names_slots}
+use Rattle.order_cells.specs.tc_code.Lawful.{IsLawful}
+use Rattle.order_cells.specs.tc_code.Step.{ints_of}
+use Rattle.order_cells.specs.tc_code.declared.instr.Instr.{Instr}
+use Rattle.order_cells.specs.tc_code.declared.instr.Instr.TheVariants.{Load, LoadAt, Store, StoreAt, Inside, Branch, Assert, Nonzero, InRange, Swap, Cas}
+use Rattle.order_events.specs.path_walk.Paths.{Walk, Paths}
+use Rattle.order_cells.specs.sym_terms.declared.node.Node.{Node}
+use Rattle.order_cells.specs.sym_terms.declared.node.Node.TheVariants.{Constant, Symbol, Unary, Binary}
+use Rattle.order_cells.specs.sym_exec.Making.{Made, Grows, term_of_node, last_index, range_test, replaced_term}
+use Rattle.order_cells.specs.sym_exec.Thread.{HandsOf, Doing, HasTerms, term_in, with_term, symbol_in, after_instr, wanted_of, after_step, after_all}
+use Rattle.order_cells.specs.sym_exec.Executed.{Course, Executed, arguments_for, fails_at, thread_started, thread_done, with_thread, nothing, executed}
+use Rattle.order_cells.specs.sym_exec.declared.symbolic.Access.{Access}
+use Rattle.order_cells.specs.sym_exec.declared.symbolic.Test.{Test}
+use Rattle.order_cells.specs.sym_exec.helpers.Threads as helpers
+use Rattle.order_cells.specs.sym_exec.helpers.Threads.{names_within}
+use Rattle.order_cells.proofs.sym_exec.Grown.{grows_both, grows_made, made_within, stays_within, stay_of, expr_grows, expr_within}
+use Rattle.order_cells.proofs.sym_exec.Sound.{instr_goes, instr_named, step_goes, all_go, start_sound, start_has, arguments_sound, thread_sound}
 use Rattle.order_cells.proofs.Stay.{access_later}
 use Rattle.order_cells.specs.Terms.{CellIsOf, AccessIsOf, HaveTerms}
 use Rattle.order_events.proofs.Lists.{at_in}

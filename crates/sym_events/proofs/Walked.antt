@@ -8,21 +8,21 @@ use Rattle.std.specs.Result.{result_err, result_unwrap_or}
 use Rattle.std.proofs.lemmas.List.Elements.{All-nil, All-cons, All-head, All-tail, All-weaker}
 use Rattle.std.proofs.lemmas.Bool.{false≢true}
 use Rattle.std.proofs.lemmas.Option.{none-some}
-use Rattle.run_log.specs.Logs.{Log}
-use Rattle.tc_base.specs.Paths.{Path, ThreadPath, path_under}
-use Rattle.tc_base.proofs.Names.{same_refl}
-use Rattle.tc_code.specs.Code.{Code}
-use Rattle.path_walk.specs.Steps.{is_failing, is_site, step_at, steps_at, ends_at_site, places_from, places_of, places_if_well_ended}
-use Rattle.path_walk.specs.Fits.{ending_of, places_in, function_of, Fits}
-use Rattle.path_walk.specs.Marks.{marked_steps}
-use Rattle.path_walk.specs.Events.{events_of}
-use Rattle.path_walk.specs.Paths.{Walk, walk_of}
-use Rattle.path_walk.specs.declared.ending.Ending.{Ending}
-use Rattle.path_walk.specs.declared.ending.Ending.TheVariants.{Fails, Rests, Open}
-use Rattle.path_walk.specs.declared.fault.Misfit.{Misfit}
-use Rattle.path_walk.specs.declared.fault.Misfit.TheVariants.{NotASite}
-use Rattle.path_walk.proofs.Faults.{walked_there, by_path, fitting}
-use Rattle.path_walk.proofs.Places.{unrolled, fits_from}
+use Rattle.order_cells.specs.run_log.Logs.{Log}
+use Rattle.order_cells.specs.tc_base.Paths.{Path, ThreadPath, path_under}
+use Rattle.order_cells.proofs.tc_base.Names.{same_refl}
+use Rattle.order_cells.specs.tc_code.Code.{Code}
+use Rattle.order_events.specs.path_walk.Steps.{is_failing, is_site, step_at, steps_at, ends_at_site, places_from, places_of, places_if_well_ended}
+use Rattle.order_events.specs.path_walk.Fits.{ending_of, places_in, function_of, Fits}
+use Rattle.order_events.specs.path_walk.Marks.{marked_steps}
+use Rattle.order_events.specs.path_walk.Events.{events_of}
+use Rattle.order_events.specs.path_walk.Paths.{Walk, walk_of}
+use Rattle.order_events.specs.path_walk.declared.ending.Ending.{Ending}
+use Rattle.order_events.specs.path_walk.declared.ending.Ending.TheVariants.{Fails, Rests, Open}
+use Rattle.order_events.specs.path_walk.declared.fault.Misfit.{Misfit}
+use Rattle.order_events.specs.path_walk.declared.fault.Misfit.TheVariants.{NotASite}
+use Rattle.order_events.proofs.path_walk.Faults.{walked_there, by_path, fitting}
+use Rattle.order_events.proofs.path_walk.Places.{unrolled, fits_from}
 use Rattle.sym_events.proofs.Found.{AreThere, EndsAtSite}
 
 -- a walk with its instructions, whose last step may be at a site

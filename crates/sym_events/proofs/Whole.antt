@@ -6,18 +6,18 @@ use Rattle.std.specs.List.{All, Contains, cons_option}
 use Rattle.std.proofs.lemmas.List.{length-map, map-append}
 use Rattle.std.proofs.lemmas.List.Elements.{All-nil, All-head, All-tail, All-weaker, All-push, All-contains}
 use Rattle.std.proofs.lemmas.Option.{none-some, same_Some, slice_get-map}
-use Rattle.tc_code.specs.Code.{Code}
-use Rattle.path_walk.specs.Marks.{marks_at_start}
-use Rattle.path_walk.specs.Paths.{Walk, Paths, ArePaths}
-use Rattle.path_walk.specs.declared.event.Event.{Event}
-use Rattle.path_walk.specs.declared.event.EventKind.{EventKind}
-use Rattle.path_walk.specs.declared.event.EventKind.TheVariants as kind
-use Rattle.sym_terms.specs.declared.node.Node.{Node}
-use Rattle.sym_exec.specs.Executed.{Course, Symbolic, Executed, fails_at, thread_started, thread_done, with_thread, nothing, executed}
-use Rattle.sym_exec.specs.declared.symbolic.Access.{Access}
-use Rattle.lawful_order.specs.Events.{HasEvent}
-use Rattle.lawful_order.specs.Reads.{HasAccess}
-use Rattle.lawful_order.specs.Whole.{kind_of, IsExecutedBy}
+use Rattle.order_cells.specs.tc_code.Code.{Code}
+use Rattle.order_events.specs.path_walk.Marks.{marks_at_start}
+use Rattle.order_events.specs.path_walk.Paths.{Walk, Paths, ArePaths}
+use Rattle.order_events.specs.path_walk.declared.event.Event.{Event}
+use Rattle.order_events.specs.path_walk.declared.event.EventKind.{EventKind}
+use Rattle.order_events.specs.path_walk.declared.event.EventKind.TheVariants as kind
+use Rattle.order_cells.specs.sym_terms.declared.node.Node.{Node}
+use Rattle.order_cells.specs.sym_exec.Executed.{Course, Symbolic, Executed, fails_at, thread_started, thread_done, with_thread, nothing, executed}
+use Rattle.order_cells.specs.sym_exec.declared.symbolic.Access.{Access}
+use Rattle.order_cells.specs.lawful_order.Events.{HasEvent}
+use Rattle.order_cells.specs.lawful_order.Reads.{HasAccess}
+use Rattle.order_cells.specs.lawful_order.Whole.{kind_of, IsExecutedBy}
 use Rattle.order_events.proofs.Whole.{whole}
 use Rattle.order_events.proofs.Lists.{at_in, in_at, in_map, of_map, in_filter_map, of_filter_map}
 use Rattle.sym_events.proofs.Found.{CellEvent, cell_event, cell_event_at, cell_events, event_by, TakesBelow, takes_more, along_finds}

@@ -1,0 +1,11 @@
+pub use Rattle.order_cells.specs.lawful_order
+pub use Rattle.order_cells.specs.list_laws
+pub use Rattle.order_cells.specs.memory_models
+pub use Rattle.order_events.specs.order_formula
+pub use Rattle.order_events.specs.path_walk
+pub use Rattle.order_cells.specs.run_log
+pub use Rattle.order_cells.specs.store_buffers
+pub use Rattle.order_cells.specs.sym_exec
+pub use Rattle.order_cells.specs.sym_terms
+pub use Rattle.order_cells.specs.tc_base
+pub use Rattle.order_cells.specs.tc_code

@@ -5,13 +5,13 @@
 
 ghost use Rattle.std.specs.Prelude.{◌≡◌, ◌<◌, ℕ, List, Some, length, slice_get};
 ghost use Rattle.std.specs.List.{Contains};
-ghost use Rattle.tc_code.specs.Code.{Code};
-ghost use Rattle.tc_code.specs.Lawful.{IsLawful};
-ghost use Rattle.path_walk.specs.Paths.{Paths, ArePaths};
-ghost use Rattle.sym_terms.specs.declared.node.Node.{Node};
-ghost use Rattle.sym_exec.specs.Executed.{Course, executed};
-ghost use Rattle.sym_exec.specs.declared.symbolic.Test.{Test};
-ghost use Rattle.lawful_order.specs.Whole.{IsExecutedBy};
+ghost use Rattle.order_cells.specs.tc_code.Code.{Code};
+ghost use Rattle.order_cells.specs.tc_code.Lawful.{IsLawful};
+ghost use Rattle.order_events.specs.path_walk.Paths.{Paths, ArePaths};
+ghost use Rattle.order_cells.specs.sym_terms.declared.node.Node.{Node};
+ghost use Rattle.order_cells.specs.sym_exec.Executed.{Course, executed};
+ghost use Rattle.order_cells.specs.sym_exec.declared.symbolic.Test.{Test};
+ghost use Rattle.order_cells.specs.lawful_order.Whole.{IsExecutedBy};
 ghost use Rattle.order_cells.specs.Terms.{HaveTerms};
 
 /// The accesses of the symbolic execution are the paths' loads, stores and exchanges, in the same

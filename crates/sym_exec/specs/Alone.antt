@@ -37,7 +37,9 @@ condition t _ = None
 -- the outcomes of the tests in a thread's next k steps, in order
 abbrev pub outcomes_of : Code → ℕ → Alone → List Bool
 outcomes_of code zero a = []
-outcomes_of code (suc k) a = cons_option (option_and_then (condition a.local) (instr_of code a.local)) (outcomes_of code k (goes_on code a))
+outcomes_of code (suc k) a =
+    cons_option (option_and_then (condition a.local) (instr_of code a.local))
+    (outcomes_of code k (goes_on code a))
 
 -- the outcome of a test: whether its term is nonzero
 abbrev pub outcome_by : List Node → List ℤ → Test → Bool
@@ -50,7 +52,8 @@ given_by t _ = []
 
 abbrev pub given_of : Code → ℕ → Alone → List (List ℤ)
 given_of code zero a = []
-given_of code (suc k) a = option_map_or (given_by a.local) (instr_of code a.local) [] ++ given_of code k (goes_on code a)
+given_of code (suc k) a =
+    option_map_or (given_by a.local) (instr_of code a.local) [] ++ given_of code k (goes_on code a)
 
 -- the values of the arguments that a create hands over
 abbrev pub values_in : List Node → List ℤ → Handed → List ℤ
@@ -67,14 +70,16 @@ abbrev pub asked_by : ℤ → Request → List Asked
 asked_by v (Read c) = record { cell = c; takes = Some v; writes = None } ∷ []
 asked_by v (Write c w) = record { cell = c; takes = None; writes = Some w } ∷ []
 asked_by v (Exchange c w) = record { cell = c; takes = Some v; writes = Some w } ∷ []
-asked_by v (CompareExchange c e w) = record { cell = c; takes = Some v; writes = Some (replaced v e w) } ∷ []
+asked_by v (CompareExchange c e w) =
+    record { cell = c; takes = Some v; writes = Some (replaced v e w) } ∷ []
 asked_by v _ = []
 
 -- the accesses of a thread's next k steps, in order
 abbrev pub asked_of : Code → ℕ → Alone → List Asked
 asked_of code zero a = []
 asked_of code (suc k) a =
-    option_map_or (λ i. asked_by (slice_index_or a.values 0 (pos 0)) (request a.local i)) (instr_of code a.local) [] ++ asked_of code k (goes_on code a)
+    option_map_or (λ i. asked_by (slice_index_or a.values 0 (pos 0)) (request a.local i))
+    (instr_of code a.local) [] ++ asked_of code k (goes_on code a)
 
 -- the cell of a symbolic access, and the whole access, with the values of its terms
 abbrev pub cell_by : List Node → List ℤ → Cell → ℕ
@@ -91,11 +96,14 @@ asked_in nodes loads x = record {
 -- the thread's next instructions are those at these places of a function
 abbrev pub GoesAlong : Code → ℕ → List ℕ → Alone → Type 0
 GoesAlong code f [] a = Unit {0}
-GoesAlong code f (place ∷ places) a = (instr_of code a.local ≡ instr_at code f place) × GoesAlong code f places (goes_on code a)
+GoesAlong code f (place ∷ places) a =
+    (instr_of code a.local ≡ instr_at code f place) × GoesAlong code f places (goes_on code a)
 
 -- the loads numbered from `first` to before `end` take these values in order
 abbrev pub TakesFrom : List ℤ → ℕ → ℕ → List ℤ → Type 0
-TakesFrom loads first end values = (k : ℕ) → first + k < end → slice_index_or loads (first + k) (pos 0) ≡ slice_index_or values k (pos 0)
+TakesFrom loads first end values =
+    (k : ℕ) → first + k < end
+    → slice_index_or loads (first + k) (pos 0) ≡ slice_index_or values k (pos 0)
 
 module _ (code : Code) (f : ℕ) (outcomes : List Bool) (fails : Option ℕ) (loads : List ℤ) where
   -- a symbolic execution that agrees with a thread, which follows the places
@@ -114,10 +122,17 @@ module _ (code : Code) (f : ℕ) (outcomes : List Bool) (fails : Option ℕ) (lo
 
   -- after the steps at the places, slots, tests, creates and accesses agree with their terms
   pub record Tells (places : List ℕ) (d : Doing) (a : Alone) : Type 0 where
-    pub slots : (after_steps code (length places) a).local.slots ≡ slots_by loads (after_all code f outcomes fails d places)
-    pub tests : map (outcome_by (after_all code f outcomes fails d places).nodes loads) (after_all code f outcomes fails d places).tests
-        ≡ map (outcome_by (after_all code f outcomes fails d places).nodes loads) d.tests ++ outcomes_of code (length places) a
-    pub creates : map (values_in (after_all code f outcomes fails d places).nodes loads) (after_all code f outcomes fails d places).creates
-        ≡ map (values_in (after_all code f outcomes fails d places).nodes loads) d.creates ++ given_of code (length places) a
-    pub accesses : map (asked_in (after_all code f outcomes fails d places).nodes loads) (after_all code f outcomes fails d places).accesses
-        ≡ map (asked_in (after_all code f outcomes fails d places).nodes loads) d.accesses ++ asked_of code (length places) a
+    pub slots : (after_steps code (length places) a).local.slots ≡ slots_by loads
+        (after_all code f outcomes fails d places)
+    pub tests : map (outcome_by (after_all code f outcomes fails d places).nodes loads)
+        (after_all code f outcomes fails d places).tests
+        ≡ map (outcome_by (after_all code f outcomes fails d places).nodes loads) d.tests
+        ++ outcomes_of code (length places) a
+    pub creates : map (values_in (after_all code f outcomes fails d places).nodes loads)
+        (after_all code f outcomes fails d places).creates
+        ≡ map (values_in (after_all code f outcomes fails d places).nodes loads) d.creates
+        ++ given_of code (length places) a
+    pub accesses : map (asked_in (after_all code f outcomes fails d places).nodes loads)
+        (after_all code f outcomes fails d places).accesses
+        ≡ map (asked_in (after_all code f outcomes fails d places).nodes loads) d.accesses
+        ++ asked_of code (length places) a

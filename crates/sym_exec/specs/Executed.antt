@@ -37,11 +37,13 @@ handed_by number c = option_map_or (λ h. h.terms) (slice_get c.creates (number 
 
 -- the terms that `parent`, if it is among the courses, hands to its child `number`
 abbrev pub handed_to : List Course → Name → ℕ → List ℕ
-handed_to courses parent number = option_map_or (handed_by number) (find (λ c. bytes_eq c.name parent) courses) []
+handed_to courses parent number =
+    option_map_or (handed_by number) (find (λ c. bytes_eq c.name parent) courses) []
 
 -- the terms of a thread's arguments; main has none
 abbrev pub arguments_for : List Course → Name → List ℕ
-arguments_for courses n = option_map_or (handed_to courses (take (length n - 1) n)) (last_or None n) []
+arguments_for courses n =
+    option_map_or (handed_to courses (take (length n - 1) n)) (last_or None n) []
 
 -- whether the thread `number` is the one that failed
 abbrev pub has_failed : Failing → ℕ → Bool
@@ -50,22 +52,28 @@ has_failed failing.Deadlock number = false
 
 -- the step in which a thread fails, if it does
 abbrev pub fails_at : Paths → ℕ → Walk → Option ℕ
-fails_at paths number w = if has_failed paths.failing number then Some (length w.places - 1) else None
+fails_at paths number w =
+    if has_failed paths.failing number then Some (length w.places - 1) else None
 
 -- a thread's execution at its start
 abbrev pub thread_started : Code → Executed → Walk → Doing
-thread_started code x w = started (ints_of code w.function) (arguments_for x.symbolic.threads w.name) x.symbolic.loads x.nodes
+thread_started code x w =
+    started (ints_of code w.function)
+    (arguments_for x.symbolic.threads w.name) x.symbolic.loads x.nodes
 
 -- a thread's execution along its whole path
 abbrev pub thread_done : Code → Paths → Executed → Walk → Doing
 thread_done code paths x w =
-    after_all code w.function w.outcomes (fails_at paths (length x.symbolic.threads) w) (thread_started code x w) w.places
+    after_all code w.function w.outcomes (fails_at paths (length x.symbolic.threads) w)
+    (thread_started code x w) w.places
 
 -- appends a thread's execution
 abbrev pub with_course : Executed → Name → Doing → Executed
 with_course x name d = record {
   symbolic = record {
-    threads = x.symbolic.threads ++ record { name = name; tests = d.tests; accesses = d.accesses; creates = d.creates } ∷ [];
+    threads =
+        x.symbolic.threads
+        ++ record { name = name; tests = d.tests; accesses = d.accesses; creates = d.creates } ∷ [];
     loads = d.loads;
   };
   nodes = d.nodes;

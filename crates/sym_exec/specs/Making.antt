@@ -26,7 +26,8 @@ term_of_node nodes node = record { term = id_of nodes node; nodes = with_node no
 abbrev pub expr_term : List Node → List ℕ → Expr → Made
 expr_term nodes slots (expr.Number n) = term_of_node nodes (Constant n)
 expr_term nodes slots (expr.Slot k) = record { term = slice_index_or slots k 0; nodes = nodes }
-expr_term nodes slots (expr.Unary op a) = let x = expr_term nodes slots a in term_of_node x.nodes (Unary op x.term)
+expr_term nodes slots (expr.Unary op a) =
+    let x = expr_term nodes slots a in term_of_node x.nodes (Unary op x.term)
 expr_term nodes slots (expr.Binary op a b) =
     let x = expr_term nodes slots a in
     let y = expr_term x.nodes slots b in
@@ -34,7 +35,9 @@ expr_term nodes slots (expr.Binary op a b) =
 
 -- the terms with that of one more expression, and the terms of a list of expressions
 abbrev pub with_expr : List ℕ → AllMade → Expr → AllMade
-with_expr slots xs e = let x = expr_term xs.nodes slots e in record { terms = xs.terms ++ x.term ∷ []; nodes = x.nodes }
+with_expr slots xs e =
+    let x = expr_term xs.nodes slots e in
+    record { terms = xs.terms ++ x.term ∷ []; nodes = x.nodes }
 
 abbrev pub expr_terms : List Node → List ℕ → List Expr → AllMade
 expr_terms nodes slots es = fold (with_expr slots) (record { terms = []; nodes = nodes }) es

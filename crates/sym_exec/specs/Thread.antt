@@ -76,11 +76,21 @@ with_slot d k x = record d { slots = slice_set d.slots k x.term; nodes = x.nodes
 
 -- appends the test that a term is nonzero, or that it is 0
 abbrev pub with_test : Doing → ℕ → Bool → Made → Doing
-with_test d line wanted x = record d { nodes = x.nodes; tests = d.tests ++ record { step = d.steps; line = line; term = x.term; wanted = wanted } ∷ [] }
+with_test d line wanted x =
+    record d {
+      nodes = x.nodes;
+      tests = d.tests
+          ++ record { step = d.steps; line = line; term = x.term; wanted = wanted } ∷ [];
+    }
 
 -- appends a store of a term to a cell
 abbrev pub with_store : Doing → Cell → Made → Doing
-with_store d cell x = record d { nodes = x.nodes; accesses = d.accesses ++ record { step = d.steps; cell = cell; takes = None; writes = Some x.term } ∷ [] }
+with_store d cell x =
+    record d {
+      nodes = x.nodes;
+      accesses = d.accesses
+          ++ record { step = d.steps; cell = cell; takes = None; writes = Some x.term } ∷ [];
+    }
 
 -- the symbol of the next load
 abbrev pub symbol_in : Doing → Made
@@ -91,7 +101,9 @@ abbrev pub with_load : Doing → ℕ → Cell → ℕ → Option ℕ → Doing
 with_load d k cell symbol writes = record d {
   slots = slice_set d.slots k symbol;
   loads = d.loads + 1;
-  accesses = d.accesses ++ record { step = d.steps; cell = cell; takes = Some d.loads; writes = writes } ∷ [];
+  accesses =
+      d.accesses
+      ++ record { step = d.steps; cell = cell; takes = Some d.loads; writes = writes } ∷ [];
 }
 
 -- loads a cell into a slot
@@ -100,7 +112,8 @@ reading d k cell = let v = symbol_in d in with_load (with_term d v) k cell v.ter
 
 -- exchanges a cell: loads it into a slot, and stores a term to it
 abbrev pub with_exchange : Doing → ℕ → Cell → Made → Doing
-with_exchange d k cell x = let v = symbol_in (with_term d x) in with_load (with_term d v) k cell v.term (Some x.term)
+with_exchange d k cell x =
+    let v = symbol_in (with_term d x) in with_load (with_term d v) k cell v.term (Some x.term)
 
 -- compares and exchanges a cell: loads it into a slot, and stores `new` if it was `expected`
 abbrev pub with_compare_exchange : Doing → ℕ → Cell → Expr → Expr → Doing
@@ -113,17 +126,24 @@ with_compare_exchange d k cell expected new =
 
 -- appends a create that hands the terms of expressions to a child
 abbrev pub with_handed_terms : Doing → List Expr → Doing
-with_handed_terms d es = let xs = expr_terms d.nodes d.slots es in record d { nodes = xs.nodes; creates = d.creates ++ record { step = d.steps; terms = xs.terms } ∷ [] }
+with_handed_terms d es =
+    let xs = expr_terms d.nodes d.slots es in
+    record d
+    { nodes = xs.nodes; creates = d.creates ++ record { step = d.steps; terms = xs.terms } ∷ [] }
 
 -- the execution after an instruction at `line`, where `wanted` is the wanted outcome of a test
 abbrev pub after_instr : ℕ → Bool → Doing → Instr → Doing
 after_instr line wanted d (Set k e) = with_slot d k (term_in d e)
 after_instr line wanted d (Load k c) = reading d k (Fixed c)
-after_instr line wanted d (LoadAt k first len i) = let x = term_in d i in reading (with_term d x) k (Element first len x.term)
+after_instr line wanted d (LoadAt k first len i) =
+    let x = term_in d i in reading (with_term d x) k (Element first len x.term)
 after_instr line wanted d (Store c e) = with_store d (Fixed c) (term_in d e)
-after_instr line wanted d (StoreAt first len i e) = let x = term_in d i in with_store d (Element first len x.term) (term_in (with_term d x) e)
-after_instr line wanted d (Inside len i) = with_test d line wanted (range_test (term_in d i) (last_index len))
-after_instr line wanted d (Branch e to) = record (with_test d line wanted (term_in d e)) { branches = d.branches + 1 }
+after_instr line wanted d (StoreAt first len i e) =
+    let x = term_in d i in with_store d (Element first len x.term) (term_in (with_term d x) e)
+after_instr line wanted d (Inside len i) =
+    with_test d line wanted (range_test (term_in d i) (last_index len))
+after_instr line wanted d (Branch e to) =
+    record (with_test d line wanted (term_in d e)) { branches = d.branches + 1 }
 after_instr line wanted d (Create h f es) = with_handed_terms d es
 after_instr line wanted d (Assert e) = with_test d line wanted (term_in d e)
 after_instr line wanted d (Nonzero e) = with_test d line wanted (term_in d e)
@@ -141,7 +161,8 @@ wanted_of outcomes (Some k) d i = not (d.steps == k)
 -- the execution after the instruction at a place of a function, if there is one
 abbrev pub after_step : Code → ℕ → List Bool → Option ℕ → Doing → ℕ → Doing
 after_step code f outcomes fails d place = option_map_or (λ i.
-    record (after_instr (unwrap_or (line_at code f place) 0) (wanted_of outcomes fails d i) d i) { steps = d.steps + 1 }) (instr_at code f place) d
+    record (after_instr (unwrap_or (line_at code f place) 0) (wanted_of outcomes fails d i) d i)
+    { steps = d.steps + 1 }) (instr_at code f place) d
 
 -- the execution after the steps at these places; `fails` is the step in which the thread fails
 abbrev pub after_all : Code → ℕ → List Bool → Option ℕ → Doing → List ℕ → Doing

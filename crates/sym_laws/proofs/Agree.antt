@@ -8,15 +8,15 @@ use Rattle.std.specs.List.{filter_map, flat_map, cons_option}
 use Rattle.std.proofs.lemmas.Bool.{eq-eqb}
 use Rattle.std.proofs.lemmas.List.{length-map}
 use Rattle.std.proofs.lemmas.Option.{none-some, same_Some, slice_get-map, get_or_from_slice_get}
-use Rattle.tc_base.specs.Names.{Name}
-use Rattle.tc_base.specs.Buffers.{BufferOps}
-use Rattle.tc_base.specs.States.{Thread, State}
-use Rattle.tc_base.specs.declared.moves.Move.{Move}
-use Rattle.tc_base.specs.declared.request.Request.{Request}
-use Rattle.tc_code.specs.Code.{Code}
-use Rattle.tc_code.specs.Run.{run}
-use Rattle.run_history.specs.History.{Deed, Did, Drained, same, history}
-use Rattle.run_laws.proofs.Names.{same_self}
+use Rattle.sym_exec.specs.tc_base.Names.{Name}
+use Rattle.sym_exec.specs.tc_base.Buffers.{BufferOps}
+use Rattle.sym_exec.specs.tc_base.States.{Thread, State}
+use Rattle.sym_exec.specs.tc_base.declared.moves.Move.{Move}
+use Rattle.sym_exec.specs.tc_base.declared.request.Request.{Request}
+use Rattle.sym_exec.specs.tc_code.Code.{Code}
+use Rattle.sym_exec.specs.tc_code.Run.{run}
+use Rattle.path_laws.specs.run_history.History.{Deed, Did, Drained, same, history}
+use Rattle.sym_exec.proofs.run_laws.Names.{same_self}
 use Rattle.path_laws.specs.Deeds.{number_by}
 use Rattle.path_laws.proofs.Deeds.{steps_are_numbered}
 use Rattle.sym_exec.specs.Executed.{Course, Symbolic}

@@ -6,23 +6,23 @@ use Rattle.std.specs.List.{AllByRecursion as Each, filter_map, cons_option}
 use Rattle.std.proofs.lemmas.Bool.{false≢true}
 use Rattle.std.proofs.lemmas.List.{append_cancel_left, length-map}
 use Rattle.std.proofs.lemmas.Option.{same_Some}
-use Rattle.tc_base.specs.States.{Local}
-use Rattle.tc_base.specs.declared.request.Request.{Request}
-use Rattle.tc_base.specs.declared.request.Request.TheVariants.{Fail}
-use Rattle.int_ops.specs.Arith.{IsInt}
-use Rattle.tc_code.specs.Code.{Code, instr_at}
-use Rattle.tc_code.specs.declared.instr.Instr.{Instr}
-use Rattle.tc_code.specs.declared.instr.Instr.TheVariants.{Inside, Branch, Create, Holds, Ready, Assert, Nonzero, InRange}
-use Rattle.tc_code.specs.Lawful.{IsLawful}
-use Rattle.tc_code.specs.Step.{request, site, local_after, step_by_branch, is_nonzero, value_in}
-use Rattle.run_laws.proofs.Changes.{is_fail}
-use Rattle.run_laws.specs.Ints.{AsksInts}
-use Rattle.run_history.specs.Locals.{after_step as thread_after}
-use Rattle.path_walk.specs.Fits.{starts}
-use Rattle.path_walk.specs.Steps.{is_site}
+use Rattle.sym_exec.specs.tc_base.States.{Local}
+use Rattle.sym_exec.specs.tc_base.declared.request.Request.{Request}
+use Rattle.sym_exec.specs.tc_base.declared.request.Request.TheVariants.{Fail}
+use Rattle.sym_exec.specs.int_ops.Arith.{IsInt}
+use Rattle.sym_exec.specs.tc_code.Code.{Code, instr_at}
+use Rattle.sym_exec.specs.tc_code.declared.instr.Instr.{Instr}
+use Rattle.sym_exec.specs.tc_code.declared.instr.Instr.TheVariants.{Inside, Branch, Create, Holds, Ready, Assert, Nonzero, InRange}
+use Rattle.sym_exec.specs.tc_code.Lawful.{IsLawful}
+use Rattle.sym_exec.specs.tc_code.Step.{request, site, local_after, step_by_branch, is_nonzero, value_in}
+use Rattle.sym_exec.proofs.run_laws.Changes.{is_fail}
+use Rattle.sym_exec.specs.run_laws.Ints.{AsksInts}
+use Rattle.path_laws.specs.run_history.Locals.{after_step as thread_after}
+use Rattle.sym_exec.specs.path_walk.Fits.{starts}
+use Rattle.sym_exec.specs.path_walk.Steps.{is_site}
 use Rattle.path_laws.proofs.Local.{children_move}
 use Rattle.path_laws.proofs.States.{fail_is_site}
-use Rattle.sym_terms.specs.declared.node.Node.{Node}
+use Rattle.sym_exec.specs.sym_terms.declared.node.Node.{Node}
 use Rattle.sym_exec.specs.Making.{Grows}
 use Rattle.sym_exec.specs.Thread.{Handed, Doing, after_instr, wanted_of}
 use Rattle.sym_exec.specs.Alone.{slots_by, condition, given_by, values_in, asked_by, asked_in, outcome_by}

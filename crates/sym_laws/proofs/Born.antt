@@ -6,27 +6,27 @@ use Rattle.std.specs.List.{flat_map, find}
 use Rattle.std.specs.Option.{option_map_or}
 use Rattle.std.proofs.lemmas.List.{take-take}
 use Rattle.std.proofs.lemmas.Option.{same_Some, slice_get-get_or, slice_get_within}
-use Rattle.tc_base.specs.Names.{Name, child}
-use Rattle.run_log.specs.Logs.{Log}
-use Rattle.tc_base.specs.Paths.{ThreadPath}
-use Rattle.tc_base.specs.States.{Local}
-use Rattle.tc_base.specs.declared.request.Request.TheVariants.{Start}
-use Rattle.tc_code.specs.Code.{Code}
-use Rattle.tc_code.specs.declared.instr.Instr.{Instr}
-use Rattle.tc_code.specs.declared.instr.Instr.TheVariants.{Inside, Create, Holds, Ready, Assert, Nonzero, InRange}
-use Rattle.tc_code.specs.Lawful.{IsLawful}
-use Rattle.tc_code.specs.Step.{request, ints_of, arguments_of}
-use Rattle.run_laws.proofs.Names.{child_apart}
-use Rattle.run_history.specs.History.{Deed, Did}
-use Rattle.run_history.specs.Locals.{after_step as thread_after, born_local}
-use Rattle.run_log.specs.Logs.{is_log}
+use Rattle.sym_exec.specs.tc_base.Names.{Name, child}
+use Rattle.sym_exec.specs.run_log.Logs.{Log}
+use Rattle.sym_exec.specs.tc_base.Paths.{ThreadPath}
+use Rattle.sym_exec.specs.tc_base.States.{Local}
+use Rattle.sym_exec.specs.tc_base.declared.request.Request.TheVariants.{Start}
+use Rattle.sym_exec.specs.tc_code.Code.{Code}
+use Rattle.sym_exec.specs.tc_code.declared.instr.Instr.{Instr}
+use Rattle.sym_exec.specs.tc_code.declared.instr.Instr.TheVariants.{Inside, Create, Holds, Ready, Assert, Nonzero, InRange}
+use Rattle.sym_exec.specs.tc_code.Lawful.{IsLawful}
+use Rattle.sym_exec.specs.tc_code.Step.{request, ints_of, arguments_of}
+use Rattle.sym_exec.proofs.run_laws.Names.{child_apart}
+use Rattle.path_laws.specs.run_history.History.{Deed, Did}
+use Rattle.path_laws.specs.run_history.Locals.{after_step as thread_after, born_local}
+use Rattle.sym_exec.specs.run_log.Logs.{is_log}
 use Rattle.path_laws.proofs.States.{site_starts_none}
-use Rattle.path_walk.specs.Fits.{function_of}
-use Rattle.path_walk.specs.Paths.{Walk, walk_of, paths_of}
-use Rattle.tc_base.proofs.Names.{same_refl}
-use Rattle.sym_terms.specs.Terms.{AreTerms}
-use Rattle.sym_terms.specs.Values.{value_of}
-use Rattle.sym_terms.specs.declared.node.Node.{Node}
+use Rattle.sym_exec.specs.path_walk.Fits.{function_of}
+use Rattle.sym_exec.specs.path_walk.Paths.{Walk, walk_of, paths_of}
+use Rattle.sym_exec.proofs.tc_base.Names.{same_refl}
+use Rattle.sym_exec.specs.sym_terms.Terms.{AreTerms}
+use Rattle.sym_exec.specs.sym_terms.Values.{value_of}
+use Rattle.sym_exec.specs.sym_terms.declared.node.Node.{Node}
 use Rattle.sym_exec.specs.Making.{Grows}
 use Rattle.sym_exec.specs.Thread.{Handed, Doing, started}
 use Rattle.sym_exec.specs.Executed.{Course, Executed, handed_by, arguments_for, fails_at, thread_done}
@@ -35,7 +35,7 @@ use Rattle.sym_exec.proofs.Begun.{start_slots}
 use Rattle.sym_exec.proofs.Courses.{takes_from_parent}
 use Rattle.sym_exec.proofs.Grown.{grows_both}
 use Rattle.sym_exec.proofs.Sound.{arguments_sound}
-use Rattle.list_laws.proofs.Lists.{get_front, get_seam}
+use Rattle.sym_exec.proofs.list_laws.Lists.{get_front, get_seam}
 use Rattle.sym_laws.specs.Valued.{AgreesWith, asked_of, found, found_before, execution}
 use Rattle.sym_laws.proofs.Lists.{get_take, found_at}
 use Rattle.sym_laws.proofs.Names.{parent_before, others_before}

@@ -5,13 +5,13 @@ use Rattle.std.specs.Prelude.{slice_get}
 use Rattle.std.specs.List.{All}
 use Rattle.std.proofs.lemmas.List.Elements.{All-nil}
 use Rattle.std.proofs.lemmas.List.Sums.{fold-append}
-use Rattle.tc_code.specs.Code.{Code}
-use Rattle.tc_code.specs.Lawful.{IsLawful}
-use Rattle.tc_code.specs.Step.{ints_of}
-use Rattle.path_walk.specs.Paths.{Walk, Paths}
-use Rattle.sym_terms.specs.Terms.{AreTerms}
-use Rattle.sym_terms.specs.declared.node.Node.{Node}
-use Rattle.sym_terms.specs.declared.node.Node.TheVariants.{Constant}
+use Rattle.sym_exec.specs.tc_code.Code.{Code}
+use Rattle.sym_exec.specs.tc_code.Lawful.{IsLawful}
+use Rattle.sym_exec.specs.tc_code.Step.{ints_of}
+use Rattle.sym_exec.specs.path_walk.Paths.{Walk, Paths}
+use Rattle.sym_exec.specs.sym_terms.Terms.{AreTerms}
+use Rattle.sym_exec.specs.sym_terms.declared.node.Node.{Node}
+use Rattle.sym_exec.specs.sym_terms.declared.node.Node.TheVariants.{Constant}
 use Rattle.sym_exec.specs.Making.{Grows}
 use Rattle.sym_exec.specs.Thread.{Doing, HandsOf}
 use Rattle.sym_exec.specs.Executed.{Course, Executed, arguments_for, fails_at, thread_started, thread_done, with_thread, nothing}
@@ -19,7 +19,7 @@ use Rattle.sym_exec.specs.helpers.Threads.{HaveTerms}
 use Rattle.sym_exec.proofs.Grown.{grows_none, grows_both, grows_made}
 use Rattle.sym_exec.proofs.Sound.{start_sound, start_has, arguments_sound, thread_sound}
 use Rattle.sym_exec.proofs.Values.{constant_value}
-use Rattle.list_laws.proofs.Lists.{get_seam, split_at}
+use Rattle.sym_exec.proofs.list_laws.Lists.{get_seam, split_at}
 use Rattle.sym_laws.proofs.Lists.{long_front}
 use Rattle.sym_laws.proofs.Steps.{IsFine, IsNext, all_on}
 

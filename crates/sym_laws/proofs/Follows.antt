@@ -7,28 +7,28 @@ use Rattle.std.proofs.lemmas.Grind.{flat_map-append}
 use Rattle.std.proofs.lemmas.List.{map-append, take-append-drop}
 use Rattle.std.proofs.lemmas.List.Sums.{fold-append}
 use Rattle.std.proofs.lemmas.Option.{slice_get-map}
-use Rattle.int_ops.specs.Arith.{IsInt}
-use Rattle.tc_base.specs.Names.{Name}
-use Rattle.run_log.specs.Logs.{Log}
-use Rattle.tc_base.specs.Paths.{ThreadPath}
-use Rattle.tc_base.specs.States.{Local}
-use Rattle.tc_base.specs.declared.request.Request.{Request}
-use Rattle.tc_code.specs.Code.{Code, instr_at}
-use Rattle.tc_code.specs.declared.instr.Instr.{Instr}
-use Rattle.tc_code.specs.Lawful.{IsLawful}
-use Rattle.tc_code.specs.Step.{request}
-use Rattle.run_laws.proofs.Changes.{is_fail}
-use Rattle.run_history.specs.History.{Deed, Did, same}
-use Rattle.run_history.specs.Locals.{after_step as thread_after}
-use Rattle.run_laws.specs.Ints.{AsksInts}
-use Rattle.run_laws.proofs.Names.{same_self, same_other}
-use Rattle.run_history.proofs.Threads.{steps_by}
-use Rattle.list_laws.proofs.Lists.{get_seam}
-use Rattle.run_log.specs.Logs.{is_log}
-use Rattle.path_walk.specs.Fits.{fails_in, places_in, function_of}
-use Rattle.path_walk.specs.Paths.{Walk, walk_of, paths_of}
-use Rattle.sym_terms.specs.Terms.{AreTerms}
-use Rattle.sym_terms.specs.declared.node.Node.{Node}
+use Rattle.sym_exec.specs.int_ops.Arith.{IsInt}
+use Rattle.sym_exec.specs.tc_base.Names.{Name}
+use Rattle.sym_exec.specs.run_log.Logs.{Log}
+use Rattle.sym_exec.specs.tc_base.Paths.{ThreadPath}
+use Rattle.sym_exec.specs.tc_base.States.{Local}
+use Rattle.sym_exec.specs.tc_base.declared.request.Request.{Request}
+use Rattle.sym_exec.specs.tc_code.Code.{Code, instr_at}
+use Rattle.sym_exec.specs.tc_code.declared.instr.Instr.{Instr}
+use Rattle.sym_exec.specs.tc_code.Lawful.{IsLawful}
+use Rattle.sym_exec.specs.tc_code.Step.{request}
+use Rattle.sym_exec.proofs.run_laws.Changes.{is_fail}
+use Rattle.path_laws.specs.run_history.History.{Deed, Did, same}
+use Rattle.path_laws.specs.run_history.Locals.{after_step as thread_after}
+use Rattle.sym_exec.specs.run_laws.Ints.{AsksInts}
+use Rattle.sym_exec.proofs.run_laws.Names.{same_self, same_other}
+use Rattle.path_laws.proofs.run_history.Threads.{steps_by}
+use Rattle.sym_exec.proofs.list_laws.Lists.{get_seam}
+use Rattle.sym_exec.specs.run_log.Logs.{is_log}
+use Rattle.sym_exec.specs.path_walk.Fits.{fails_in, places_in, function_of}
+use Rattle.sym_exec.specs.path_walk.Paths.{Walk, walk_of, paths_of}
+use Rattle.sym_exec.specs.sym_terms.Terms.{AreTerms}
+use Rattle.sym_exec.specs.sym_terms.declared.node.Node.{Node}
 use Rattle.sym_exec.specs.Making.{Grows}
 use Rattle.sym_exec.specs.Thread.{Doing, after_step, after_all}
 use Rattle.sym_exec.specs.Executed.{has_failed, fails_at, thread_started, thread_done}

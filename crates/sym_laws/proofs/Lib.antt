@@ -1,3 +1,7 @@
+pub use Rattle.path_laws.proofs as path_laws
+pub use Rattle.path_laws.proofs.run_follows
+pub use Rattle.path_laws.proofs.run_history
+pub use Rattle.sym_exec.proofs as sym_exec
 pub mod Lists
 pub mod Names
 pub mod Steps

@@ -5,7 +5,7 @@ use Rattle.std.specs.Prelude.{slice_get}
 use Rattle.std.specs.List.{AllByRecursion as Each, filter, filter_map, cons_option, find}
 use Rattle.std.proofs.lemmas.Option.{none-some, same_Some, slice_get_within}
 use Rattle.std.proofs.lemmas.List.{length-take-le}
-use Rattle.list_laws.proofs.Lists.{get_front}
+use Rattle.sym_exec.proofs.list_laws.Lists.{get_front}
 use Rattle.sym_laws.specs.Valued.{IsOneOf}
 
 pub in_front : {X : Type 0} (x : X) (xs more : List X) → IsOneOf x xs → IsOneOf x (xs ++ more)

@@ -9,30 +9,30 @@ use Rattle.std.specs.Ordering.{nat_cmp}
 use Rattle.std.specs.Cmp.Lexicographic.{slice_cmp}
 use Rattle.std.proofs.lemmas.List.Sums.{sum_by-append}
 use Rattle.std.proofs.lemmas.Option.{none-some, same_Some}
-use Rattle.tc_base.specs.Names.{Name, ByName, child}
-use Rattle.tc_base.specs.Buffers.{BufferOps}
-use Rattle.run_log.specs.Logs.{Log}
-use Rattle.tc_base.specs.Paths.{ThreadPath}
-use Rattle.tc_base.specs.States.{Local, Thread, State}
-use Rattle.tc_base.specs.declared.request.Request.{Request}
-use Rattle.tc_base.specs.declared.request.Request.TheVariants.{Start}
-use Rattle.tc_code.specs.Code.{Code}
-use Rattle.tc_code.specs.declared.instr.Instr.{Instr}
-use Rattle.tc_code.specs.Lawful.{IsLawful}
-use Rattle.tc_code.specs.Run.{IsReached}
-use Rattle.tc_code.specs.Step.{request, arguments_of, born, opening}
-use Rattle.run_laws.proofs.Created.{child_is_new}
-use Rattle.run_laws.proofs.Names.{get_put_cases}
-use Rattle.run_history.specs.History.{Deed, Did, Drained, same, value_taken}
-use Rattle.run_history.specs.Told.{is_step_of, steps_in}
-use Rattle.run_history.proofs.Threads.{ThreadsAre, own, with_born}
-use Rattle.run_log.specs.Logs.{is_log}
+use Rattle.sym_exec.specs.tc_base.Names.{Name, ByName, child}
+use Rattle.sym_exec.specs.tc_base.Buffers.{BufferOps}
+use Rattle.sym_exec.specs.run_log.Logs.{Log}
+use Rattle.sym_exec.specs.tc_base.Paths.{ThreadPath}
+use Rattle.sym_exec.specs.tc_base.States.{Local, Thread, State}
+use Rattle.sym_exec.specs.tc_base.declared.request.Request.{Request}
+use Rattle.sym_exec.specs.tc_base.declared.request.Request.TheVariants.{Start}
+use Rattle.sym_exec.specs.tc_code.Code.{Code}
+use Rattle.sym_exec.specs.tc_code.declared.instr.Instr.{Instr}
+use Rattle.sym_exec.specs.tc_code.Lawful.{IsLawful}
+use Rattle.sym_exec.specs.tc_code.Run.{IsReached}
+use Rattle.sym_exec.specs.tc_code.Step.{request, arguments_of, born, opening}
+use Rattle.sym_exec.proofs.run_laws.Created.{child_is_new}
+use Rattle.sym_exec.proofs.run_laws.Names.{get_put_cases}
+use Rattle.path_laws.specs.run_history.History.{Deed, Did, Drained, same, value_taken}
+use Rattle.path_laws.specs.run_history.Told.{is_step_of, steps_in}
+use Rattle.path_laws.proofs.run_history.Threads.{ThreadsAre, own, with_born}
+use Rattle.sym_exec.specs.run_log.Logs.{is_log}
 use Rattle.path_laws.proofs.Does.{Does, Drains}
-use Rattle.path_walk.specs.Fits.{function_of}
-use Rattle.path_walk.specs.Paths.{walk_of}
-use Rattle.sym_terms.specs.Terms.{AreTerms}
-use Rattle.sym_terms.specs.Values.{value_of}
-use Rattle.sym_terms.specs.declared.node.Node.{Node}
+use Rattle.sym_exec.specs.path_walk.Fits.{function_of}
+use Rattle.sym_exec.specs.path_walk.Paths.{walk_of}
+use Rattle.sym_exec.specs.sym_terms.Terms.{AreTerms}
+use Rattle.sym_exec.specs.sym_terms.Values.{value_of}
+use Rattle.sym_exec.specs.sym_terms.declared.node.Node.{Node}
 use Rattle.sym_exec.specs.Executed.{arguments_for}
 use Rattle.sym_exec.specs.Alone.{asked_by}
 use Rattle.sym_laws.specs.Valued.{AgreesWith, asked_of, found, found_before, execution}

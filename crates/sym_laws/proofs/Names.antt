@@ -5,18 +5,18 @@ use Rattle.std.specs.Prelude.{slice_get, nat_lt, option_and_then, option_map}
 use Rattle.std.specs.declared.cmp.Ordering.TheVariants.{Less}
 use Rattle.std.proofs.lemmas.Bool.{and_parts, ltb-true}
 use Rattle.std.proofs.lemmas.Option.{same_Some, slice_get-get_or}
-use Rattle.tc_base.specs.Names.{child, by_name}
-use Rattle.run_log.specs.Logs.{Log}
-use Rattle.tc_base.specs.Paths.{ThreadPath, place_in}
-use Rattle.tc_base.specs.declared.failing.Failing.{Failing}
-use Rattle.tc_base.specs.declared.failing.Failing.TheVariants as failing
-use Rattle.run_log.specs.Logs.{rises_from, is_there, is_log}
-use Rattle.run_log.proofs.Rising.{rise as rise_in}
-use Rattle.path_walk.specs.Fits.{ending_by, fails_in}
-use Rattle.path_walk.specs.Steps.{is_failing}
+use Rattle.sym_exec.specs.tc_base.Names.{child, by_name}
+use Rattle.sym_exec.specs.run_log.Logs.{Log}
+use Rattle.sym_exec.specs.tc_base.Paths.{ThreadPath, place_in}
+use Rattle.sym_exec.specs.tc_base.declared.failing.Failing.{Failing}
+use Rattle.sym_exec.specs.tc_base.declared.failing.Failing.TheVariants as failing
+use Rattle.sym_exec.specs.run_log.Logs.{rises_from, is_there, is_log}
+use Rattle.sym_exec.proofs.run_log.Rising.{rise as rise_in}
+use Rattle.sym_exec.specs.path_walk.Fits.{ending_by, fails_in}
+use Rattle.sym_exec.specs.path_walk.Steps.{is_failing}
 use Rattle.path_laws.proofs.Prefixes.{failing_by}
 use Rattle.sym_exec.specs.Executed.{has_failed}
-use Rattle.tc_base.proofs.Names.{between, not_itself, child_is_above, apart_less, apart_above, same_refl}
+use Rattle.sym_exec.proofs.tc_base.Names.{between, not_itself, child_is_above, apart_less, apart_above, same_refl}
 
 order : (j k : ℕ) → (j < k) ⊎ ((j ≡ k) ⊎ (k < j))
 order j k = by (nat_lt j k) refl (nat_lt k j) refl

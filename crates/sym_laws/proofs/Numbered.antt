@@ -7,11 +7,11 @@ use Rattle.std.proofs.lemmas.Grind.{flat_map-append}
 use Rattle.std.proofs.lemmas.List.{map-append}
 use Rattle.std.proofs.lemmas.List.Elements.{filter_map-append}
 use Rattle.std.proofs.lemmas.Option.{none-some, same_Some}
-use Rattle.tc_base.specs.Names.{Name}
-use Rattle.tc_code.specs.Code.{Code, instr_at}
-use Rattle.tc_code.specs.declared.instr.Instr.{Instr}
-use Rattle.path_walk.specs.Paths.{Walk, Paths}
-use Rattle.sym_terms.specs.declared.node.Node.{Node}
+use Rattle.sym_exec.specs.tc_base.Names.{Name}
+use Rattle.sym_exec.specs.tc_code.Code.{Code, instr_at}
+use Rattle.sym_exec.specs.tc_code.declared.instr.Instr.{Instr}
+use Rattle.sym_exec.specs.path_walk.Paths.{Walk, Paths}
+use Rattle.sym_exec.specs.sym_terms.declared.node.Node.{Node}
 use Rattle.sym_exec.specs.Thread.{Doing, wanted_of, after_all}
 use Rattle.sym_exec.specs.Executed.{Executed, fails_at, thread_started, thread_done, with_thread, nothing}
 use Rattle.sym_exec.specs.declared.symbolic.Access.{Access}

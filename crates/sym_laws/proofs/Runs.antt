@@ -5,34 +5,34 @@ use Rattle.std.specs.Prelude.{slice_get}
 use Rattle.std.specs.Option.{option_map_or}
 use Rattle.std.specs.FinMap as fin
 use Rattle.std.proofs.lemmas.Option.{same_Some, option_and_then_some}
-use Rattle.tc_base.specs.Names.{Name}
-use Rattle.tc_base.specs.Buffers.{BufferOps}
-use Rattle.run_log.specs.Logs.{Log}
-use Rattle.tc_base.specs.Paths.{Path, ThreadPath, path_under}
-use Rattle.tc_base.specs.States.{Thread, State}
-use Rattle.tc_base.specs.declared.moves.Move.{Move}
-use Rattle.tc_base.specs.declared.moves.Move.TheVariants as move
-use Rattle.tc_base.specs.declared.request.Request.TheVariants.{WakeOne}
-use Rattle.tc_code.specs.Code.{Code}
-use Rattle.tc_code.specs.declared.instr.Instr.{Instr}
-use Rattle.tc_code.specs.declared.instr.Instr.TheVariants.{Signal}
-use Rattle.tc_code.specs.Lawful.{IsLawful}
-use Rattle.tc_code.specs.Run.{run_from, run, IsReached}
-use Rattle.tc_code.proofs.Facts.{opening_is_reached, step_is_reached, placed as placed_at}
-use Rattle.tc_code.specs.Step.{request, step, opening}
-use Rattle.run_laws.specs.Ints.{PassesInts}
-use Rattle.run_laws.proofs.Ints.{values_are_ints, asks_ints}
-use Rattle.run_laws.proofs.Steps.{Went, Ran, Woke, Drained, step_went, none_failed}
-use Rattle.run_history.specs.History.{Deed, Did, value_taken, created_by, did, woke, drained, by_instr, deed_of, history_from, history}
-use Rattle.run_history.proofs.Frame.{kept_by_step}
-use Rattle.run_history.proofs.Ints.{taken_int}
-use Rattle.run_history.proofs.Threads.{ThreadsAre, own, keeps_threads, opening_threads}
-use Rattle.run_log.specs.Logs.{is_log}
+use Rattle.sym_exec.specs.tc_base.Names.{Name}
+use Rattle.sym_exec.specs.tc_base.Buffers.{BufferOps}
+use Rattle.sym_exec.specs.run_log.Logs.{Log}
+use Rattle.sym_exec.specs.tc_base.Paths.{Path, ThreadPath, path_under}
+use Rattle.sym_exec.specs.tc_base.States.{Thread, State}
+use Rattle.sym_exec.specs.tc_base.declared.moves.Move.{Move}
+use Rattle.sym_exec.specs.tc_base.declared.moves.Move.TheVariants as move
+use Rattle.sym_exec.specs.tc_base.declared.request.Request.TheVariants.{WakeOne}
+use Rattle.sym_exec.specs.tc_code.Code.{Code}
+use Rattle.sym_exec.specs.tc_code.declared.instr.Instr.{Instr}
+use Rattle.sym_exec.specs.tc_code.declared.instr.Instr.TheVariants.{Signal}
+use Rattle.sym_exec.specs.tc_code.Lawful.{IsLawful}
+use Rattle.sym_exec.specs.tc_code.Run.{run_from, run, IsReached}
+use Rattle.sym_exec.proofs.tc_code.Facts.{opening_is_reached, step_is_reached, placed as placed_at}
+use Rattle.sym_exec.specs.tc_code.Step.{request, step, opening}
+use Rattle.sym_exec.specs.run_laws.Ints.{PassesInts}
+use Rattle.sym_exec.proofs.run_laws.Ints.{values_are_ints, asks_ints}
+use Rattle.sym_exec.proofs.run_laws.Steps.{Went, Ran, Woke, Drained, step_went, none_failed}
+use Rattle.path_laws.specs.run_history.History.{Deed, Did, value_taken, created_by, did, woke, drained, by_instr, deed_of, history_from, history}
+use Rattle.path_laws.proofs.run_history.Frame.{kept_by_step}
+use Rattle.path_laws.proofs.run_history.Ints.{taken_int}
+use Rattle.path_laws.proofs.run_history.Threads.{ThreadsAre, own, keeps_threads, opening_threads}
+use Rattle.sym_exec.specs.run_log.Logs.{is_log}
 use Rattle.path_laws.proofs.Does.{Does, Drains, ran_does, woke_does, flush_drains, own_there}
 use Rattle.path_laws.proofs.Prefixes.{on_before_step, so_far, step_is_onward}
-use Rattle.path_walk.specs.Fits.{fails_in, function_of, Fits}
-use Rattle.sym_terms.specs.Terms.{AreTerms}
-use Rattle.sym_terms.specs.declared.node.Node.{Node}
+use Rattle.sym_exec.specs.path_walk.Fits.{fails_in, function_of, Fits}
+use Rattle.sym_exec.specs.sym_terms.Terms.{AreTerms}
+use Rattle.sym_exec.specs.sym_terms.declared.node.Node.{Node}
 use Rattle.sym_exec.specs.Executed.{Executed}
 use Rattle.path_laws.specs.Prefixes.{AreOnPaths}
 use Rattle.sym_laws.specs.Valued.{AgreesWith, found}

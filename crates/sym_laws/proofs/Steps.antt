@@ -4,13 +4,13 @@ use Rattle.std.proofs.Common.{Option, Some, None, refl, ap, sym, subst, arith, a
 use Rattle.std.specs.Prelude.{unwrap_or}
 use Rattle.std.specs.List.{AllByRecursion as Each, filter_map, cons_option}
 use Rattle.std.specs.Option.{option_map_or}
-use Rattle.tc_base.specs.States.{Local}
-use Rattle.tc_code.specs.Code.{Code, instr_at, line_at}
-use Rattle.tc_code.specs.declared.instr.Instr.{Instr}
-use Rattle.tc_code.specs.declared.instr.Instr.TheVariants.{Load, LoadAt, Store, StoreAt, Inside, Branch, Create, Assert, Nonzero, InRange, Swap, Cas}
-use Rattle.tc_code.specs.Lawful.{IsLawful}
-use Rattle.tc_code.specs.Step.{ints_of}
-use Rattle.sym_terms.specs.Terms.{AreTerms}
+use Rattle.sym_exec.specs.tc_base.States.{Local}
+use Rattle.sym_exec.specs.tc_code.Code.{Code, instr_at, line_at}
+use Rattle.sym_exec.specs.tc_code.declared.instr.Instr.{Instr}
+use Rattle.sym_exec.specs.tc_code.declared.instr.Instr.TheVariants.{Load, LoadAt, Store, StoreAt, Inside, Branch, Create, Assert, Nonzero, InRange, Swap, Cas}
+use Rattle.sym_exec.specs.tc_code.Lawful.{IsLawful}
+use Rattle.sym_exec.specs.tc_code.Step.{ints_of}
+use Rattle.sym_exec.specs.sym_terms.Terms.{AreTerms}
 use Rattle.sym_exec.specs.Making.{Grows}
 use Rattle.sym_exec.specs.Thread.{Handed, Doing, HasTerms, after_instr, wanted_of, after_step, after_all}
 use Rattle.sym_exec.specs.Alone.{slots_by}

@@ -6,21 +6,21 @@ use Rattle.std.specs.List.{AllByRecursion as Each, filter}
 use Rattle.std.specs.FinMap as fin
 use Rattle.std.proofs.lemmas.Bool.{lt-ltb, le-ltb}
 use Rattle.std.proofs.lemmas.Option.{none-some, same_Some, slice_get-map}
-use Rattle.tc_base.specs.Buffers.{BufferOps}
-use Rattle.run_log.specs.Logs.{Log}
-use Rattle.tc_base.specs.Paths.{ThreadPath}
-use Rattle.tc_base.specs.States.{Thread, State}
-use Rattle.tc_base.specs.declared.moves.Move.{Move}
-use Rattle.tc_code.specs.Code.{Code}
-use Rattle.tc_code.specs.Lawful.{IsLawful}
-use Rattle.tc_code.specs.Run.{run}
-use Rattle.run_laws.specs.Ints.{PassesInts}
-use Rattle.run_history.specs.History.{Deed, history}
-use Rattle.run_log.specs.Logs.{is_log}
-use Rattle.path_walk.specs.Fits.{Fits}
-use Rattle.path_walk.specs.Paths.{Walk, walk_of, paths_of}
-use Rattle.sym_terms.specs.Terms.{AreTerms}
-use Rattle.sym_terms.specs.declared.node.Node.{Node}
+use Rattle.sym_exec.specs.tc_base.Buffers.{BufferOps}
+use Rattle.sym_exec.specs.run_log.Logs.{Log}
+use Rattle.sym_exec.specs.tc_base.Paths.{ThreadPath}
+use Rattle.sym_exec.specs.tc_base.States.{Thread, State}
+use Rattle.sym_exec.specs.tc_base.declared.moves.Move.{Move}
+use Rattle.sym_exec.specs.tc_code.Code.{Code}
+use Rattle.sym_exec.specs.tc_code.Lawful.{IsLawful}
+use Rattle.sym_exec.specs.tc_code.Run.{run}
+use Rattle.sym_exec.specs.run_laws.Ints.{PassesInts}
+use Rattle.path_laws.specs.run_history.History.{Deed, history}
+use Rattle.sym_exec.specs.run_log.Logs.{is_log}
+use Rattle.sym_exec.specs.path_walk.Fits.{Fits}
+use Rattle.sym_exec.specs.path_walk.Paths.{Walk, walk_of, paths_of}
+use Rattle.sym_exec.specs.sym_terms.Terms.{AreTerms}
+use Rattle.sym_exec.specs.sym_terms.declared.node.Node.{Node}
 use Rattle.sym_exec.specs.Executed.{Course, thread_done}
 use Rattle.sym_exec.specs.Alone.{outcome_by}
 use Rattle.sym_exec.specs.declared.symbolic.Test.{Test}

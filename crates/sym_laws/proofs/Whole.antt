@@ -6,23 +6,23 @@ use Rattle.std.specs.List.{flat_map}
 use Rattle.std.specs.FinMap as fin
 use Rattle.std.proofs.lemmas.List.{length-map, take_all}
 use Rattle.std.proofs.lemmas.Option.{none-some, same_Some, slice_get_cases, slice_get_within}
-use Rattle.tc_base.specs.Buffers.{BufferOps}
-use Rattle.run_log.specs.Logs.{Log}
-use Rattle.tc_base.specs.Paths.{Path, ThreadPath}
-use Rattle.tc_base.specs.States.{Thread, State}
-use Rattle.tc_base.specs.declared.moves.Move.{Move}
-use Rattle.tc_code.specs.Code.{Code}
-use Rattle.tc_code.specs.Lawful.{IsLawful}
-use Rattle.tc_code.specs.Run.{Reproduces, path_of}
-use Rattle.run_laws.specs.Ints.{PassesInts}
-use Rattle.run_history.specs.History.{Deed, history}
-use Rattle.run_log.specs.Logs.{is_log}
-use Rattle.path_walk.specs.Fits.{Fits, places_in}
-use Rattle.path_walk.specs.Paths.{walk_of, paths_of}
+use Rattle.sym_exec.specs.tc_base.Buffers.{BufferOps}
+use Rattle.sym_exec.specs.run_log.Logs.{Log}
+use Rattle.sym_exec.specs.tc_base.Paths.{Path, ThreadPath}
+use Rattle.sym_exec.specs.tc_base.States.{Thread, State}
+use Rattle.sym_exec.specs.tc_base.declared.moves.Move.{Move}
+use Rattle.sym_exec.specs.tc_code.Code.{Code}
+use Rattle.sym_exec.specs.tc_code.Lawful.{IsLawful}
+use Rattle.sym_exec.specs.tc_code.Run.{Reproduces, path_of}
+use Rattle.sym_exec.specs.run_laws.Ints.{PassesInts}
+use Rattle.path_laws.specs.run_history.History.{Deed, history}
+use Rattle.sym_exec.specs.run_log.Logs.{is_log}
+use Rattle.sym_exec.specs.path_walk.Fits.{Fits, places_in}
+use Rattle.sym_exec.specs.path_walk.Paths.{walk_of, paths_of}
 use Rattle.path_laws.specs.Prefixes.{AreOnPaths}
 use Rattle.path_laws.proofs.Prefixes.{beginnings_on, own_under, so_far}
-use Rattle.sym_terms.specs.Terms.{AreTerms}
-use Rattle.sym_terms.specs.declared.node.Node.{Node}
+use Rattle.sym_exec.specs.sym_terms.Terms.{AreTerms}
+use Rattle.sym_exec.specs.sym_terms.declared.node.Node.{Node}
 use Rattle.sym_exec.specs.Thread.{Doing, after_all}
 use Rattle.sym_exec.specs.Executed.{Course, fails_at, thread_started, thread_done}
 use Rattle.sym_exec.specs.Alone.{outcome_by}

@@ -1,8 +1,8 @@
 -- The values that the loads of a log's paths took in a run.
 use Rattle.std.specs.Prelude.{ℕ, ◌&&◌, ◌==◌, ℤ, pos, List, map, Option, Some, None, option_map, unwrap_or, slice_get, if◌then◌else◌}
 use Rattle.std.specs.List.{filter_map, flat_map}
-use Rattle.tc_base.specs.Names.{Name}
-use Rattle.run_history.specs.History.{Deed, Did, same}
+use Rattle.sym_exec.specs.tc_base.Names.{Name}
+use Rattle.path_laws.specs.run_history.History.{Deed, Did, same}
 use Rattle.sym_exec.specs.Executed.{Symbolic}
 use Rattle.sym_exec.specs.declared.symbolic.Access.{Access}
 
@@ -14,7 +14,9 @@ pub record Load : Type 0 where
 
 -- the loads among a thread's accesses
 abbrev pub loads_by : Name → List Access → List Load
-loads_by n accesses = filter_map (λ a. option_map (λ m. record { number = m; thread = n; step = a.step }) a.takes) accesses
+loads_by n accesses =
+    filter_map
+    (λ a. option_map (λ m. record { number = m; thread = n; step = a.step }) a.takes) accesses
 
 abbrev pub loads_of : Symbolic → List Load
 loads_of symbolic = flat_map (λ c. loads_by c.name c.accesses) symbolic.threads

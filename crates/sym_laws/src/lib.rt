@@ -4,19 +4,19 @@
 #![tactic(auto)]
 
 ghost use Rattle.std.specs.Prelude.{◌≡◌, ℤ, List, Some, true, length};
-ghost use Rattle.tc_base.specs.Buffers.{BufferOps};
-ghost use Rattle.run_log.specs.Logs.{Log};
-ghost use Rattle.tc_base.specs.States.{State};
-ghost use Rattle.tc_base.specs.declared.moves.Move.{Move};
-ghost use Rattle.tc_code.specs.Code.{Code};
-ghost use Rattle.tc_code.specs.Lawful.{IsLawful};
-ghost use Rattle.tc_code.specs.Run.{run, Reproduces};
-ghost use Rattle.run_laws.specs.Ints.{PassesInts};
-ghost use Rattle.run_history.specs.History.{history};
-ghost use Rattle.run_log.specs.Logs.{is_log};
-ghost use Rattle.path_walk.specs.Fits.{Fits};
-ghost use Rattle.sym_terms.specs.Terms.{AreTerms};
-ghost use Rattle.sym_terms.specs.declared.node.Node.{Node};
+ghost use Rattle.sym_exec.specs.tc_base.Buffers.{BufferOps};
+ghost use Rattle.sym_exec.specs.run_log.Logs.{Log};
+ghost use Rattle.sym_exec.specs.tc_base.States.{State};
+ghost use Rattle.sym_exec.specs.tc_base.declared.moves.Move.{Move};
+ghost use Rattle.sym_exec.specs.tc_code.Code.{Code};
+ghost use Rattle.sym_exec.specs.tc_code.Lawful.{IsLawful};
+ghost use Rattle.sym_exec.specs.tc_code.Run.{run, Reproduces};
+ghost use Rattle.sym_exec.specs.run_laws.Ints.{PassesInts};
+ghost use Rattle.path_laws.specs.run_history.History.{history};
+ghost use Rattle.sym_exec.specs.run_log.Logs.{is_log};
+ghost use Rattle.sym_exec.specs.path_walk.Fits.{Fits};
+ghost use Rattle.sym_exec.specs.sym_terms.Terms.{AreTerms};
+ghost use Rattle.sym_exec.specs.sym_terms.declared.node.Node.{Node};
 ghost use Rattle.sym_exec.specs.Executed.{Course};
 ghost use Rattle.sym_laws.specs.Loads.{loads_in};
 ghost use Rattle.path_laws.specs.Prefixes.{AreOnPaths};

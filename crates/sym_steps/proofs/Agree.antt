@@ -2,12 +2,12 @@
 use Rattle.std.proofs.Common.{◌≡◌, ◌∙◌, ◌⊎◌, inl, inr, ℕ, zero, suc, ℤ, pos, List, [], ◌∷◌, ◌++◌, Option, Some, sym, ap, slice_index_or}
 use Rattle.std.specs.Prelude.{slice_get}
 use Rattle.std.proofs.lemmas.Option.{none-some, same_Some}
-use Rattle.tc_base.specs.Names.{Name}
-use Rattle.tc_base.specs.declared.request.Request.{Request}
-use Rattle.run_history.specs.History.{Deed, Did, Drained}
-use Rattle.run_history.specs.pending.Deeds.{name_of}
-use Rattle.sym_exec.specs.Executed.{Course, Symbolic}
-use Rattle.sym_exec.specs.declared.symbolic.Access.{Access}
+use Rattle.order_events.specs.tc_base.Names.{Name}
+use Rattle.order_events.specs.tc_base.declared.request.Request.{Request}
+use Rattle.sym_laws.specs.run_history.History.{Deed, Did, Drained}
+use Rattle.sym_laws.specs.run_history.pending.Deeds.{name_of}
+use Rattle.sym_laws.specs.sym_exec.Executed.{Course, Symbolic}
+use Rattle.sym_laws.specs.sym_exec.declared.symbolic.Access.{Access}
 use Rattle.sym_laws.specs.Valued.{IsOneOf, AgreesWith}
 use Rattle.sym_laws.proofs.Lists.{in_front}
 

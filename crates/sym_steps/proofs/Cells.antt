@@ -3,24 +3,24 @@ use Rattle.std.proofs.Common.{◌≡◌, ◌∙◌, ℕ, ℤ, List, [], ◌∷�
 use Rattle.std.specs.Prelude.{nat_lt}
 use Rattle.std.specs.Bool.{IsTrue}
 use Rattle.std.proofs.lemmas.Bool.{and_parts}
-use Rattle.tc_base.specs.States.{Local}
-use Rattle.tc_code.specs.Expr.{Expr, names_slots, value_of as expr_value_of}
-use Rattle.tc_code.specs.declared.instr.Instr.{Instr}
-use Rattle.tc_code.specs.declared.instr.Instr.TheVariants.{Load, LoadAt, Store, StoreAt, Inside, Holds, Ready, Assert, Nonzero, InRange, Swap, Cas}
-use Rattle.tc_code.specs.Step.{value_in, cell_at, site, request}
-use Rattle.sym_terms.specs.Terms.{AreTerms}
-use Rattle.sym_terms.specs.Values.{value_of}
-use Rattle.sym_terms.specs.declared.node.Node.{Node}
-use Rattle.sym_terms.specs.declared.node.Node.TheVariants.{Symbol}
-use Rattle.sym_exec.specs.Making.{Made, Grows}
-use Rattle.sym_exec.specs.Thread.{Doing, HasTerms, term_in, after_instr}
-use Rattle.sym_exec.specs.helpers.Threads.{names_within}
-use Rattle.sym_exec.specs.Alone.{slots_by, Asked, asked_by, cell_by}
-use Rattle.sym_exec.specs.declared.symbolic.Access.{Access}
-use Rattle.sym_exec.specs.declared.symbolic.Cell.{Cell}
-use Rattle.sym_exec.specs.declared.symbolic.Cell.TheVariants.{Fixed, Element}
-use Rattle.sym_exec.proofs.Grown.{grows_both, grows_made, expr_grows}
-use Rattle.sym_exec.proofs.Values.{HasValue, value_stays, expr_value}
+use Rattle.order_events.specs.tc_base.States.{Local}
+use Rattle.order_events.specs.tc_code.Expr.{Expr, names_slots, value_of as expr_value_of}
+use Rattle.order_events.specs.tc_code.declared.instr.Instr.{Instr}
+use Rattle.order_events.specs.tc_code.declared.instr.Instr.TheVariants.{Load, LoadAt, Store, StoreAt, Inside, Holds, Ready, Assert, Nonzero, InRange, Swap, Cas}
+use Rattle.order_events.specs.tc_code.Step.{value_in, cell_at, site, request}
+use Rattle.order_events.specs.sym_terms.Terms.{AreTerms}
+use Rattle.order_events.specs.sym_terms.Values.{value_of}
+use Rattle.order_events.specs.sym_terms.declared.node.Node.{Node}
+use Rattle.order_events.specs.sym_terms.declared.node.Node.TheVariants.{Symbol}
+use Rattle.sym_laws.specs.sym_exec.Making.{Made, Grows}
+use Rattle.sym_laws.specs.sym_exec.Thread.{Doing, HasTerms, term_in, after_instr}
+use Rattle.sym_laws.specs.sym_exec.helpers.Threads.{names_within}
+use Rattle.sym_laws.specs.sym_exec.Alone.{slots_by, Asked, asked_by, cell_by}
+use Rattle.sym_laws.specs.sym_exec.declared.symbolic.Access.{Access}
+use Rattle.sym_laws.specs.sym_exec.declared.symbolic.Cell.{Cell}
+use Rattle.sym_laws.specs.sym_exec.declared.symbolic.Cell.TheVariants.{Fixed, Element}
+use Rattle.sym_laws.proofs.sym_exec.Grown.{grows_both, grows_made, expr_grows}
+use Rattle.sym_laws.proofs.sym_exec.Values.{HasValue, value_stays, expr_value}
 
 -- the cells of what is asked, and those of accesses
 abbrev pub asked_cells : ℤ → Local → Instr → List ℕ

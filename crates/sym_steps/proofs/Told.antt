@@ -11,50 +11,50 @@ use Rattle.std.proofs.Math.Seq.{take-suc}
 use Rattle.std.proofs.lemmas.List.{append_cancel_left}
 use Rattle.std.proofs.lemmas.List.Sums.{fold-append}
 use Rattle.std.proofs.lemmas.Option.{none-some, same_Some, get_or_from_slice_get}
-use Rattle.tc_base.specs.Paths.{ThreadPath}
-use Rattle.tc_base.specs.Names.{Name}
-use Rattle.tc_base.specs.States.{Local, Thread}
-use Rattle.tc_base.specs.declared.request.Request.{Request}
-use Rattle.tc_code.specs.Step.{request, is_nonzero, value_in}
-use Rattle.tc_code.specs.declared.instr.Instr.{Instr}
-use Rattle.run_laws.specs.Ints.{PassesInts}
-use Rattle.run_laws.proofs.Changes.{is_fail}
-use Rattle.run_history.specs.History.{history}
-use Rattle.run_history.specs.Locals.{locals_in}
-use Rattle.run_history.specs.Told.{steps_in, children_in, failed_in}
-use Rattle.run_history.proofs.Ints.{models_pass_ints}
-use Rattle.run_history.proofs.Threads.{children_are}
-use Rattle.run_follows.specs.Follow.{OtherIs}
-use Rattle.run_history.proofs.of_pending.In.{In, in_left, in_right}
-use Rattle.list_laws.proofs.Lists.{get_seam}
-use Rattle.path_walk.specs.Events.{kind_with}
-use Rattle.path_walk.specs.Fits.{fails_in}
-use Rattle.path_walk.specs.Marks.{marks_at_start, marks_after}
-use Rattle.path_walk.specs.Paths.{Walk, walk_of, paths_of}
-use Rattle.path_walk.specs.Steps.{Step, Onward, onward, is_site, steps_at}
-use Rattle.path_walk.specs.Steps as path
-use Rattle.path_walk.specs.declared.event.Event.{Event}
-use Rattle.path_walk.specs.declared.event.EventKind.{EventKind}
-use Rattle.path_laws.specs.Setting.{Setting}
-use Rattle.path_laws.specs.Deeds.{kind_of}
-use Rattle.path_laws.specs.history.Along.{IsThread, PathThread, path_thread}
-use Rattle.path_laws.specs.history.Next.{fails_next, IsNextOnPath, BranchesAlong}
-use Rattle.path_laws.proofs.of_history.Told.{RunOf, its_run}
-use Rattle.path_laws.proofs.of_history.Walks.{IsWalk, walk_is, thread_path_at}
-use Rattle.path_laws.proofs.of_history.Next.{asks_told, thread_next, steps_left, next_leads, has_marks, as_wanted, path_step, fails_there}
-use Rattle.path_laws.proofs.of_events.Lists.{each_of, each_in, contains_in, all_pass}
-use Rattle.path_laws.proofs.of_events.Marked.{event_at, event_found}
-use Rattle.path_laws.proofs.of_events.Sites.{last_is_site}
-use Rattle.sym_terms.specs.declared.node.Node.{Node}
-use Rattle.sym_exec.specs.Making.{Grows}
-use Rattle.sym_exec.specs.helpers.Threads.{names_within}
-use Rattle.sym_exec.specs.Thread.{Doing, after_step, after_instr, wanted_of}
-use Rattle.sym_exec.specs.Executed.{Course, has_failed, fails_at, thread_started, thread_done}
-use Rattle.sym_exec.specs.Alone.{Asked, asked_by, condition, outcome_by}
-use Rattle.sym_exec.specs.declared.symbolic.Access.{Access}
-use Rattle.sym_exec.specs.declared.symbolic.Test.{Test}
-use Rattle.sym_exec.proofs.Sound.{instr_named}
-use Rattle.sym_exec.proofs.Tells.{told, short_is}
+use Rattle.order_events.specs.tc_base.Paths.{ThreadPath}
+use Rattle.order_events.specs.tc_base.Names.{Name}
+use Rattle.order_events.specs.tc_base.States.{Local, Thread}
+use Rattle.order_events.specs.tc_base.declared.request.Request.{Request}
+use Rattle.order_events.specs.tc_code.Step.{request, is_nonzero, value_in}
+use Rattle.order_events.specs.tc_code.declared.instr.Instr.{Instr}
+use Rattle.order_events.specs.run_laws.Ints.{PassesInts}
+use Rattle.order_events.proofs.run_laws.Changes.{is_fail}
+use Rattle.sym_laws.specs.run_history.History.{history}
+use Rattle.sym_laws.specs.run_history.Locals.{locals_in}
+use Rattle.sym_laws.specs.run_history.Told.{steps_in, children_in, failed_in}
+use Rattle.sym_laws.proofs.run_history.Ints.{models_pass_ints}
+use Rattle.sym_laws.proofs.run_history.Threads.{children_are}
+use Rattle.sym_laws.specs.run_follows.Follow.{OtherIs}
+use Rattle.sym_laws.proofs.run_history.of_pending.In.{In, in_left, in_right}
+use Rattle.order_events.proofs.list_laws.Lists.{get_seam}
+use Rattle.order_events.specs.path_walk.Events.{kind_with}
+use Rattle.order_events.specs.path_walk.Fits.{fails_in}
+use Rattle.order_events.specs.path_walk.Marks.{marks_at_start, marks_after}
+use Rattle.order_events.specs.path_walk.Paths.{Walk, walk_of, paths_of}
+use Rattle.order_events.specs.path_walk.Steps.{Step, Onward, onward, is_site, steps_at}
+use Rattle.order_events.specs.path_walk.Steps as path
+use Rattle.order_events.specs.path_walk.declared.event.Event.{Event}
+use Rattle.order_events.specs.path_walk.declared.event.EventKind.{EventKind}
+use Rattle.sym_laws.specs.path_laws.Setting.{Setting}
+use Rattle.sym_laws.specs.path_laws.Deeds.{kind_of}
+use Rattle.sym_laws.specs.path_laws.history.Along.{IsThread, PathThread, path_thread}
+use Rattle.sym_laws.specs.path_laws.history.Next.{fails_next, IsNextOnPath, BranchesAlong}
+use Rattle.sym_laws.proofs.path_laws.of_history.Told.{RunOf, its_run}
+use Rattle.sym_laws.proofs.path_laws.of_history.Walks.{IsWalk, walk_is, thread_path_at}
+use Rattle.sym_laws.proofs.path_laws.of_history.Next.{asks_told, thread_next, steps_left, next_leads, has_marks, as_wanted, path_step, fails_there}
+use Rattle.sym_laws.proofs.path_laws.of_events.Lists.{each_of, each_in, contains_in, all_pass}
+use Rattle.sym_laws.proofs.path_laws.of_events.Marked.{event_at, event_found}
+use Rattle.sym_laws.proofs.path_laws.of_events.Sites.{last_is_site}
+use Rattle.order_events.specs.sym_terms.declared.node.Node.{Node}
+use Rattle.sym_laws.specs.sym_exec.Making.{Grows}
+use Rattle.sym_laws.specs.sym_exec.helpers.Threads.{names_within}
+use Rattle.sym_laws.specs.sym_exec.Thread.{Doing, after_step, after_instr, wanted_of}
+use Rattle.sym_laws.specs.sym_exec.Executed.{Course, has_failed, fails_at, thread_started, thread_done}
+use Rattle.sym_laws.specs.sym_exec.Alone.{Asked, asked_by, condition, outcome_by}
+use Rattle.sym_laws.specs.sym_exec.declared.symbolic.Access.{Access}
+use Rattle.sym_laws.specs.sym_exec.declared.symbolic.Test.{Test}
+use Rattle.sym_laws.proofs.sym_exec.Sound.{instr_named}
+use Rattle.sym_laws.proofs.sym_exec.Tells.{told, short_is}
 use Rattle.sym_laws.specs.Valued.{AgreesWith, asked_of, found, found_before, execution, HasValues}
 use Rattle.sym_laws.proofs.Executed.{course_of}
 use Rattle.sym_laws.proofs.Follows.{Follows, fine_at, begins_at, grows_at, found_at_log}

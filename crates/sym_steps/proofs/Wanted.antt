@@ -3,30 +3,30 @@ use Rattle.std.proofs.Common.{◌≡◌, ◌∙◌, ℕ, ◌+◌, ◌-◌, ◌<�
 use Rattle.std.specs.Prelude.{option_map, option_and_then}
 use Rattle.std.specs.List.{AllByRecursion as Each, last_or}
 use Rattle.std.specs.Option.{option_map_or}
-use Rattle.tc_base.specs.Names.{Name}
-use Rattle.tc_base.specs.declared.handle.Handle.TheVariants.{Unset}
-use Rattle.tc_base.specs.States.{Local}
-use Rattle.tc_base.specs.declared.request.Request.{Request}
-use Rattle.tc_base.specs.declared.request.Request.TheVariants.{Silent, Fail}
-use Rattle.tc_code.specs.declared.instr.Instr.{Instr}
-use Rattle.tc_code.specs.declared.instr.Instr.TheVariants.{Inside, Branch, Create, Join, Holds, Ready, Assert, Nonzero, InRange}
-use Rattle.tc_code.specs.Step.{is_within, is_nonzero, value_in, holds, can_be_joined, child_number, handle_of, site, request}
-use Rattle.int_ops.specs.Arith.{is_distance}
-use Rattle.run_laws.proofs.Changes.{is_fail}
-use Rattle.run_history.specs.History.{Deed, Did}
-use Rattle.run_history.specs.Told.{fails, children_in}
-use Rattle.run_history.proofs.Lists.{last_or-push}
-use Rattle.run_follows.specs.Follow.{OtherIs}
-use Rattle.path_walk.specs.Steps.{is_site}
-use Rattle.path_laws.specs.history.Next.{IsAsWanted}
-use Rattle.path_walk.specs.Events.{kind_with}
-use Rattle.path_walk.specs.Marks.{Marks}
-use Rattle.path_walk.specs.declared.event.EventKind.TheVariants as kind
-use Rattle.path_laws.specs.Along.{HasMarks}
-use Rattle.path_laws.specs.Deeds.{kind_of}
-use Rattle.path_laws.proofs.Deeds.{same_test}
-use Rattle.sym_exec.specs.Alone.{condition}
-use Rattle.sym_exec.specs.Thread.{Doing, wanted_of}
+use Rattle.order_events.specs.tc_base.Names.{Name}
+use Rattle.order_events.specs.tc_base.declared.handle.Handle.TheVariants.{Unset}
+use Rattle.order_events.specs.tc_base.States.{Local}
+use Rattle.order_events.specs.tc_base.declared.request.Request.{Request}
+use Rattle.order_events.specs.tc_base.declared.request.Request.TheVariants.{Silent, Fail}
+use Rattle.order_events.specs.tc_code.declared.instr.Instr.{Instr}
+use Rattle.order_events.specs.tc_code.declared.instr.Instr.TheVariants.{Inside, Branch, Create, Join, Holds, Ready, Assert, Nonzero, InRange}
+use Rattle.order_events.specs.tc_code.Step.{is_within, is_nonzero, value_in, holds, can_be_joined, child_number, handle_of, site, request}
+use Rattle.order_events.specs.int_ops.Arith.{is_distance}
+use Rattle.order_events.proofs.run_laws.Changes.{is_fail}
+use Rattle.sym_laws.specs.run_history.History.{Deed, Did}
+use Rattle.sym_laws.specs.run_history.Told.{fails, children_in}
+use Rattle.sym_laws.proofs.run_history.Lists.{last_or-push}
+use Rattle.sym_laws.specs.run_follows.Follow.{OtherIs}
+use Rattle.order_events.specs.path_walk.Steps.{is_site}
+use Rattle.sym_laws.specs.path_laws.history.Next.{IsAsWanted}
+use Rattle.order_events.specs.path_walk.Events.{kind_with}
+use Rattle.order_events.specs.path_walk.Marks.{Marks}
+use Rattle.order_events.specs.path_walk.declared.event.EventKind.TheVariants as kind
+use Rattle.sym_laws.specs.path_laws.Along.{HasMarks}
+use Rattle.sym_laws.specs.path_laws.Deeds.{kind_of}
+use Rattle.sym_laws.proofs.path_laws.Deeds.{same_test}
+use Rattle.sym_laws.specs.sym_exec.Alone.{condition}
+use Rattle.sym_laws.specs.sym_exec.Thread.{Doing, wanted_of}
 
 -- a site that passes unless it should fail
 fail_site : (b fails : Bool) → b ≡ not fails → is_fail (site b) ≡ fails

@@ -2,19 +2,19 @@
 //! an empty body.
 ghost use Rattle.std.specs.Prelude.{◌≡◌, ◌<◌, ◌==◌, ℕ, ℤ, pos, Some, List, slice_index_or};
 ghost use Rattle.std.specs.List.{Contains};
-ghost use Rattle.run_history.specs.Told.{steps_in};
-ghost use Rattle.path_walk.specs.Paths.{Paths};
-ghost use Rattle.path_laws.specs.Setting.{Setting};
-ghost use Rattle.sym_terms.specs.declared.node.Node.{Node};
-ghost use Rattle.sym_exec.specs.Alone.{Asked, asked_in, cell_by};
-ghost use Rattle.sym_exec.specs.Executed.{Symbolic};
-ghost use Rattle.sym_exec.specs.declared.symbolic.Access.{Access};
+ghost use Rattle.sym_laws.specs.run_history.Told.{steps_in};
+ghost use Rattle.order_events.specs.path_walk.Paths.{Paths};
+ghost use Rattle.sym_laws.specs.path_laws.Setting.{Setting};
+ghost use Rattle.order_events.specs.sym_terms.declared.node.Node.{Node};
+ghost use Rattle.sym_laws.specs.sym_exec.Alone.{Asked, asked_in, cell_by};
+ghost use Rattle.sym_laws.specs.sym_exec.Executed.{Symbolic};
+ghost use Rattle.sym_laws.specs.sym_exec.declared.symbolic.Access.{Access};
 ghost use Rattle.sym_laws.specs.Valued.{found};
-ghost use Rattle.order_formula.specs.Worlds.{World};
-ghost use Rattle.lawful_order.specs.Cells.{is_same_cell, value_at_start};
-ghost use Rattle.lawful_order.specs.Memory.{cell_of};
-ghost use Rattle.lawful_order.specs.Reads.{HasAccess};
-ghost use Rattle.lawful_order.specs.Whole.{IsExecutedBy};
+ghost use Rattle.order_events.specs.order_formula.Worlds.{World};
+ghost use Rattle.order_events.specs.lawful_order.Cells.{is_same_cell, value_at_start};
+ghost use Rattle.order_events.specs.lawful_order.Memory.{cell_of};
+ghost use Rattle.order_events.specs.lawful_order.Reads.{HasAccess};
+ghost use Rattle.order_events.specs.lawful_order.Whole.{IsExecutedBy};
 ghost use Rattle.sym_steps.specs.accesses.Asked.{IsAskedIn, IsReachedIn};
 ghost use Rattle.sym_steps.specs.Valued.{ValuedHistory, ExecutedThread};
 

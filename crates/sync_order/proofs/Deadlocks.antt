@@ -10,17 +10,17 @@ use Rattle.path_walk.specs.declared.event.Blocked.{Blocked}
 use Rattle.path_walk.specs.declared.event.Blocked.TheVariants.{Lock, Wake, Join}
 use Rattle.path_walk.specs.declared.event.Event.{Event}
 use Rattle.path_walk.specs.declared.event.Sleep.{Sleep}
-use Rattle.sym_terms.specs.declared.node.Node.{Node}
-use Rattle.sym_exec.specs.Executed.{Symbolic}
+use Rattle.order_formula.specs.sym_terms.declared.node.Node.{Node}
+use Rattle.order_events.specs.sym_exec.Executed.{Symbolic}
 use Rattle.order_formula.specs.declared.formula.Conjunct.{Conjunct}
 use Rattle.order_formula.specs.declared.group.Group.TheVariants.{Stuck}
 use Rattle.order_formula.specs.declared.literal.Literal.{Literal}
 use Rattle.order_formula.specs.Groups.{HoldsIn, IsExactly}
 use Rattle.order_formula.specs.Truth.{body_at, case_at, literal_at}
 use Rattle.order_formula.specs.Worlds.{World, is_ended}
-use Rattle.lawful_order.specs.Events.{Of, all_events, all_sleeps, ender_of}
-use Rattle.lawful_order.specs.Lawful.{IsWorldOf}
-use Rattle.lawful_order.specs.Stuck.{IsHeld, SleepsOn, RunsOn, CannotGoOn, StuckRule}
+use Rattle.order_events.specs.lawful_order.Events.{Of, all_events, all_sleeps, ender_of}
+use Rattle.order_events.specs.lawful_order.Lawful.{IsWorldOf}
+use Rattle.order_events.specs.lawful_order.Stuck.{IsHeld, SleepsOn, RunsOn, CannotGoOn, StuckRule}
 use Rattle.condition_order.specs.declared.wait.Ender.{Ender}
 use Rattle.condition_order.specs.Conditions.{enders}
 use Rattle.condition_order.proofs.Among.{ender_among}

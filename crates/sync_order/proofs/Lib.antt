@@ -1,3 +1,4 @@
+pub use Rattle.condition_order.proofs as condition_order
 pub mod Groups
 pub mod Pairs
 pub mod Links

@@ -4,21 +4,21 @@ use Rattle.std.specs.Prelude.{slice_get}
 use Rattle.std.specs.List.{Contains, flat_map}
 use Rattle.std.proofs.lemmas.Option.{same_Some}
 use Rattle.std.proofs.lemmas.List.Elements.{Contains-append_left, Contains-append_right, Contains-append_cases}
-use Rattle.tc_base.specs.Names.{child}
-use Rattle.tc_base.proofs.Names.{same_true, same_refl}
+use Rattle.path_walk.specs.tc_base.Names.{child}
+use Rattle.path_walk.proofs.tc_base.Names.{same_true, same_refl}
 use Rattle.path_walk.specs.Paths.{Walk, Paths}
 use Rattle.path_walk.specs.declared.event.Event.{Event}
 use Rattle.path_walk.specs.declared.event.EventKind.{EventKind}
 use Rattle.path_walk.specs.declared.event.EventKind.TheVariants as kind
 use Rattle.path_walk.specs.declared.event.Link.{Link}
-use Rattle.sym_terms.specs.declared.node.Node.{Node}
+use Rattle.order_formula.specs.sym_terms.declared.node.Node.{Node}
 use Rattle.order_formula.specs.declared.formula.Conjunct.{Conjunct}
 use Rattle.order_formula.specs.declared.group.Group.TheVariants.{Child}
 use Rattle.order_formula.specs.Groups.{HoldsIn, IsExactly}
 use Rattle.order_formula.specs.Truth.{body_at, literal_at}
 use Rattle.order_formula.specs.Worlds.{World}
-use Rattle.lawful_order.specs.Children.{HasExited, ChildRule}
-use Rattle.lawful_order.specs.Events.{all_events, HasEvent, Creates, Joins, IsChild, IsBefore}
+use Rattle.order_events.specs.lawful_order.Children.{HasExited, ChildRule}
+use Rattle.order_events.specs.lawful_order.Events.{all_events, HasEvent, Creates, Joins, IsChild, IsBefore}
 use Rattle.sync_order.specs.Children.{is_exit, is_child, created_before, exit_before, exited_before}
 use Rattle.sync_order.specs.Children.{of_children, create_conjuncts, join_conjuncts, links_formula, children_formula}
 use Rattle.order_events.specs.Parts.{comes_before}

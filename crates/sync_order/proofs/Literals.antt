@@ -17,7 +17,7 @@ use Rattle.order_formula.specs.declared.formula.Conjunct.{Conjunct}
 use Rattle.order_formula.specs.declared.group.Group.{Group}
 use Rattle.order_formula.specs.declared.group.Group.TheVariants.{Child, Mutex}
 use Rattle.order_formula.specs.declared.literal.Literal.{Literal}
-use Rattle.lawful_order.specs.Events.{Of, all_events, all_sleeps, HasEvent, HasRegion, Creates, Joins}
+use Rattle.order_events.specs.lawful_order.Events.{Of, all_events, all_sleeps, HasEvent, HasRegion, Creates, Joins}
 use Rattle.condition_order.specs.Conditions.{enders}
 use Rattle.condition_order.specs.declared.wait.Ender.{Ender}
 use Rattle.sync_order.specs.Children.{is_exit, exit_before, children_formula}

@@ -8,15 +8,15 @@ use Rattle.std.proofs.lemmas.Option.{same_Some}
 use Rattle.std.proofs.lemmas.List.Elements.{Contains-append_left, Contains-append_right, Contains-append_cases}
 use Rattle.path_walk.specs.Paths.{Paths}
 use Rattle.path_walk.specs.declared.event.Region.{Region}
-use Rattle.sym_terms.specs.declared.node.Node.{Node}
+use Rattle.order_formula.specs.sym_terms.declared.node.Node.{Node}
 use Rattle.order_formula.specs.declared.formula.Conjunct.{Conjunct}
 use Rattle.order_formula.specs.declared.group.Group.TheVariants.{Mutex}
 use Rattle.order_formula.specs.declared.literal.Literal.{Literal}
 use Rattle.order_formula.specs.Groups.{HoldsIn, IsExactly}
 use Rattle.order_formula.specs.Truth.{body_at, literal_at}
 use Rattle.order_formula.specs.Worlds.{World}
-use Rattle.lawful_order.specs.Events.{Of, HasRegion, all_events}
-use Rattle.lawful_order.specs.Mutexes.{IsLeftBefore, MutexRule}
+use Rattle.order_events.specs.lawful_order.Events.{Of, HasRegion, all_events}
+use Rattle.order_events.specs.lawful_order.Mutexes.{IsLeftBefore, MutexRule}
 use Rattle.sync_order.specs.Mutexes.{exclude, all_regions, release_literal, left_before, excludes, exclusive, mutexes_formula}
 use Rattle.sync_order.proofs.Groups.{same_mutex}
 use Rattle.order_events.proofs.Lists.{in_front, in_at, in_map, of_map}

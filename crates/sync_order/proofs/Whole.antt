@@ -4,11 +4,11 @@ use Rattle.std.specs.List.{All, Contains}
 use Rattle.std.proofs.lemmas.Bool.{false≢true}
 use Rattle.std.proofs.lemmas.List.Elements.{All-append}
 use Rattle.std.proofs.lemmas.Option.{slice_get_within}
-use Rattle.tc_code.specs.Code.{Code}
+use Rattle.path_walk.specs.tc_code.Code.{Code}
 use Rattle.path_walk.specs.Paths.{Paths}
-use Rattle.store_buffers.specs.Pending.{Binding}
-use Rattle.sym_terms.specs.declared.node.Node.{Node}
-use Rattle.sym_exec.specs.Executed.{Symbolic}
+use Rattle.order_events.specs.store_buffers.Pending.{Binding}
+use Rattle.order_formula.specs.sym_terms.declared.node.Node.{Node}
+use Rattle.order_events.specs.sym_exec.Executed.{Symbolic}
 use Rattle.order_formula.specs.declared.formula.Body.{Body}
 use Rattle.order_formula.specs.declared.formula.Body.TheVariants.{Any, Read as Reads}
 use Rattle.order_formula.specs.declared.formula.Conjunct.{Conjunct}
@@ -18,9 +18,9 @@ use Rattle.order_formula.specs.Formulas.{IsOf, BodyIsOf, ConjunctIsOf, LiteralIs
 use Rattle.order_formula.specs.Groups.{IsExactly}
 use Rattle.order_formula.specs.Orders.{Order, BodyIsIn, ConjunctIsIn, LiteralIsIn}
 use Rattle.order_formula.specs.Worlds.{World}
-use Rattle.lawful_order.specs.Events.{all_events, all_sleeps, number_of}
-use Rattle.lawful_order.specs.Lawful.{IsWorldOf, MeetsRule}
-use Rattle.lawful_order.specs.Whole.{AreWhole, HasStep}
+use Rattle.order_events.specs.lawful_order.Events.{all_events, all_sleeps, number_of}
+use Rattle.order_events.specs.lawful_order.Lawful.{IsWorldOf, MeetsRule}
+use Rattle.order_events.specs.lawful_order.Whole.{AreWhole, HasStep}
 use Rattle.condition_order.specs.Conditions.{condition_formula}
 use Rattle.condition_order.proofs.Atoms.{no_terms}
 use Rattle.condition_order.proofs.Exact.{exact}

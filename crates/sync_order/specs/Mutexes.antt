@@ -7,7 +7,7 @@ use Rattle.path_walk.specs.declared.event.Region.{Region}
 use Rattle.order_formula.specs.declared.literal.Literal.{Literal}
 use Rattle.order_formula.specs.declared.formula.Conjunct.{Conjunct}
 use Rattle.order_formula.specs.declared.group.Group.TheVariants.{Mutex}
-use Rattle.lawful_order.specs.Events.{Of, all_from, all_events}
+use Rattle.order_events.specs.lawful_order.Events.{Of, all_from, all_events}
 use Rattle.order_events.specs.Parts.{comes_before, one_of}
 
 -- the results of f for every two elements, in the order of the list, concatenated

@@ -12,7 +12,7 @@ use Rattle.order_formula.specs.declared.literal.Literal.{Literal}
 use Rattle.order_formula.specs.declared.formula.Body.TheVariants.{Any}
 use Rattle.order_formula.specs.declared.formula.Conjunct.{Conjunct}
 use Rattle.order_formula.specs.declared.group.Group.TheVariants.{Stuck}
-use Rattle.lawful_order.specs.Events.{Of, all_events, all_sleeps}
+use Rattle.order_events.specs.lawful_order.Events.{Of, all_events, all_sleeps}
 use Rattle.order_events.specs.Parts.{of_each}
 use Rattle.condition_order.specs.declared.wait.Ender.{Ender}
 use Rattle.condition_order.specs.Conditions.{enders, fails}
@@ -50,14 +50,16 @@ module _ (threads : List Walk) where
 
   -- whether the child `number` of `parent` has exited
   abbrev pub has_exited : (parent : Walk) → ℕ → Bool
-  has_exited parent number = list_any (λ q. is_child parent number q && list_any (λ x. is_exit x.kind) q.events) threads
+  has_exited parent number =
+      list_any (λ q. is_child parent number q && list_any (λ x. is_exit x.kind) q.events) threads
 
 module _ (paths : Paths) where
   -- the cases in which a blocked thread can't go on
   abbrev pub cannot_go_on : (t : ℕ) → Walk → Blocked → List (List Literal)
   cannot_go_on t q (Lock m) = cases_if (is_held paths.threads m)
   cannot_go_on t q (Wake c m k) =
-      if is_held paths.threads m then [] ∷ [] else sleeps_on (all_events paths) (all_sleeps paths) t k ∷ []
+      if is_held paths.threads m then [] ∷ []
+      else sleeps_on (all_events paths) (all_sleeps paths) t k ∷ []
   cannot_go_on t q (Join k) = cases_if (not (has_exited paths.threads q k))
 
   abbrev pub stuck_at : (t : ℕ) → Walk → Blocked → Conjunct

@@ -20,4 +20,6 @@ is_sync (Read t line) = false
 is_sync (Test t line) = false
 
 abbrev pub sync_formula : Paths → List Conjunct
-sync_formula paths = children_formula paths ++ mutexes_formula paths ++ condition_formula paths ++ stuck_formula paths
+sync_formula paths =
+    children_formula paths ++ mutexes_formula paths ++ condition_formula paths
+    ++ stuck_formula paths

@@ -2,20 +2,20 @@
 //! body.
 ghost use Rattle.std.specs.Prelude.{◌≡◌, ℕ, List, length, Bool, true};
 ghost use Rattle.std.specs.List.{All, Contains};
-ghost use Rattle.tc_code.specs.Code.{Code};
+ghost use Rattle.path_walk.specs.tc_code.Code.{Code};
 ghost use Rattle.path_walk.specs.Paths.{Paths};
-ghost use Rattle.store_buffers.specs.Pending.{Binding};
-ghost use Rattle.sym_terms.specs.declared.node.Node.{Node};
-ghost use Rattle.sym_exec.specs.Executed.{Symbolic};
+ghost use Rattle.order_events.specs.store_buffers.Pending.{Binding};
+ghost use Rattle.order_formula.specs.sym_terms.declared.node.Node.{Node};
+ghost use Rattle.order_events.specs.sym_exec.Executed.{Symbolic};
 ghost use Rattle.order_formula.specs.declared.formula.Conjunct.{Conjunct};
 ghost use Rattle.order_formula.specs.declared.group.Group.{Group};
 ghost use Rattle.order_formula.specs.Formulas.{IsOf};
 ghost use Rattle.order_formula.specs.Groups.{IsExactly};
 ghost use Rattle.order_formula.specs.Orders.{ConjunctIsIn, Order};
 ghost use Rattle.order_formula.specs.Worlds.{World};
-ghost use Rattle.lawful_order.specs.Events.{all_events, all_sleeps};
-ghost use Rattle.lawful_order.specs.Lawful.{IsWorldOf, MeetsRule};
-ghost use Rattle.lawful_order.specs.Whole.{AreWhole};
+ghost use Rattle.order_events.specs.lawful_order.Events.{all_events, all_sleeps};
+ghost use Rattle.order_events.specs.lawful_order.Lawful.{IsWorldOf, MeetsRule};
+ghost use Rattle.order_events.specs.lawful_order.Whole.{AreWhole};
 ghost use Rattle.sync_order.specs.Sync.{is_sync, sync_formula};
 
 /// All conjuncts of a group are true in a world exactly when it meets the rule of that group.

@@ -1,6 +1,6 @@
 //! A mutex is released before it is taken again.
 ghost use Rattle.std.specs.Prelude.{◌≡◌, ◌++◌, flat_map, map, option_to_list, IfOk, OnOk};
-ghost use Rattle.lawful_order.specs.Events.{all_from};
+ghost use Rattle.order_events.specs.lawful_order.Events.{all_from};
 ghost use Rattle.sync_order.specs.Mutexes.{exclude, excludes, exclusive, left_before, of_pairs};
 
 use order_events::{Events, one_of};
@@ -17,7 +17,7 @@ struct PlacedRegion {
 }
 
 impl Model for PlacedRegion {
-    ghost use Rattle.lawful_order.specs.Events.{Of};
+    ghost use Rattle.order_events.specs.lawful_order.Events.{Of};
     ghost use Rattle.path_walk.specs.declared.event.Region.{Region};
 
     ghost Value = { Of Region };

@@ -1,7 +1,7 @@
 //! At the end of a deadlock, no thread that hasn't exited can go on.
 ghost use Rattle.std.specs.Prelude.{◌≡◌, ◌++◌, [], ◌∷◌, ◌<◌, ◌^◌, length, map, IfOk, OnOk};
 ghost use Rattle.std.specs.List.{list_any};
-ghost use Rattle.lawful_order.specs.Events.{all_events, all_sleeps};
+ghost use Rattle.order_events.specs.lawful_order.Events.{all_events, all_sleeps};
 ghost use Rattle.sync_order.specs.Children.{is_exit};
 ghost use Rattle.sync_order.specs.Stuck.{cannot_go_on, cases_if, has_exited, is_held, is_open, sleeps_on, stuck_formula, not_ended_literal};
 

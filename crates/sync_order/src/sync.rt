@@ -1,9 +1,9 @@
 //! All conjuncts of synchronisation.
 ghost use Rattle.std.specs.Prelude.{◌≡◌, ◌≤◌, ◌<◌, ◌^◌, length, IfOk, OnOk};
-ghost use Rattle.tc_limits.specs.declared.limits.TheConstants.{EVENTS};
+ghost use Rattle.path_walk.specs.tc_limits.declared.limits.TheConstants.{EVENTS};
 ghost use Rattle.order_formula.specs.Orders.{Grows, with_formula};
-ghost use Rattle.lawful_order.specs.Events.{all_events, all_sleeps};
-ghost use Rattle.lawful_order.specs.Whole.{AreWhole};
+ghost use Rattle.order_events.specs.lawful_order.Events.{all_events, all_sleeps};
+ghost use Rattle.order_events.specs.lawful_order.Whole.{AreWhole};
 ghost use Rattle.sync_order.specs.Sync.{sync_formula};
 
 use crate::children::push_children;

@@ -3,13 +3,13 @@ use Rattle.std.specs.Prelude.{◌≡◌, ℕ, Bool, true, false, List, [], ◌�
 use Rattle.std.specs.Prelude.{if◌then◌else◌}
 use Rattle.std.proofs.Common.{ap, subst, ◌∙◌}
 use Rattle.std.proofs.lemmas.Option.{none-some, same_Some, option_and_then_some}
-use Rattle.tc_base.specs.Buffers.{BufferOps}
-use Rattle.tc_base.specs.Paths.{ThreadPath, place_in}
+use Rattle.run_log.specs.tc_base.Buffers.{BufferOps}
+use Rattle.run_log.specs.tc_base.Paths.{ThreadPath, place_in}
 use Rattle.run_log.specs.Logs.{Log, failing_of}
-use Rattle.tc_base.specs.States.{Local, State}
-use Rattle.tc_base.specs.declared.failing.Failing.{Failing}
-use Rattle.tc_base.specs.declared.failing.Failing.TheVariants as failing
-use Rattle.tc_base.specs.declared.moves.Move.{Move}
+use Rattle.run_log.specs.tc_base.States.{Local, State}
+use Rattle.run_log.specs.tc_base.declared.failing.Failing.{Failing}
+use Rattle.run_log.specs.tc_base.declared.failing.Failing.TheVariants as failing
+use Rattle.run_log.specs.tc_base.declared.moves.Move.{Move}
 use Rattle.tc_code.specs.declared.instr.Instr.{Instr}
 use Rattle.tc_code.specs.Code.{Code, instr_at}
 use Rattle.tc_code.specs.Lawful.{IsLawful, IsLawfulFunction}

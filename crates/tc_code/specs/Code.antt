@@ -13,12 +13,15 @@ pub record Code : Type 0 where
 
 -- code made of these parts
 abbrev pub code_of : List ℤ → ℕ → ℕ → List Func → Code
-code_of memory mutexes conditions functions = record { memory = memory; mutexes = mutexes; conditions = conditions; functions = functions }
+code_of memory mutexes conditions functions =
+    record { memory = memory; mutexes = mutexes; conditions = conditions; functions = functions }
 
 -- the instruction at a place, if there is one
 abbrev pub instr_at : Code → ℕ → ℕ → Option Instr
-instr_at code function instruction = option_and_then (λ f. slice_get f.instrs instruction) (slice_get code.functions function)
+instr_at code function instruction =
+    option_and_then (λ f. slice_get f.instrs instruction) (slice_get code.functions function)
 
 -- the line of an instruction in the program's text
 abbrev pub line_at : Code → ℕ → ℕ → Option ℕ
-line_at code function instruction = option_and_then (λ f. slice_get f.lines instruction) (slice_get code.functions function)
+line_at code function instruction =
+    option_and_then (λ f. slice_get f.lines instruction) (slice_get code.functions function)

@@ -20,9 +20,11 @@ takes code f n = option_map_or (λ g. g.params == n) (slice_get code.functions f
 abbrev pub names_what_is : Code → Func → Instr → Bool
 names_what_is code f (Set k e) = nat_lt k f.ints && names_slots f.ints e
 names_what_is code f (Load k c) = nat_lt k f.ints && nat_lt c (length code.memory)
-names_what_is code f (LoadAt k a len i) = nat_lt k f.ints && nat_le (a + len) (length code.memory) && names_slots f.ints i
+names_what_is code f (LoadAt k a len i) =
+    nat_lt k f.ints && nat_le (a + len) (length code.memory) && names_slots f.ints i
 names_what_is code f (Store c e) = nat_lt c (length code.memory) && names_slots f.ints e
-names_what_is code f (StoreAt a len i e) = nat_le (a + len) (length code.memory) && names_slots f.ints i && names_slots f.ints e
+names_what_is code f (StoreAt a len i e) =
+    nat_le (a + len) (length code.memory) && names_slots f.ints i && names_slots f.ints e
 names_what_is code f (Inside len i) = nat_le len (length code.memory) && names_slots f.ints i
 names_what_is code f (Branch e to) = names_slots f.ints e
 names_what_is code f (Goto to) = true
@@ -33,14 +35,18 @@ names_what_is code f (Sleep c m) = nat_lt c code.conditions && nat_lt m code.mut
 names_what_is code f (Wake c m) = nat_lt c code.conditions && nat_lt m code.mutexes
 names_what_is code f (Signal c) = nat_lt c code.conditions
 names_what_is code f (Broadcast c) = nat_lt c code.conditions
-names_what_is code f (Create h g es) = nat_lt h f.handles && takes code g (length es) && list_all (names_slots f.ints) es
+names_what_is code f (Create h g es) =
+    nat_lt h f.handles && takes code g (length es) && list_all (names_slots f.ints) es
 names_what_is code f (Ready h) = nat_lt h f.handles
 names_what_is code f (Join h) = nat_lt h f.handles
 names_what_is code f (Assert e) = names_slots f.ints e
 names_what_is code f (Nonzero e) = names_slots f.ints e
 names_what_is code f (InRange e) = names_slots f.ints e
-names_what_is code f (Swap k c e) = nat_lt k f.ints && nat_lt c (length code.memory) && names_slots f.ints e
-names_what_is code f (Cas k c e new) = nat_lt k f.ints && nat_lt c (length code.memory) && names_slots f.ints e && names_slots f.ints new
+names_what_is code f (Swap k c e) =
+    nat_lt k f.ints && nat_lt c (length code.memory) && names_slots f.ints e
+names_what_is code f (Cas k c e new) =
+    nat_lt k f.ints && nat_lt c (length code.memory) && names_slots f.ints e
+    && names_slots f.ints new
 names_what_is code f Fence = true
 names_what_is code f Stbar = true
 names_what_is code f Exit = true
@@ -160,8 +166,10 @@ pub record IsTarget (is : List Instr) (k : ℕ) : Type 0 where
 pub record Guards (is : List Instr) (len : ℕ) (index : Expr) (place k : ℕ) : Type 0 where
   pub before : place < k
   pub test : slice_get is place ≡ Some (Inside len index)
-  pub kept : (at : ℕ) (i : Instr) → slice_get is at ≡ Some i → place < at → at < k → IsTrue (keeps index i)
-  pub enters : (from to : ℕ) (i : Instr) → slice_get is from ≡ Some i → target i ≡ Some to → place < to → to ≤ k → (place < from) × (from < k)
+  pub kept : (at : ℕ) (i : Instr) → slice_get is at ≡ Some i → place < at → at < k
+      → IsTrue (keeps index i)
+  pub enters : (from to : ℕ) (i : Instr) → slice_get is from ≡ Some i → target i ≡ Some to
+      → place < to → to ≤ k → (place < from) × (from < k)
 
 -- some test guards the index of the access at k
 abbrev pub IsGuarded : List Instr → ℕ → Expr → ℕ → Type 0
@@ -177,18 +185,25 @@ pub record IsLawfulFunction (code : Code) (f : Func) : Type 0 where
   -- every number in its expressions is an int
   pub ints : (k : ℕ) (i : Instr) → slice_get f.instrs k ≡ Some i → All HasInts (exprs_of i)
   -- a jump leads to an instruction that isn't bound to the one before it
-  pub jump : (k to : ℕ) (i : Instr) → slice_get f.instrs k ≡ Some i → target i ≡ Some to → IsTarget f.instrs to
+  pub jump : (k to : ℕ) (i : Instr) → slice_get f.instrs k ≡ Some i → target i ≡ Some to
+      → IsTarget f.instrs to
   -- an unlock, or the start of a wait, directly follows the test that the thread holds the mutex
-  pub unlock : (k m : ℕ) → slice_get f.instrs k ≡ Some (Unlock m) → StandsBefore f.instrs k (Holds m)
-  pub sleep : (k c m : ℕ) → slice_get f.instrs k ≡ Some (Sleep c m) → StandsBefore f.instrs k (Holds m)
+  pub unlock : (k m : ℕ) → slice_get f.instrs k ≡ Some (Unlock m)
+      → StandsBefore f.instrs k (Holds m)
+  pub sleep : (k c m : ℕ) → slice_get f.instrs k ≡ Some (Sleep c m)
+      → StandsBefore f.instrs k (Holds m)
   -- the two halves of a wait are adjacent
-  pub wait : (k c m : ℕ) → slice_get f.instrs k ≡ Some (Sleep c m) → slice_get f.instrs (k + 1) ≡ Some (Wake c m)
-  pub wake : (k c m : ℕ) → slice_get f.instrs k ≡ Some (Wake c m) → StandsBefore f.instrs k (Sleep c m)
+  pub wait : (k c m : ℕ) → slice_get f.instrs k ≡ Some (Sleep c m)
+      → slice_get f.instrs (k + 1) ≡ Some (Wake c m)
+  pub wake : (k c m : ℕ) → slice_get f.instrs k ≡ Some (Wake c m)
+      → StandsBefore f.instrs k (Sleep c m)
   -- a join directly follows the test that the child can be joined
   pub join : (k h : ℕ) → slice_get f.instrs k ≡ Some (Join h) → StandsBefore f.instrs k (Ready h)
   -- the index of every array access is guarded by a test
-  pub load : (k slot first len : ℕ) (index : Expr) → slice_get f.instrs k ≡ Some (LoadAt slot first len index) → IsGuarded f.instrs len index k
-  pub store : (k first len : ℕ) (index value : Expr) → slice_get f.instrs k ≡ Some (StoreAt first len index value) → IsGuarded f.instrs len index k
+  pub load : (k slot first len : ℕ) (index : Expr)
+      → slice_get f.instrs k ≡ Some (LoadAt slot first len index) → IsGuarded f.instrs len index k
+  pub store : (k first len : ℕ) (index value : Expr)
+      → slice_get f.instrs k ≡ Some (StoreAt first len index value) → IsGuarded f.instrs len index k
   -- the last instruction is an exit, and no other is
   pub last : slice_get f.instrs (length f.instrs - 1) ≡ Some Exit
   pub only : (k : ℕ) → slice_get f.instrs k ≡ Some Exit → k + 1 ≡ length f.instrs
@@ -202,9 +217,12 @@ pub record HasMain (code : Code) : Type 0 where
 -- memory has single cells and arrays; arrays don't overlap, start as 0, and are named as a whole
 pub record HasArrays (code : Code) : Type 0 where
   pub arrays : List Array
-  pub apart : (j k : ℕ) (a b : Array) → slice_get arrays j ≡ Some a → slice_get arrays k ≡ Some b → j < k → a.first + a.length ≤ b.first
-  pub zero : (j k : ℕ) (a : Array) → slice_get arrays j ≡ Some a → k < a.length → slice_get code.memory (a.first + k) ≡ Some (pos 0)
-  pub named : (f k : ℕ) (g : Func) (i : Instr) → slice_get code.functions f ≡ Some g → slice_get g.instrs k ≡ Some i
+  pub apart : (j k : ℕ) (a b : Array) → slice_get arrays j ≡ Some a → slice_get arrays k ≡ Some b
+      → j < k → a.first + a.length ≤ b.first
+  pub zero : (j k : ℕ) (a : Array) → slice_get arrays j ≡ Some a → k < a.length
+      → slice_get code.memory (a.first + k) ≡ Some (pos 0)
+  pub named : (f k : ℕ) (g : Func) (i : Instr) → slice_get code.functions f ≡ Some g
+      → slice_get g.instrs k ≡ Some i
       → IsTrue (keeps_apart arrays i)
 
 pub record IsLawful (code : Code) : Type 0 where

@@ -54,15 +54,18 @@ abbrev pub expr_text : Expr → List ℕ
 expr_text (Number n) = signed_decimal n
 expr_text (Slot k) = slot_text k
 expr_text (Unary op a) = codes "(" ++ (unary_text op ++ (expr_text a ++ codes ")"))
-expr_text (Binary op a b) = codes "(" ++ (spaced (expr_text a ∷ binary_text op ∷ expr_text b ∷ []) ++ codes ")")
+expr_text (Binary op a b) =
+    codes "(" ++ (spaced (expr_text a ∷ binary_text op ∷ expr_text b ∷ []) ++ codes ")")
 
 -- an instruction as text: its word, then everything that it names, by number
 abbrev pub instr_text : Instr → List ℕ
 instr_text (Set k e) = spaced (codes "set" ∷ slot_text k ∷ expr_text e ∷ [])
 instr_text (Load k c) = spaced (codes "load" ∷ slot_text k ∷ decimal c ∷ [])
-instr_text (LoadAt k a len i) = spaced (codes "loadat" ∷ slot_text k ∷ decimal a ∷ decimal len ∷ expr_text i ∷ [])
+instr_text (LoadAt k a len i) =
+    spaced (codes "loadat" ∷ slot_text k ∷ decimal a ∷ decimal len ∷ expr_text i ∷ [])
 instr_text (Store c e) = spaced (codes "store" ∷ decimal c ∷ expr_text e ∷ [])
-instr_text (StoreAt a len i e) = spaced (codes "storeat" ∷ decimal a ∷ decimal len ∷ expr_text i ∷ expr_text e ∷ [])
+instr_text (StoreAt a len i e) =
+    spaced (codes "storeat" ∷ decimal a ∷ decimal len ∷ expr_text i ∷ expr_text e ∷ [])
 instr_text (Inside len i) = spaced (codes "inside" ∷ decimal len ∷ expr_text i ∷ [])
 instr_text (Branch e to) = spaced (codes "branch" ∷ expr_text e ∷ decimal to ∷ [])
 instr_text (Goto to) = spaced (codes "goto" ∷ decimal to ∷ [])
@@ -80,7 +83,8 @@ instr_text (Assert e) = spaced (codes "assert" ∷ expr_text e ∷ [])
 instr_text (Nonzero e) = spaced (codes "nonzero" ∷ expr_text e ∷ [])
 instr_text (InRange e) = spaced (codes "inrange" ∷ expr_text e ∷ [])
 instr_text (Swap k c e) = spaced (codes "swap" ∷ slot_text k ∷ decimal c ∷ expr_text e ∷ [])
-instr_text (Cas k c e new) = spaced (codes "cas" ∷ slot_text k ∷ decimal c ∷ expr_text e ∷ expr_text new ∷ [])
+instr_text (Cas k c e new) =
+    spaced (codes "cas" ∷ slot_text k ∷ decimal c ∷ expr_text e ∷ expr_text new ∷ [])
 instr_text Fence = codes "fence"
 instr_text Stbar = codes "stbar"
 instr_text Exit = codes "exit"

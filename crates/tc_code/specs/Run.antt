@@ -1,14 +1,14 @@
 -- Runs of the machine, and what they reproduce.
 use Rattle.std.specs.Prelude.{◌≡◌, List, [], ◌∷◌, Bool, false, Option, Some, None, option_and_then, option_map, slice_get, IsSomeAnd}
 use Rattle.std.specs.FinMap as map
-use Rattle.tc_base.specs.Names.{Name}
-use Rattle.tc_base.specs.Buffers.{BufferOps}
-use Rattle.tc_base.specs.States.{Thread, State}
-use Rattle.tc_base.specs.Paths.{Path, ThreadPath, path_under}
+use Rattle.run_log.specs.tc_base.Names.{Name}
+use Rattle.run_log.specs.tc_base.Buffers.{BufferOps}
+use Rattle.run_log.specs.tc_base.States.{Thread, State}
+use Rattle.run_log.specs.tc_base.Paths.{Path, ThreadPath, path_under}
 use Rattle.run_log.specs.Logs.{Log}
-use Rattle.tc_base.specs.declared.failing.Failing.{Failing}
-use Rattle.tc_base.specs.declared.failing.Failing.TheVariants as failing
-use Rattle.tc_base.specs.declared.moves.Move.{Move}
+use Rattle.run_log.specs.tc_base.declared.failing.Failing.{Failing}
+use Rattle.run_log.specs.tc_base.declared.failing.Failing.TheVariants as failing
+use Rattle.run_log.specs.tc_base.declared.moves.Move.{Move}
 use Rattle.tc_code.specs.Code.{Code}
 use Rattle.tc_code.specs.Step.{step, opening}
 
@@ -48,7 +48,8 @@ module _ {B : Type 0} (ops : BufferOps B) (code : Code) where
 
   -- the state ends as logged: the thread at this place has failed, or there is a deadlock
   abbrev pub EndsAs : Failing → List ThreadPath → State B → Type 0
-  EndsAs (failing.Thread k) threads s = IsSomeAnd (slice_get threads k) (λ t. s.failed ≡ Some t.name)
+  EndsAs (failing.Thread k) threads s =
+      IsSomeAnd (slice_get threads k) (λ t. s.failed ≡ Some t.name)
   EndsAs failing.Deadlock threads s = IsStuck s
 
   -- the moves reproduce the log: the run ends as logged, and each thread takes its logged path

@@ -8,16 +8,16 @@ use Rattle.std.specs.Cmp.Lexicographic.{slice_cmp}
 use Rattle.std.specs.FinMap as fin
 use Rattle.std.specs.FinSet as set
 use Rattle.int_ops.specs.Arith.{is_distance}
-use Rattle.tc_base.specs.Names.{Name, main, child}
-use Rattle.tc_base.specs.Buffers.{BufferOps}
-use Rattle.tc_base.specs.States.{Local, Thread, State}
-use Rattle.tc_base.specs.declared.handle.Handle.{Handle}
-use Rattle.tc_base.specs.declared.handle.Handle.TheVariants.{Unset, Child, Joined}
-use Rattle.tc_base.specs.declared.moves.Move.{Move}
-use Rattle.tc_base.specs.declared.moves.Move.TheVariants as move
-use Rattle.tc_base.specs.declared.request.Request.{Request}
-use Rattle.tc_base.specs.declared.request.Request.TheVariants.{Silent, Read, Write, Exchange, CompareExchange, Bar, Acquire, Release, BeginWait}
-use Rattle.tc_base.specs.declared.request.Request.TheVariants.{EndWait, WakeOne, WakeAll, Start, Await, OrderStores, Finish, Fail}
+use Rattle.run_log.specs.tc_base.Names.{Name, main, child}
+use Rattle.run_log.specs.tc_base.Buffers.{BufferOps}
+use Rattle.run_log.specs.tc_base.States.{Local, Thread, State}
+use Rattle.run_log.specs.tc_base.declared.handle.Handle.{Handle}
+use Rattle.run_log.specs.tc_base.declared.handle.Handle.TheVariants.{Unset, Child, Joined}
+use Rattle.run_log.specs.tc_base.declared.moves.Move.{Move}
+use Rattle.run_log.specs.tc_base.declared.moves.Move.TheVariants as move
+use Rattle.run_log.specs.tc_base.declared.request.Request.{Request}
+use Rattle.run_log.specs.tc_base.declared.request.Request.TheVariants.{Silent, Read, Write, Exchange, CompareExchange, Bar, Acquire, Release, BeginWait}
+use Rattle.run_log.specs.tc_base.declared.request.Request.TheVariants.{EndWait, WakeOne, WakeAll, Start, Await, OrderStores, Finish, Fail}
 use Rattle.tc_code.specs.Expr.{Expr, value_of}
 use Rattle.tc_code.specs.declared.instr.Instr.{Instr}
 use Rattle.tc_code.specs.declared.instr.Instr.TheVariants.{Set, Load, LoadAt, Store, StoreAt, Inside, Branch, Goto, Holds, Lock, Unlock, Sleep, Wake}
@@ -126,9 +126,13 @@ local_after t (Sleep c m) v = step_with_mutex t m false
 local_after t (Wake c m) v = step_with_mutex t m true
 local_after t (Signal c) v = step_to_next t
 local_after t (Broadcast c) v = step_to_next t
-local_after t (Create h g es) v = record (step_to_next t) { handles = slice_set t.handles h (Child (t.children + 1)); children = t.children + 1 }
+local_after t (Create h g es) v =
+    record (step_to_next t)
+    { handles = slice_set t.handles h (Child (t.children + 1)); children = t.children + 1 }
 local_after t (Ready h) v = step_to_next t
-local_after t (Join h) v = record (step_to_next t) { handles = slice_set t.handles h (Joined (child_number (handle_of t h))) }
+local_after t (Join h) v =
+    record (step_to_next t)
+    { handles = slice_set t.handles h (Joined (child_number (handle_of t h))) }
 local_after t (Assert e) v = step_to_next t
 local_after t (Nonzero e) v = step_to_next t
 local_after t (InRange e) v = step_to_next t
@@ -171,7 +175,8 @@ replaced old expected value = if int_eq old expected then value else old
 
 -- whether a thread's child of that number has exited
 abbrev pub child_has_exited : {B : Type 0} → State B → Name → ℕ → Bool
-child_has_exited s n k = option_map_or (λ t. t.local.has_exited) (fin.get s.threads (child n k)) false
+child_has_exited s n k =
+    option_map_or (λ t. t.local.has_exited) (fin.get s.threads (child n k)) false
 
 -- whether a request is an event of a thread's path: neither silent nor a bar
 abbrev pub is_event : Request → Bool
@@ -261,12 +266,14 @@ module _ {B : Type 0} (ops : BufferOps B) where
   abbrev pub state_after_store : State B → Name → Thread B → Instr → ℕ → ℤ → State B
   state_after_store s n t i c v =
       if ops.buffered
-      then with_thread s n (record { local = local_after t.local i (pos 0); buffer = ops.issue t.buffer c v })
+      then with_thread s n
+      (record { local = local_after t.local i (pos 0); buffer = ops.issue t.buffer c v })
       else record (state_after_step s n t i) { memory = slice_set s.memory c v }
 
   -- the state after an exchange: in one step, the thread loads the cell and stores v to it
   abbrev pub state_after_exchange : State B → Name → Thread B → Instr → ℕ → ℤ → State B
-  state_after_exchange s n t i c v = record (state_after_read s n t i (in_memory s c)) { memory = slice_set s.memory c v }
+  state_after_exchange s n t i c v =
+      record (state_after_read s n t i (in_memory s c)) { memory = slice_set s.memory c v }
 
   -- a new thread: its first slots are the arguments, and everything else is 0, unset or free
   abbrev pub born : Code → ℕ → List ℤ → Thread B
@@ -291,47 +298,73 @@ module _ {B : Type 0} (ops : BufferOps B) where
   perform code s n t i (Read c) = state_after_read s n t i (loaded s t c)
   perform code s n t i (Write c v) = state_after_store s n t i c v
   perform code s n t i (Exchange c v) = state_after_exchange s n t i c v
-  perform code s n t i (CompareExchange c e v) = state_after_exchange s n t i c (replaced (in_memory s c) e v)
-  perform code s n t i Bar = with_thread s n (record { local = local_after t.local i (pos 0); buffer = ops.bar t.buffer })
-  perform code s n t i (Acquire m) = record (state_after_step s n t i) { owners = slice_set s.owners m (Some n) }
-  perform code s n t i (Release m) = record (state_after_step s n t i) { owners = slice_set s.owners m None }
+  perform code s n t i (CompareExchange c e v) =
+      state_after_exchange s n t i c (replaced (in_memory s c) e v)
+  perform code s n t i Bar =
+      with_thread s n (record { local = local_after t.local i (pos 0); buffer = ops.bar t.buffer })
+  perform code s n t i (Acquire m) =
+      record (state_after_step s n t i) { owners = slice_set s.owners m (Some n) }
+  perform code s n t i (Release m) =
+      record (state_after_step s n t i) { owners = slice_set s.owners m None }
   perform code s n t i (BeginWait c m) =
-      record (state_after_step s n t i) { owners = slice_set s.owners m None; waiters = slice_set s.waiters c (set.insert (waiting_on s c) n) }
-  perform code s n t i (EndWait c m) = record (state_after_step s n t i) { owners = slice_set s.owners m (Some n) }
+      record (state_after_step s n t i) {
+        owners = slice_set s.owners m None;
+        waiters = slice_set s.waiters c
+            (set.insert (waiting_on s c) n);
+      }
+  perform code s n t i (EndWait c m) =
+      record (state_after_step s n t i) { owners = slice_set s.owners m (Some n) }
   perform code s n t i (WakeOne c) = state_after_step s n t i
-  perform code s n t i (WakeAll c) = record (state_after_step s n t i) { waiters = slice_set s.waiters c set.empty }
-  perform code s n t i (Start f) = with_thread (state_after_step s n t i) (child n (t.local.children + 1)) (born code f (arguments_of t.local i))
+  perform code s n t i (WakeAll c) =
+      record (state_after_step s n t i) { waiters = slice_set s.waiters c set.empty }
+  perform code s n t i (Start f) =
+      with_thread (state_after_step s n t i) (child n (t.local.children + 1))
+      (born code f (arguments_of t.local i))
   perform code s n t i (Await k) = state_after_step s n t i
   perform code s n t i OrderStores = state_after_step s n t i
   perform code s n t i Finish = state_after_step s n t i
-  perform code s n t i Fail = record (with_thread s n (record t { local = step_in_place t.local })) { failed = Some n }
+  perform code s n t i Fail =
+      record (with_thread s n (record t { local = step_in_place t.local })) { failed = Some n }
 
   -- the state after a thread's instruction, if its request is allowed
   abbrev pub run_of : Code → State B → Name → Thread B → Instr → Option (State B)
-  run_of code s n t i = if allows s n t (request t.local i) then Some (perform code s n t i (request t.local i)) else None
+  run_of code s n t i =
+      if allows s n t (request t.local i) then Some (perform code s n t i (request t.local i))
+      else None
 
   -- the state after thread n signals condition c and wakes thread u
   abbrev pub state_after_wake : State B → Name → Name → Thread B → ℕ → State B
-  state_after_wake s n u t c = record (state_after_step s n t (Signal c)) { waiters = slice_set s.waiters c (set.remove (waiting_on s c) u) }
+  state_after_wake s n u t c =
+      record (state_after_step s n t (Signal c))
+      { waiters = slice_set s.waiters c (set.remove (waiting_on s c) u) }
 
   abbrev pub wake_of : State B → Name → Name → Thread B → Instr → Option (State B)
-  wake_of s n u t (Signal c) = if ops.is_empty t.buffer && set.contains (waiting_on s c) u then Some (state_after_wake s n u t c) else None
+  wake_of s n u t (Signal c) =
+      if ops.is_empty t.buffer && set.contains (waiting_on s c) u
+      then Some (state_after_wake s n u t c) else None
   wake_of s n u t _ = None
 
   -- the state after a buffered store of the thread reaches memory
   abbrev pub state_after_drain : State B → Name → Thread B → Option ℕ → State B
   state_after_drain s n t form =
       let out = ops.drain t.buffer form in
-      record (with_thread s n (record t { buffer = out.rest })) { memory = slice_set s.memory out.entry.cell out.entry.value }
+      record (with_thread s n (record t { buffer = out.rest }))
+      { memory = slice_set s.memory out.entry.cell out.entry.value }
 
   abbrev pub drain_of : State B → Name → Thread B → Option ℕ → Option (State B)
-  drain_of s n t form = if ops.may_drain t.buffer form then Some (state_after_drain s n t form) else None
+  drain_of s n t form =
+      if ops.may_drain t.buffer form then Some (state_after_drain s n t form) else None
 
   -- the state after a move, if it is enabled, where no thread has failed yet
   abbrev pub move_of : Code → State B → Move → Option (State B)
-  move_of code s (move.Run n) = option_and_then (λ t. option_and_then (run_of code s n t) (instr_of code t.local)) (fin.get s.threads n)
-  move_of code s (move.Wake n u) = option_and_then (λ t. option_and_then (wake_of s n u t) (instr_of code t.local)) (fin.get s.threads n)
-  move_of code s (move.Drain n form) = option_and_then (λ t. drain_of s n t form) (fin.get s.threads n)
+  move_of code s (move.Run n) =
+      option_and_then (λ t. option_and_then (run_of code s n t) (instr_of code t.local))
+      (fin.get s.threads n)
+  move_of code s (move.Wake n u) =
+      option_and_then (λ t. option_and_then (wake_of s n u t) (instr_of code t.local))
+      (fin.get s.threads n)
+  move_of code s (move.Drain n form) =
+      option_and_then (λ t. drain_of s n t form) (fin.get s.threads n)
 
   -- the state after a move, or None if it isn't enabled; after a failure, no move is
   abbrev pub step : Code → State B → Move → Option (State B)

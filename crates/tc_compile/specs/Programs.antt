@@ -5,7 +5,7 @@ use Rattle.tc_lower.specs.Lowering.{code_of}
 use Rattle.tc_parser.specs.Faults.{text_fault_text}
 use Rattle.tc_parser.specs.Programs.{IsProgram, IsTextFault}
 use Rattle.tc_parser.specs.declared.fault.TextFault.{TextFault}
-use Rattle.tc_tree.specs.Grammar.{Program}
+use Rattle.tc_parser.specs.tc_tree.Grammar.{Program}
 use Rattle.tc_compile.specs.declared.fault.CompileFault.{CompileFault}
 use Rattle.tc_compile.specs.declared.fault.CompileFault.TheVariants.{Refused, Memory}
 

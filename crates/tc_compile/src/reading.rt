@@ -1,6 +1,6 @@
 //! From a program's text to its flat code.
 ghost use Rattle.std.specs.Prelude.{◌≤◌, length, IfOk, IfErr};
-ghost use Rattle.tc_limits.specs.declared.limits.TheConstants.{PROGRAM_BYTES};
+ghost use Rattle.tc_lexer.specs.tc_limits.declared.limits.TheConstants.{PROGRAM_BYTES};
 ghost use Rattle.tc_compile.specs.Programs.{IsCodeOf, IsWhyNoCode};
 
 use crate::fault::CompileFault;

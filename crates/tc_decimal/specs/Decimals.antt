@@ -15,12 +15,14 @@ leads_with_zero _ = false
 -- the number that these bytes write, if it is at most `last`
 abbrev pub number_of : (last : ℕ) → List ℕ → Option ℕ
 number_of last word =
-    if list_all is_digit word && not (leads_with_zero word) && nat_lt 0 (length word) && nat_le (digits_value 10 word) last
+    if list_all is_digit word && not (leads_with_zero word) && nat_lt 0 (length word)
+    && nat_le (digits_value 10 word) last
     then Some (digits_value 10 word)
     else None
 
 -- the number that the digits at the front write, from `low` to `last`, and the bytes after them
 unfoldable pub number_at : (low last : ℕ) → List ℕ → Option (ℕ × List ℕ)
 number_at low last bytes =
-    option_and_then (λ n. if nat_le low n then Some (n, drop (prefix_len is_digit bytes) bytes) else None)
+    option_and_then
+    (λ n. if nat_le low n then Some (n, drop (prefix_len is_digit bytes) bytes) else None)
     (number_of last (take (prefix_len is_digit bytes) bytes))

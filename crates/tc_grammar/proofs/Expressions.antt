@@ -1,13 +1,13 @@
 -- Words begin with at most one expression.
 use Rattle.std.proofs.Common.{◌≡◌, Bool, true, false, List, [], ◌∷◌, Option, Some, None, refl, sym, ap, ◌∙◌}
-use Rattle.int_ops.specs.declared.arith.UnOp.{UnOp}
-use Rattle.int_ops.specs.declared.arith.UnOp.TheVariants.{Neg, Not, Inv}
-use Rattle.tc_lexer.specs.declared.token.Sign.{Sign}
-use Rattle.tc_lexer.specs.declared.token.Sign.TheVariants as sign
-use Rattle.tc_tree.specs.declared.expression.Operator.{Operator}
-use Rattle.tc_tree.specs.declared.word.Word.{Word}
-use Rattle.tc_tree.specs.declared.word.Word.TheVariants.{Sign as ASign}
-use Rattle.tc_tree.specs.Grammar.{
+use Rattle.tc_syntax.specs.int_ops.declared.arith.UnOp.{UnOp}
+use Rattle.tc_syntax.specs.int_ops.declared.arith.UnOp.TheVariants.{Neg, Not, Inv}
+use Rattle.tc_syntax.specs.tc_lexer.declared.token.Sign.{Sign}
+use Rattle.tc_syntax.specs.tc_lexer.declared.token.Sign.TheVariants as sign
+use Rattle.tc_syntax.specs.tc_tree.declared.expression.Operator.{Operator}
+use Rattle.tc_syntax.specs.tc_tree.declared.word.Word.{Word}
+use Rattle.tc_syntax.specs.tc_tree.declared.word.Word.TheVariants.{Sign as ASign}
+use Rattle.tc_syntax.specs.tc_tree.Grammar.{
   Expression,
   Number,
   Variable,

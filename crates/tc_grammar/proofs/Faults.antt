@@ -30,10 +30,10 @@ use Rattle.std.proofs.Common.{
 }
 use Rattle.std.proofs.lemmas.Bool.{cases_lt}
 use Rattle.std.proofs.lemmas.List.{take-append-drop, take-take}
-use Rattle.tc_lexer.specs.declared.token.Keyword.TheVariants as keyword
-use Rattle.tc_tree.specs.declared.word.Word.{Word}
-use Rattle.tc_tree.specs.declared.word.Word.TheVariants.{Keyword as AKeyword}
-use Rattle.tc_tree.specs.Grammar.{Program, AreOf, IsSpelled, Begins, IsSyntaxFault, globals_then, threads_then, body_then}
+use Rattle.tc_syntax.specs.tc_lexer.declared.token.Keyword.TheVariants as keyword
+use Rattle.tc_syntax.specs.tc_tree.declared.word.Word.{Word}
+use Rattle.tc_syntax.specs.tc_tree.declared.word.Word.TheVariants.{Keyword as AKeyword}
+use Rattle.tc_syntax.specs.tc_tree.Grammar.{Program, AreOf, IsSpelled, Begins, IsSyntaxFault, globals_then, threads_then, body_then}
 use Rattle.tc_syntax.specs.helpers.Reading.{Expected, Globals, skips, step, may_end, at_end, fault}
 use Rattle.tc_syntax.proofs.Stands.{Stands, StandsAfter, skip_more}
 use Rattle.tc_syntax.proofs.Places.{one_more, are_of, is_syntax_fault}

@@ -1,14 +1,14 @@
 -- An expression as a row of operators and their operands.
 use Rattle.std.proofs.Common.{◌≡◌, ℕ, ◌<◌, ◌≤◌, nat_le, if◌then◌else◌, List, ◌∷◌, refl, sym, ap, ◌∙◌, arith}
 use Rattle.std.proofs.lemmas.Bool.{cond-true, cond-false, le-leb, lt-leb}
-use Rattle.int_ops.specs.declared.arith.UnOp.{UnOp}
-use Rattle.tc_lexer.specs.declared.token.Sign.TheVariants as sign
-use Rattle.tc_tree.specs.declared.expression.Name.{Name}
-use Rattle.tc_tree.specs.declared.expression.Number.{Number as TreeNumber}
-use Rattle.tc_tree.specs.declared.expression.Operator.{Operator}
-use Rattle.tc_tree.specs.declared.word.Word.{Word}
-use Rattle.tc_tree.specs.declared.word.Word.TheVariants.{Name as AName, Number as ANumber, Sign as ASign}
-use Rattle.tc_tree.specs.Grammar.{
+use Rattle.tc_syntax.specs.int_ops.declared.arith.UnOp.{UnOp}
+use Rattle.tc_syntax.specs.tc_lexer.declared.token.Sign.TheVariants as sign
+use Rattle.tc_syntax.specs.tc_tree.declared.expression.Name.{Name}
+use Rattle.tc_syntax.specs.tc_tree.declared.expression.Number.{Number as TreeNumber}
+use Rattle.tc_syntax.specs.tc_tree.declared.expression.Operator.{Operator}
+use Rattle.tc_syntax.specs.tc_tree.declared.word.Word.{Word}
+use Rattle.tc_syntax.specs.tc_tree.declared.word.Word.TheVariants.{Name as AName, Number as ANumber, Sign as ASign}
+use Rattle.tc_syntax.specs.tc_tree.Grammar.{
   Expression,
   Number,
   Variable,

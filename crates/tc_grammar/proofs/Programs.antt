@@ -1,17 +1,17 @@
 -- Words are at most one program.
 use Rattle.std.proofs.Common.{◌≡◌, ℕ, true, false, List, [], ◌∷◌, drop, refl, sym, ap, ◌∙◌}
-use Rattle.tc_lexer.specs.declared.place.Place.{Place}
-use Rattle.tc_lexer.specs.declared.token.Keyword.TheVariants as keyword
-use Rattle.tc_lexer.specs.declared.token.Sign.TheVariants as sign
-use Rattle.tc_tree.specs.declared.expression.Name.{Name}
-use Rattle.tc_tree.specs.declared.program.Initial.TheVariants.{Zero, Plain, Negated}
-use Rattle.tc_tree.specs.declared.program.Global.{Global}
-use Rattle.tc_tree.specs.declared.program.Global.TheVariants.{Int, Array, Mutex, Condition}
-use Rattle.tc_tree.specs.declared.program.Local.{Local}
-use Rattle.tc_tree.specs.declared.program.Local.TheVariants.{Int as LocalInt, Handle}
-use Rattle.tc_tree.specs.declared.word.Word.{Word}
-use Rattle.tc_tree.specs.declared.word.Word.TheVariants.{Keyword as AKeyword, Sign as ASign, End as AnEnd}
-use Rattle.tc_tree.specs.Grammar.{
+use Rattle.tc_syntax.specs.tc_lexer.declared.place.Place.{Place}
+use Rattle.tc_syntax.specs.tc_lexer.declared.token.Keyword.TheVariants as keyword
+use Rattle.tc_syntax.specs.tc_lexer.declared.token.Sign.TheVariants as sign
+use Rattle.tc_syntax.specs.tc_tree.declared.expression.Name.{Name}
+use Rattle.tc_syntax.specs.tc_tree.declared.program.Initial.TheVariants.{Zero, Plain, Negated}
+use Rattle.tc_syntax.specs.tc_tree.declared.program.Global.{Global}
+use Rattle.tc_syntax.specs.tc_tree.declared.program.Global.TheVariants.{Int, Array, Mutex, Condition}
+use Rattle.tc_syntax.specs.tc_tree.declared.program.Local.{Local}
+use Rattle.tc_syntax.specs.tc_tree.declared.program.Local.TheVariants.{Int as LocalInt, Handle}
+use Rattle.tc_syntax.specs.tc_tree.declared.word.Word.{Word}
+use Rattle.tc_syntax.specs.tc_tree.declared.word.Word.TheVariants.{Keyword as AKeyword, Sign as ASign, End as AnEnd}
+use Rattle.tc_syntax.specs.tc_tree.Grammar.{
   Assign,
   Store,
   Create,

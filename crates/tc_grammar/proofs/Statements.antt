@@ -1,15 +1,15 @@
 -- Words begin with at most one statement.
 use Rattle.std.proofs.Common.{◌≡◌, true, false, List, ◌∷◌, drop, refl, sym, ap}
 use Rattle.std.specs.Prelude.{None}
-use Rattle.tc_lexer.specs.declared.place.Place.{Place}
-use Rattle.tc_lexer.specs.declared.token.Keyword.{Keyword as AnyKeyword}
-use Rattle.tc_lexer.specs.declared.token.Keyword.TheVariants as keyword
-use Rattle.tc_lexer.specs.declared.token.Sign.{Sign}
-use Rattle.tc_lexer.specs.declared.token.Sign.TheVariants as sign
-use Rattle.tc_tree.specs.declared.expression.Name.{Name}
-use Rattle.tc_tree.specs.declared.word.Word.{Word}
-use Rattle.tc_tree.specs.declared.word.Word.TheVariants.{Name as AName, Keyword as AKeyword, Sign as ASign, End as AnEnd}
-use Rattle.tc_tree.specs.Grammar.{
+use Rattle.tc_syntax.specs.tc_lexer.declared.place.Place.{Place}
+use Rattle.tc_syntax.specs.tc_lexer.declared.token.Keyword.{Keyword as AnyKeyword}
+use Rattle.tc_syntax.specs.tc_lexer.declared.token.Keyword.TheVariants as keyword
+use Rattle.tc_syntax.specs.tc_lexer.declared.token.Sign.{Sign}
+use Rattle.tc_syntax.specs.tc_lexer.declared.token.Sign.TheVariants as sign
+use Rattle.tc_syntax.specs.tc_tree.declared.expression.Name.{Name}
+use Rattle.tc_syntax.specs.tc_tree.declared.word.Word.{Word}
+use Rattle.tc_syntax.specs.tc_tree.declared.word.Word.TheVariants.{Name as AName, Keyword as AKeyword, Sign as ASign, End as AnEnd}
+use Rattle.tc_syntax.specs.tc_tree.Grammar.{
   Expression,
   Statement,
   Assign,

@@ -1,7 +1,7 @@
 //! Laws of the grammar. They do nothing when they run.
 ghost use Rattle.std.specs.Prelude.{◌≡◌, ◌≤◌, ◌⊎◌, ℕ, List};
-ghost use Rattle.tc_tree.specs.declared.word.Word.{Word as OneWord};
-ghost use Rattle.tc_tree.specs.Grammar.{Program as OneProgram, AreOf, IsSpelled, IsSyntaxFault};
+ghost use Rattle.tc_syntax.specs.tc_tree.declared.word.Word.{Word as OneWord};
+ghost use Rattle.tc_syntax.specs.tc_tree.Grammar.{Program as OneProgram, AreOf, IsSpelled, IsSyntaxFault};
 
 /// Words are at most one program: with its precedence, the grammar is unambiguous.
 pub fn words_are_one_program()

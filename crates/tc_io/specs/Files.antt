@@ -38,6 +38,8 @@ file_tells shelf = record {
 }
 
 -- the open file gave these bytes, its next ones, and stays open; it gives none only at its end
-abbrev pub ReadOn : {F : Type 0} → (remaining : F → Option (List ℕ)) → (old new : Option (PlainOpen F)) → List ℕ → Type 0
-ReadOn {F} remaining old new bytes = IsSomeAnd old (λ was. (now : F) × (new ≡ Some (record was { file = now }))
+abbrev pub ReadOn : {F : Type 0} → (remaining : F → Option (List ℕ))
+    → (old new : Option (PlainOpen F)) → List ℕ → Type 0
+ReadOn {F} remaining old new bytes =
+    IsSomeAnd old (λ was. (now : F) × (new ≡ Some (record was { file = now }))
     × Consumes (remaining was.file) (remaining now) bytes × (bytes ≡ [] → IsAtEnd (remaining now)))

@@ -7,7 +7,8 @@ use Rattle.tc_lexer.specs.declared.fault.LexFault.TheVariants.{BadByte, Number, 
 
 -- what is wrong, and at which line and column
 abbrev pub at_place : List ℕ → Place → List ℕ
-at_place kind place = kind ++ (codes " at " ++ (decimal place.line ++ (codes ":" ++ decimal place.col)))
+at_place kind place =
+    kind ++ (codes " at " ++ (decimal place.line ++ (codes ":" ++ decimal place.col)))
 
 abbrev pub lex_fault_text : LexFault → List ℕ
 lex_fault_text (BadByte place) = at_place (codes "BadByte") place

@@ -20,4 +20,5 @@ have_no_shift (t ∷ u ∷ ts) = not (makes_shift t u) && have_no_shift (u ∷ t
 
 -- no token is a name that became a keyword in this language
 abbrev pub HaveNoKeywordOf : ℕ → List PlainToken → Type 0
-HaveNoKeywordOf language ts = (k : AnyKeyword) → keyword_since k ≡ language → All (λ t. t ≢ Name (keyword_text k)) ts
+HaveNoKeywordOf language ts =
+    (k : AnyKeyword) → keyword_since k ≡ language → All (λ t. t ≢ Name (keyword_text k)) ts

@@ -1,3 +1,4 @@
+pub use Rattle.tc_limits.specs as tc_limits
 pub mod Tokens
 pub mod Pieces
 pub mod Places

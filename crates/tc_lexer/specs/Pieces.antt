@@ -26,7 +26,8 @@ written (Token t) = spelling t
 abbrev pub IsPiece : ℕ → Piece → Type 0
 IsPiece language (Space b) = IsTrue (is_space b)
 IsPiece language (LineComment body) = IsTrue (list_all (λ b. not (is_line_feed b)) body)
-IsPiece language (BlockComment body) = (front back : List ℕ) → body ≡ front ++ (codes "*/" ++ back) → ⊥
+IsPiece language (BlockComment body) =
+    (front back : List ℕ) → body ≡ front ++ (codes "*/" ++ back) → ⊥
 IsPiece language (Token t) = IsToken language t
 
 -- whether this byte, directly after a piece, would extend or change the piece
@@ -49,4 +50,5 @@ pub record Begins (language : ℕ) (bytes : List ℕ) (p : Piece) (rest : List �
 -- the bytes are these pieces, each as long as possible, and then the rest
 abbrev pub ArePieces : ℕ → List ℕ → List Piece → List ℕ → Type 0
 ArePieces language bytes [] rest = bytes ≡ rest
-ArePieces language bytes (p ∷ ps) rest = (after : List ℕ) × Begins language bytes p after × ArePieces language after ps rest
+ArePieces language bytes (p ∷ ps) rest =
+    (after : List ℕ) × Begins language bytes p after × ArePieces language after ps rest

@@ -21,7 +21,14 @@ kind_of (plain.Sign s) = kind.Sign s
 
 -- a token, placed after the bytes `before`
 abbrev pub token_after : List ℕ → PlainToken → SpannedToken
-token_after before t = record { kind = kind_of t; start = length before; end = length before + length (spelling t); place = place_after before }
+token_after before t =
+    record {
+      kind = kind_of t;
+      start = length before;
+      end = length before + length
+          (spelling t);
+      place = place_after before;
+    }
 
 -- the tokens among some pieces, placed after the bytes `before`
 abbrev pub tokens_after : List ℕ → List Piece → List SpannedToken
@@ -41,7 +48,9 @@ begins_with_digit (b ∷ _) = is_digit b
 
 -- the fault of bytes that begin with no piece
 abbrev pub fault_at : Place → List ℕ → LexFault
-fault_at place bytes = if starts_with nat_eq bytes (codes "/*") then OpenComment place else (if begins_with_digit bytes then Number place else BadByte place)
+fault_at place bytes =
+    if starts_with nat_eq bytes (codes "/*") then OpenComment place
+    else (if begins_with_digit bytes then Number place else BadByte place)
 
 -- the fault of a text: the first byte where no piece begins, and what is wrong there
 pub record IsFault (language : ℕ) (text : List ℕ) (fault : LexFault) : Type 0 where

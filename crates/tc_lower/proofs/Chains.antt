@@ -45,8 +45,8 @@ use Rattle.std.proofs.Common.{
 use Rattle.std.proofs.Math.ListN.{drop_of_length-le}
 use Rattle.std.proofs.Math.Seq.{set-append_seam}
 use Rattle.std.proofs.lemmas.List.{append-nil, length-set, length-replicate, set-append_left}
-use Rattle.tc_limits.specs.declared.limits.TheConstants.{PROGRAM_BYTES}
-use Rattle.tc_lexer.specs.declared.place.Place.{Place}
+use Rattle.tc_code.specs.tc_limits.declared.limits.TheConstants.{PROGRAM_BYTES}
+use Rattle.tc_tree.specs.tc_lexer.declared.place.Place.{Place}
 use Rattle.tc_code.specs.Expr.{Expr}
 use Rattle.tc_code.specs.declared.instr.Instr.{Instr}
 use Rattle.tc_code.specs.declared.instr.Instr.TheVariants.{Branch, Goto}

@@ -1,14 +1,14 @@
 -- The limits hold for a program with few words.
 use Rattle.std.proofs.Common.{ℕ, ◌+◌, ◌*◌, ◌≤◌, List, [], ◌∷◌, length, arith}
-use Rattle.tc_limits.specs.declared.limits.TheConstants.{PROGRAM_BYTES}
+use Rattle.tc_code.specs.tc_limits.declared.limits.TheConstants.{PROGRAM_BYTES}
 use Rattle.tc_tree.specs.declared.expression.Name.{Name}
 use Rattle.tc_tree.specs.declared.program.Global.{Global}
 use Rattle.tc_tree.specs.declared.program.Global.TheVariants.{Int, Array, Mutex, Condition}
 use Rattle.tc_tree.specs.declared.program.Initial.TheVariants.{Zero, Plain, Negated}
 use Rattle.tc_tree.specs.declared.program.Local.{Local}
 use Rattle.tc_tree.specs.declared.program.Local.TheVariants.{Int as LocalInt, Handle}
-use Rattle.tc_lexer.specs.declared.token.Keyword.TheVariants as keyword
-use Rattle.tc_lexer.specs.declared.token.Sign.TheVariants as sign
+use Rattle.tc_tree.specs.tc_lexer.declared.token.Keyword.TheVariants as keyword
+use Rattle.tc_tree.specs.tc_lexer.declared.token.Sign.TheVariants as sign
 use Rattle.tc_tree.specs.declared.word.Word.{Word}
 use Rattle.tc_tree.specs.declared.word.Word.TheVariants.{Keyword as AKeyword, Sign as ASign, End as AnEnd}
 use Rattle.tc_tree.specs.Grammar.{

@@ -27,8 +27,8 @@ use Rattle.tc_tree.specs.declared.statement.Action.{Action}
 use Rattle.tc_tree.specs.declared.statement.Action.TheVariants.{Join, Lock, Unlock, Signal, Broadcast}
 use Rattle.tc_tree.specs.declared.statement.Barrier.{Barrier}
 use Rattle.tc_tree.specs.declared.statement.Barrier.TheVariants.{Fence, Stores}
-use Rattle.tc_lexer.specs.declared.token.Keyword.TheVariants as keyword
-use Rattle.tc_lexer.specs.declared.token.Sign.TheVariants as sign
+use Rattle.tc_tree.specs.tc_lexer.declared.token.Keyword.TheVariants as keyword
+use Rattle.tc_tree.specs.tc_lexer.declared.token.Sign.TheVariants as sign
 use Rattle.tc_tree.specs.declared.word.Word.{Word}
 use Rattle.tc_tree.specs.declared.word.Word.TheVariants.{Keyword as AKeyword, Sign as ASign, End as AnEnd}
 use Rattle.tc_tree.specs.Numbers.{AreInts}

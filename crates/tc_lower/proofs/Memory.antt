@@ -25,7 +25,7 @@ use Rattle.std.proofs.Common.{
   length-append,
 }
 use Rattle.std.proofs.lemmas.List.{append-nil}
-use Rattle.tc_limits.specs.declared.limits.TheConstants.{CELLS}
+use Rattle.tc_code.specs.tc_limits.declared.limits.TheConstants.{CELLS}
 use Rattle.tc_code.specs.declared.code.Func.{Func}
 use Rattle.tc_tree.specs.declared.program.Global.{Global}
 use Rattle.tc_tree.specs.declared.program.Global.TheVariants.{Int, Array, Mutex, Condition}

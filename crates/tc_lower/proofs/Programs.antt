@@ -42,7 +42,7 @@ use Rattle.std.proofs.lemmas.Option.{none-some, same_Some}
 use Rattle.tc_code.specs.declared.instr.Instr.{Instr}
 use Rattle.tc_code.specs.declared.instr.Instr.TheVariants.{Exit}
 use Rattle.tc_code.specs.Code.{Code}
-use Rattle.tc_limits.specs.declared.limits.TheConstants.{CELLS}
+use Rattle.tc_code.specs.tc_limits.declared.limits.TheConstants.{CELLS}
 use Rattle.tc_code.specs.Lawful as lawful
 use Rattle.tc_code.specs.Lawful.{takes, keeps_apart, IsLawfulFunction, IsLawful}
 use Rattle.tc_code.specs.declared.code.Func.{Func}

@@ -21,7 +21,7 @@ use Rattle.std.proofs.Common.{
   arith,
   length-append,
 }
-use Rattle.tc_limits.specs.declared.limits.TheConstants.{PROGRAM_BYTES}
+use Rattle.tc_code.specs.tc_limits.declared.limits.TheConstants.{PROGRAM_BYTES}
 use Rattle.tc_code.specs.Expr.{Expr}
 use Rattle.tc_tree.specs.declared.expression.Name.{Name}
 use Rattle.tc_tree.specs.Grammar.{Expression}

@@ -11,7 +11,7 @@ use Rattle.tc_tree.specs.declared.expression.Name.{Name}
 use Rattle.tc_tree.specs.declared.expression.Operator.{Operator}
 use Rattle.tc_tree.specs.declared.statement.Action.{Action}
 use Rattle.tc_tree.specs.declared.statement.Action.TheVariants.{Join, Lock, Unlock, Signal, Broadcast}
-use Rattle.tc_lexer.specs.declared.token.Sign.TheVariants as sign
+use Rattle.tc_tree.specs.tc_lexer.declared.token.Sign.TheVariants as sign
 use Rattle.tc_tree.specs.declared.word.Word.{Word}
 use Rattle.tc_tree.specs.declared.word.Word.TheVariants.{Sign as ASign, End as AnEnd}
 use Rattle.tc_tree.specs.Grammar as grammar

@@ -33,7 +33,8 @@ memory_of (Condition c ∷ gs) = memory_of gs
 abbrev pub function_of : List ℕ → List Named → List ℕ → List Name → Body → Func
 function_of source all name parameters b =
     let own = own_things parameters b.locals in
-    let code = all_lowered (thing_in_scope source own all) 0 (length parameters + ints b.locals) b.statements in
+    let code = all_lowered (thing_in_scope source own all) 0
+    (length parameters + ints b.locals) b.statements in
     record {
       name = name;
       params = length parameters;
@@ -54,5 +55,7 @@ code_of source p =
       memory = memory_of p.globals;
       mutexes = mutexes p.globals;
       conditions = conditions p.globals;
-      functions = map (thread_function source all) p.threads ++ function_of source all (codes "main") [] p.main ∷ [];
+      functions =
+          map (thread_function source all) p.threads
+          ++ function_of source all (codes "main") [] p.main ∷ [];
     }

@@ -48,7 +48,8 @@ pub record Lowered : Type 0 where
 
 -- instructions of one line
 abbrev pub on_line : ℕ → Written → Lowered
-on_line line w = record { instrs = w.instrs; lines = replicate (length w.instrs) line; free = w.free }
+on_line line w =
+    record { instrs = w.instrs; lines = replicate (length w.instrs) line; free = w.free }
 
 -- ---- what a statement does with its values; the rules for names exclude other things
 
@@ -67,16 +68,19 @@ store _ i e = []
 
 -- a create, if the thread has as many parameters as there are arguments
 abbrev pub creation : Option Thing → Option Thing → List Expr → List Instr
-creation (Some (Handle h)) (Some (Function f parameters)) es = if nat_eq parameters (length es) then instr.Create h f es ∷ [] else []
+creation (Some (Handle h)) (Some (Function f parameters)) es =
+    if nat_eq parameters (length es) then instr.Create h f es ∷ [] else []
 creation _ _ es = []
 
 -- a swap: a new slot takes the cell's old value, and the int of the body takes that
 abbrev pub swap : Option Thing → Option Thing → ℕ → Expr → List Instr
-swap (Some (Slot k)) (Some (Cell c)) free e = instr.Swap free c e ∷ instr.Set k (code.Slot free) ∷ []
+swap (Some (Slot k)) (Some (Cell c)) free e =
+    instr.Swap free c e ∷ instr.Set k (code.Slot free) ∷ []
 swap _ _ free e = instr.Set free e ∷ []
 
 abbrev pub cas : Option Thing → Option Thing → ℕ → Expr → Expr → List Instr
-cas (Some (Slot k)) (Some (Cell c)) free e new = instr.Cas free c e new ∷ instr.Set k (code.Slot free) ∷ []
+cas (Some (Slot k)) (Some (Cell c)) free e new =
+    instr.Cas free c e new ∷ instr.Set k (code.Slot free) ∷ []
 cas _ _ free e new = instr.Set free e ∷ []
 
 abbrev pub action : Action → Option Thing → List Instr
@@ -107,7 +111,11 @@ stored scope at free a i e =
     let index = evaluated scope at free i in
     let test = test_of_index (scope a) index.value in
     let v = evaluated scope (at + length index.instrs + length test) index.free e in
-    record { instrs = index.instrs ++ test ++ v.instrs ++ store (scope a) index.value v.value; free = v.free }
+    record {
+      instrs = index.instrs ++ test ++ v.instrs
+          ++ store (scope a) index.value v.value;
+      free = v.free;
+    }
 
 abbrev pub created : (Name → Option Thing) → ℕ → ℕ → Name → Name → List Expression → Written
 created scope at free h f es =
@@ -119,11 +127,16 @@ swapped scope at free r x e =
     let v = evaluated scope at free e in
     record { instrs = v.instrs ++ swap (scope r) (scope x) v.free v.value; free = v.free + 1 }
 
-abbrev pub compared : (Name → Option Thing) → ℕ → ℕ → Name → Name → Expression → Expression → Written
+abbrev pub compared : (Name → Option Thing) → ℕ → ℕ → Name → Name → Expression → Expression
+    → Written
 compared scope at free r x e new =
     let old = evaluated scope at free e in
     let v = evaluated scope (at + length old.instrs) old.free new in
-    record { instrs = old.instrs ++ v.instrs ++ cas (scope r) (scope x) v.free old.value v.value; free = v.free + 1 }
+    record {
+      instrs = old.instrs ++ v.instrs
+          ++ cas (scope r) (scope x) v.free old.value v.value;
+      free = v.free + 1;
+    }
 
 abbrev pub asserted : (Name → Option Thing) → ℕ → ℕ → Expression → Written
 asserted scope at free e =
@@ -155,7 +168,8 @@ passing true end = instr.Goto end ∷ []
 
 -- the place after a test that begins at place `at`, its body and the jump
 abbrev pub after_body : ℕ → Evaluated → Lowered → Bool → ℕ
-after_body at test body more = at + length test.instrs + 1 + length body.instrs + length (passing more 0)
+after_body at test body more =
+    at + length test.instrs + 1 + length body.instrs + length (passing more 0)
 
 -- a test that begins at a place, its body, and what follows it
 abbrev pub branched : ℕ → ℕ → Evaluated → Lowered → Bool → Lowered → Lowered
@@ -163,8 +177,10 @@ branched line at test body more others =
     let next = after_body at test body more in
     let end = next + length others.instrs in
     record {
-      instrs = test.instrs ++ instr.Branch test.value next ∷ [] ++ body.instrs ++ passing more end ++ others.instrs;
-      lines = replicate (length test.instrs + 1) line ++ body.lines ++ replicate (length (passing more 0)) line ++ others.lines;
+      instrs = test.instrs ++ instr.Branch test.value next ∷ [] ++ body.instrs ++ passing more end
+          ++ others.instrs;
+      lines = replicate (length test.instrs + 1) line ++ body.lines
+          ++ replicate (length (passing more 0)) line ++ others.lines;
       free = others.free;
     }
 
@@ -176,9 +192,12 @@ abbrev mutual
   lowered scope at free (Create h f es) = on_line h.place.line (created scope at free h f es)
   lowered scope at free (Swap r x e) = on_line r.place.line (swapped scope at free r x e)
   lowered scope at free (Cas r x e new) = on_line r.place.line (compared scope at free r x e new)
-  lowered scope at free (Act p a x) = on_line p.line (record { instrs = action a (scope x); free = free })
-  lowered scope at free (Wait p c m) = on_line p.line (record { instrs = wait (scope c) (scope m); free = free })
-  lowered scope at free (Order p b) = on_line p.line (record { instrs = barrier b ∷ []; free = free })
+  lowered scope at free (Act p a x) =
+      on_line p.line (record { instrs = action a (scope x); free = free })
+  lowered scope at free (Wait p c m) =
+      on_line p.line (record { instrs = wait (scope c) (scope m); free = free })
+  lowered scope at free (Order p b) =
+      on_line p.line (record { instrs = barrier b ∷ []; free = free })
   lowered scope at free (Assert p e) = on_line p.line (asserted scope at free e)
   lowered scope at free (While p c b q) =
       let test = evaluated scope at free c in
@@ -194,7 +213,12 @@ abbrev mutual
   all_lowered scope at free (Cons s ss) =
       let first = lowered scope at free s in
       let others = all_lowered scope (at + length first.instrs) first.free ss in
-      record { instrs = first.instrs ++ others.instrs; lines = first.lines ++ others.lines; free = others.free }
+      record {
+        instrs = first.instrs ++ others.instrs;
+        lines = first.lines
+            ++ others.lines;
+        free = others.free;
+      }
 
   pub lowered_otherwise : (Name → Option Thing) → ℕ → ℕ → Otherwise → Lowered
   lowered_otherwise scope at free Nothing = record { instrs = []; lines = []; free = free }

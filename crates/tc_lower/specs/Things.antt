@@ -19,7 +19,9 @@ named x t = record { name = x; thing = t }
 -- the thing that a name of this text denotes: the first thing with that name
 abbrev pub thing_in : List ℕ → List Named → Name → Option Thing
 thing_in source [] x = None
-thing_in source (n ∷ ns) x = if bytes_eq (name_text source n.name) (name_text source x) then Some n.thing else thing_in source ns x
+thing_in source (n ∷ ns) x =
+    if bytes_eq (name_text source n.name) (name_text source x) then Some n.thing
+    else thing_in source ns x
 
 -- the body's own thing if there is one, otherwise the program's
 abbrev pub own_first : Option Thing → Option Thing → Option Thing
@@ -55,7 +57,8 @@ no_numbers = record { cells = 0; mutexes = 0; conditions = 0 }
 -- the things of the threads, in order: functions
 abbrev pub threads_from : ℕ → List Thread → List Named
 threads_from function [] = []
-threads_from function (t ∷ ts) = named t.name (thing.Function function (length t.parameters)) ∷ threads_from (function + 1) ts
+threads_from function (t ∷ ts) =
+    named t.name (thing.Function function (length t.parameters)) ∷ threads_from (function + 1) ts
 
 -- the things of the parameters, in order: slots
 abbrev pub parameters_from : ℕ → List Name → List Named
@@ -65,8 +68,10 @@ parameters_from slot (x ∷ xs) = named x (thing.Slot slot) ∷ parameters_from 
 -- the things of a body's declarations, from this slot and this thread variable on
 abbrev pub locals_from : ℕ → ℕ → List Local → List Named
 locals_from slot handle [] = []
-locals_from slot handle (LocalInt x ∷ ls) = named x (thing.Slot slot) ∷ locals_from (slot + 1) handle ls
-locals_from slot handle (Handle x ∷ ls) = named x (thing.Handle handle) ∷ locals_from slot (handle + 1) ls
+locals_from slot handle (LocalInt x ∷ ls) =
+    named x (thing.Slot slot) ∷ locals_from (slot + 1) handle ls
+locals_from slot handle (Handle x ∷ ls) =
+    named x (thing.Handle handle) ∷ locals_from slot (handle + 1) ls
 
 -- how many ints and how many thread variables a body declares
 abbrev pub ints : List Local → ℕ
@@ -81,7 +86,8 @@ handles (Handle x ∷ ls) = 1 + handles ls
 
 -- the things that a body's own names denote
 abbrev pub own_things : List Name → List Local → List Named
-own_things parameters locals = parameters_from 0 parameters ++ locals_from (length parameters) 0 locals
+own_things parameters locals =
+    parameters_from 0 parameters ++ locals_from (length parameters) 0 locals
 
 -- the things that the program's names denote
 abbrev pub program_things : List Global → List Thread → List Named

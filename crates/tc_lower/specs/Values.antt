@@ -42,7 +42,8 @@ pub record Evaluated : Type 0 where
 -- a variable: an int of the body is its slot; a global is loaded into the next free slot
 abbrev pub variable : Option Thing → ℕ → Evaluated
 variable (Some (Slot k)) free = record { instrs = []; value = code.Slot k; free = free }
-variable (Some (Cell c)) free = record { instrs = Load free c ∷ []; value = code.Slot free; free = free + 1 }
+variable (Some (Cell c)) free =
+    record { instrs = Load free c ∷ []; value = code.Slot free; free = free + 1 }
 variable _ free = record { instrs = []; value = code.Number (pos 0); free = free }
 
 -- an element: its index is tested, then it is loaded into the next free slot
@@ -68,7 +69,13 @@ tested _ e = []
 
 -- an operator after its two sides and the test of the right one
 abbrev pub over : BinOp → Evaluated → Evaluated → Evaluated
-over op p q = record { instrs = p.instrs ++ q.instrs ++ tested op q.value; value = code.Binary op p.value q.value; free = q.free }
+over op p q =
+    record {
+      instrs = p.instrs ++ q.instrs
+          ++ tested op q.value;
+      value = code.Binary op p.value q.value;
+      free = q.free;
+    }
 
 -- whether a value isn't 0
 abbrev pub isnt_zero : Expr → Expr
@@ -110,7 +117,9 @@ abbrev pub choice : Operator → ℕ → Evaluated → Evaluated → Evaluated
 choice op at p q =
     let end = at + length p.instrs + 2 + length q.instrs + 1 in
     record {
-      instrs = p.instrs ++ Set p.free (code.Number (decided op)) ∷ Branch (undecided op p.value) end ∷ [] ++ q.instrs ++ Set p.free (isnt_zero q.value) ∷ [];
+      instrs = p.instrs
+          ++ Set p.free (code.Number (decided op)) ∷ Branch (undecided op p.value) end ∷ []
+          ++ q.instrs ++ Set p.free (isnt_zero q.value) ∷ [];
       value = code.Slot p.free;
       free = q.free;
     }
@@ -122,7 +131,8 @@ joined None op at p right = choice op at p (right (at + length p.instrs + 2) (p.
 
 -- an expression lowered from a place and a next free slot
 abbrev pub evaluated : (Name → Option Thing) → ℕ → ℕ → Expression → Evaluated
-evaluated scope at free (Number n) = record { instrs = []; value = code.Number n.value; free = free }
+evaluated scope at free (Number n) =
+    record { instrs = []; value = code.Number n.value; free = free }
 evaluated scope at free (Variable x) = variable (scope x) free
 evaluated scope at free (Element a i) =
     let index = evaluated scope at free i in
@@ -131,7 +141,9 @@ evaluated scope at free (Paren e) = evaluated scope at free e
 evaluated scope at free (Unary op e) =
     let v = evaluated scope at free e in
     record { instrs = v.instrs; value = code.Unary op v.value; free = v.free }
-evaluated scope at free (Binary op a b) = joined (over_both op) op at (evaluated scope at free a) (λ then slot. evaluated scope then slot b)
+evaluated scope at free (Binary op a b) =
+    joined (over_both op) op at (evaluated scope at free a)
+    (λ then slot. evaluated scope then slot b)
 
 -- several expressions, lowered one after another
 pub record Arguments : Type 0 where
@@ -144,4 +156,9 @@ arguments scope at free [] = record { instrs = []; values = []; free = free }
 arguments scope at free (e ∷ es) =
     let first = evaluated scope at free e in
     let others = arguments scope (at + length first.instrs) first.free es in
-    record { instrs = first.instrs ++ others.instrs; values = first.value ∷ others.values; free = others.free }
+    record {
+      instrs = first.instrs
+          ++ others.instrs;
+      values = first.value ∷ others.values;
+      free = others.free;
+    }

@@ -1,6 +1,6 @@
 //! What holds of the code of every program, and of its names.
 ghost use Rattle.std.specs.Prelude.{ℕ, ◌≤◌, ◌++◌, List};
-ghost use Rattle.tc_limits.specs.declared.limits.TheConstants.{CELLS};
+ghost use Rattle.tc_code.specs.tc_limits.declared.limits.TheConstants.{CELLS};
 ghost use Rattle.tc_code.specs.Lawful.{IsLawful};
 ghost use Rattle.tc_names.specs.Names.{meaning_in, own_declarations, program_declarations};
 ghost use Rattle.tc_tree.specs.Counts.{cells};

@@ -1,6 +1,6 @@
 //! Programs as code.
 ghost use Rattle.std.specs.Prelude.{◌≡◌, ℤ, pos, ◌+◌, ◌<◌, ◌≤◌, ◌^◌, ◌++◌, ◌∷◌, [], length, map, codes, OnOk, IfOk};
-ghost use Rattle.tc_limits.specs.declared.limits.TheConstants.{CELLS, PROGRAM_BYTES};
+ghost use Rattle.tc_code.specs.tc_limits.declared.limits.TheConstants.{CELLS, PROGRAM_BYTES};
 ghost use Rattle.tc_tree.specs.Counts as count;
 ghost use Rattle.tc_tree.specs.Numbers.{HasInts};
 ghost use Rattle.tc_tree.specs.Grammar.{program_words};

@@ -1,6 +1,6 @@
 //! Statements as instructions, each with its line.
 ghost use Rattle.std.specs.Prelude.{◌≡◌, [], ◌+◌, ◌-◌, ◌<◌, ◌≤◌, ◌^◌, ◌∷◌, ◌++◌, OnOk, IfOk, length, map, drop, option_map, replicate, slice_set};
-ghost use Rattle.tc_limits.specs.declared.limits.TheConstants.{PROGRAM_BYTES};
+ghost use Rattle.tc_code.specs.tc_limits.declared.limits.TheConstants.{PROGRAM_BYTES};
 ghost use Rattle.tc_code.specs.declared.instr.Instr.TheVariants as flat;
 ghost use Rattle.tc_tree.specs.Seen.{statement_of, block_of, branch_of, otherwise_of};
 ghost use Rattle.tc_lower.specs.Statements as spec;

@@ -1,6 +1,6 @@
 //! What declarations stand for: tables of names.
 ghost use Rattle.std.specs.Prelude.{◌≡◌, List, ◌∷◌, ◌+◌, ◌<◌, ◌≤◌, ◌^◌, ◌++◌, [], length, map, OnOk, IfOk};
-ghost use Rattle.tc_limits.specs.declared.limits.TheConstants.{CELLS, PROGRAM_BYTES};
+ghost use Rattle.tc_code.specs.tc_limits.declared.limits.TheConstants.{CELLS, PROGRAM_BYTES};
 ghost use Rattle.tc_tree.specs.Counts as count;
 ghost use Rattle.tc_tree.specs.declared.program.Local.{Local};
 ghost use Rattle.tc_tree.specs.Seen.{thread_of};

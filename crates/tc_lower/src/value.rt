@@ -1,6 +1,6 @@
 //! Expressions lowered to instructions, and to an expression over slots.
 ghost use Rattle.std.specs.Prelude.{◌≡◌, ◌+◌, ◌<◌, ◌≤◌, ◌^◌, [], ◌∷◌, ◌++◌, length, Ok, OnOk, IfOk, Some, None, slice_set};
-ghost use Rattle.tc_limits.specs.declared.limits.TheConstants.{PROGRAM_BYTES};
+ghost use Rattle.tc_code.specs.tc_limits.declared.limits.TheConstants.{PROGRAM_BYTES};
 ghost use Rattle.tc_code.specs.Expr as plain;
 ghost use Rattle.tc_code.specs.declared.instr.Instr.TheVariants as flat;
 ghost use Rattle.tc_lower.specs.Values as spec;

@@ -19,11 +19,11 @@ use Rattle.tc_code.specs.Run.{IsReached}
 use Rattle.tc_code.proofs.Facts.{placed_next}
 use Rattle.tc_threads.specs.CanDo.{CanAsk, CanDo, Starts, sized, is_branch}
 use Rattle.tc_machine.specs.helpers.CanDo.{CanPerform}
-use Rattle.run_laws.proofs.Asks.{asked_is_there}
-use Rattle.run_laws.proofs.Whole.{names_next, reached_is_whole, create_starts}
-use Rattle.run_laws.proofs.Guards.{index_is_within}
-use Rattle.run_laws.proofs.Created.{child_is_new}
-use Rattle.run_laws.specs.Counters.{CountersAreBelowLast}
+use Rattle.tc_threads.proofs.run_laws.Asks.{asked_is_there}
+use Rattle.tc_threads.proofs.run_laws.Whole.{names_next, reached_is_whole, create_starts}
+use Rattle.tc_threads.proofs.run_laws.Guards.{index_is_within}
+use Rattle.tc_threads.proofs.run_laws.Created.{child_is_new}
+use Rattle.tc_threads.specs.run_laws.Counters.{CountersAreBelowLast}
 
 -- an instruction that names what a function has names what a thread of the same size has
 names-sized : (code : Code) (f : Func) (t : Local) (i : Instr) → length t.slots ≡ f.ints → length t.handles ≡ f.handles

@@ -14,8 +14,8 @@ use Rattle.std.proofs.lemmas.Option.{none-some, same_Some}
 use Rattle.tc_base.specs.Names.{Name}
 use Rattle.tc_base.specs.States.{Thread, State}
 use Rattle.tc_code.specs.Run.{IsLeft}
-use Rattle.run_laws.specs.Alone.{same}
-use Rattle.run_laws.proofs.Basics.{some_is, some_value}
+use Rattle.tc_threads.specs.run_laws.Alone.{same}
+use Rattle.tc_threads.proofs.run_laws.Basics.{some_is, some_value}
 use Rattle.tc_threads.proofs.ByName.{tied}
 use Rattle.tc_machine.specs.Exits.{has_exited, all_have_exited}
 

@@ -1,3 +1,4 @@
+pub use Rattle.tc_threads.proofs.run_laws
 pub mod Can
 pub mod Drains
 pub mod Exits

@@ -13,7 +13,7 @@ use Rattle.std.proofs.lemmas.Map.Views.{Contains-from_any}
 use Rattle.std.proofs.lemmas.Option.{none-some, same_Some, option_and_then_some, cond_some}
 use Rattle.tc_base.specs.Names.{Name, ByName}
 use Rattle.tc_base.specs.Buffers.{BufferOps}
-use Rattle.memory_models.specs.declared.model.Model.{Model}
+use Rattle.store_buffers.specs.memory_models.declared.model.Model.{Model}
 use Rattle.store_buffers.specs.Pending.{Binding}
 use Rattle.store_buffers.specs.Laws.{Laws, AreForms}
 use Rattle.tc_base.specs.States.{Thread, State}
@@ -26,14 +26,14 @@ use Rattle.tc_code.specs.Lawful.{IsLawful}
 use Rattle.tc_code.specs.Run.{IsReached}
 use Rattle.tc_code.specs.Step.{step, wake_of, state_after_wake, drain_of, state_after_drain, move_of, instr_of, waiting_on}
 use Rattle.std.proofs.lemmas.Bool.{and_parts}
-use Rattle.run_laws.proofs.Basics.{none_unless, unless, some_value}
+use Rattle.tc_threads.proofs.run_laws.Basics.{none_unless, unless, some_value}
 use Rattle.tc_machine.specs.Moves as choice
 use Rattle.tc_machine.specs.declared.choice.Choice.{Choice}
 use Rattle.tc_machine.specs.Moves.{is_enabled, steps_of, drains_of, moves_of, enabled_moves}
 use Rattle.tc_threads.proofs.ByName.{tied}
 use Rattle.tc_machine.proofs.Drains.{same_or_more, passing_forms}
 use Rattle.tc_machine.proofs.Within.{form_is_there}
-use Rattle.run_laws.proofs.Waiters.{waiters_are_threads}
+use Rattle.tc_threads.proofs.run_laws.Waiters.{waiters_are_threads}
 
 module _ {X : Type 0} (p : Move → Bool) where
   -- one more candidate

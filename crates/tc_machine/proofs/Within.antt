@@ -34,7 +34,7 @@ use Rattle.std.proofs.lemmas.Option.{none-some, same_Some, option_and_then_some,
 use Rattle.tc_base.specs.Names.{Name, ByName, main, child}
 use Rattle.tc_base.specs.Buffers.{BufferOps, Entry}
 use Rattle.tc_base.specs.States.{Thread, State}
-use Rattle.memory_models.specs.declared.model.Model.{Model}
+use Rattle.store_buffers.specs.memory_models.declared.model.Model.{Model}
 use Rattle.tc_base.specs.declared.moves.Move.{Move}
 use Rattle.tc_base.specs.declared.moves.Move.TheVariants as move
 use Rattle.tc_base.specs.declared.request.Request.{Request}
@@ -44,15 +44,15 @@ use Rattle.tc_code.specs.Code.{Code}
 use Rattle.tc_code.specs.Lawful.{IsLawful}
 use Rattle.tc_code.specs.Run.{IsReached}
 use Rattle.tc_code.specs.Step.{request, local_after, with_thread, state_after_step, perform, state_after_store, state_after_drain, drain_of, born, step}
-use Rattle.run_laws.proofs.Basics.{some_value, unless}
-use Rattle.run_laws.proofs.Names.{get_put_cases}
-use Rattle.run_laws.proofs.Steps.{step_went, holds_in_reached}
-use Rattle.run_laws.proofs.Whole.{reached_is_whole}
+use Rattle.tc_threads.proofs.run_laws.Basics.{some_value, unless}
+use Rattle.tc_threads.proofs.run_laws.Names.{get_put_cases}
+use Rattle.tc_threads.proofs.run_laws.Steps.{step_went, holds_in_reached}
+use Rattle.tc_threads.proofs.run_laws.Whole.{reached_is_whole}
 use Rattle.store_buffers.specs.Pending.{Pending, Store, Bar as PendingBar, Binding, Stands, form_of}
 use Rattle.store_buffers.specs.Laws.{Laws}
 use Rattle.store_buffers.specs.helpers.Lists.{store_last, bar_last}
 use Rattle.tc_machine.specs.helpers.CanDo.{AsksIn}
-use Rattle.run_laws.proofs.Asks.{asked_is_there}
+use Rattle.tc_threads.proofs.run_laws.Asks.{asked_is_there}
 
 -- each of these stores is to a cell below a number
 abbrev AreWithin : ℕ → List Pending → Type 0

@@ -1,3 +1,4 @@
+pub use Rattle.tc_threads.specs.run_laws
 pub mod Exits
 pub mod Moves
 pub mod Why

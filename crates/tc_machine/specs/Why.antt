@@ -40,7 +40,8 @@ module _ {B : Type 0} where
   -- why mutexes, waiters or children don't allow a request
   abbrev pub why_let : State B → Name → Request → Option Why
   why_let s n (Acquire m) = why_taken s m
-  why_let s n (EndWait c m) = if set.contains (waiting_on s c) n then Some NotWoken else why_taken s m
+  why_let s n (EndWait c m) = if set.contains (waiting_on s c) n then Some NotWoken
+      else why_taken s m
   why_let s n (WakeOne c) = if set.len (waiting_on s c) == 0 then None else Some WaiterNeeded
   why_let s n (Await k) = if child_has_exited s n k then None else Some NotEnded
   why_let s n _ = None
@@ -56,15 +57,18 @@ module _ {B : Type 0} (ops : BufferOps B) where
 
   -- the reason for the named thread and its next instruction, or that it has exited
   abbrev pub why_doing : Code → State B → Name → (Thread B → Instr → Option Why) → Option Why
-  why_doing code s n reason = why_at s n (λ t. option_map_or (reason t) (instr_of code t.local) (Some Exited))
+  why_doing code s n reason =
+      why_at s n (λ t. option_map_or (reason t) (instr_of code t.local) (Some Exited))
 
   -- why a request can't be met now; most requests first wait for an empty buffer
   abbrev pub why_unmet : State B → Name → Thread B → Request → Option Why
-  why_unmet s n t r = if drains_first r && not (ops.is_empty t.buffer) then Some NotDrained else why_let s n r
+  why_unmet s n t r =
+      if drains_first r && not (ops.is_empty t.buffer) then Some NotDrained else why_let s n r
 
   -- why a thread can't wake another
   abbrev pub why_unwoken : State B → Name → Thread B → Instr → Option Why
-  why_unwoken s u t (Signal c) = if ops.is_empty t.buffer then why_not_there s u c else Some NotDrained
+  why_unwoken s u t (Signal c) =
+      if ops.is_empty t.buffer then why_not_there s u c else Some NotDrained
   why_unwoken s u t _ = Some WrongWaiter
 
   -- why no store of a thread can drain by a form

@@ -11,7 +11,7 @@ ghost use Rattle.tc_machine.specs.Moves.{move_of};
 ghost use Rattle.tc_machine.specs.helpers.CanDo.{DoesNext};
 ghost use Rattle.tc_machine.specs.helpers.Movers.{mover};
 ghost use Rattle.tc_machine.specs.Why.{reason_of, why, why_at, why_doing, why_undrained, why_unmet, why_unwoken};
-ghost use Rattle.run_laws.specs.Counters.{CountersAreBelowLast};
+ghost use Rattle.tc_threads.specs.run_laws.Counters.{CountersAreBelowLast};
 
 use crate::choice::Choice;
 use crate::fault::StepFault;

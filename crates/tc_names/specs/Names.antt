@@ -58,7 +58,9 @@ name_text source x = slice_range source x.start x.end
 -- the meaning of a name: that of its first declaration
 abbrev pub meaning_in : List ℕ → List Declaration → Name → Option Meaning
 meaning_in source [] x = None
-meaning_in source (d ∷ ds) x = if bytes_eq (name_text source d.name) (name_text source x) then Some d.meaning else meaning_in source ds x
+meaning_in source (d ∷ ds) x =
+    if bytes_eq (name_text source d.name) (name_text source x) then Some d.meaning
+    else meaning_in source ds x
 
 -- ---- uses, in a scope that says what a name means
 
@@ -91,7 +93,8 @@ is_int _ = false
 -- the fault of a create: its name is unknown, no thread, or has another number of parameters
 abbrev pub thread_use_fault : Option Meaning → ℕ → Place → Option NameFault
 thread_use_fault None n p = Some (Unknown p)
-thread_use_fault (Some (meaning.Thread parameters)) n p = if nat_eq parameters n then None else Some (Arguments p)
+thread_use_fault (Some (meaning.Thread parameters)) n p =
+    if nat_eq parameters n then None else Some (Arguments p)
 thread_use_fault (Some _) n p = Some (Kind p)
 
 abbrev pub thread_fault : (Name → Option Meaning) → Name → ℕ → Option NameFault
@@ -100,7 +103,8 @@ thread_fault scope f n = thread_use_fault (scope f) n f.place
 abbrev pub expression_fault : (Name → Option Meaning) → Expression → Option NameFault
 expression_fault scope (Number n) = None
 expression_fault scope (Variable x) = name_fault is_int scope x
-expression_fault scope (Element a i) = name_fault (is_meaning meaning.Array) scope a then expression_fault scope i
+expression_fault scope (Element a i) =
+    name_fault (is_meaning meaning.Array) scope a then expression_fault scope i
 expression_fault scope (Paren e) = expression_fault scope e
 expression_fault scope (Unary op e) = expression_fault scope e
 expression_fault scope (Binary op a b) = expression_fault scope a then expression_fault scope b
@@ -119,18 +123,29 @@ action_fits Broadcast = is_meaning meaning.Condition
 abbrev mutual
   pub statement_fault : (Name → Option Meaning) → Statement → Option NameFault
   statement_fault scope (Assign x e) = name_fault is_int scope x then expression_fault scope e
-  statement_fault scope (Store a i e) = name_fault (is_meaning meaning.Array) scope a then expression_fault scope i then expression_fault scope e
-  statement_fault scope (Create h f es) = name_fault (is_meaning meaning.Handle) scope h then thread_fault scope f (length es) then expressions_fault scope es
-  statement_fault scope (Swap r x e) = name_fault (is_meaning meaning.Local) scope r then name_fault (is_meaning meaning.Global) scope x
+  statement_fault scope (Store a i e) =
+      name_fault (is_meaning meaning.Array) scope a then expression_fault scope i
       then expression_fault scope e
-  statement_fault scope (Cas r x e f) = name_fault (is_meaning meaning.Local) scope r then name_fault (is_meaning meaning.Global) scope x
+  statement_fault scope (Create h f es) =
+      name_fault (is_meaning meaning.Handle) scope h then thread_fault scope f (length es)
+      then expressions_fault scope es
+  statement_fault scope (Swap r x e) =
+      name_fault (is_meaning meaning.Local) scope r
+      then name_fault (is_meaning meaning.Global) scope x
+      then expression_fault scope e
+  statement_fault scope (Cas r x e f) =
+      name_fault (is_meaning meaning.Local) scope r
+      then name_fault (is_meaning meaning.Global) scope x
       then expression_fault scope e then expression_fault scope f
   statement_fault scope (Act p a x) = name_fault (action_fits a) scope x
-  statement_fault scope (Wait p c m) = name_fault (is_meaning meaning.Condition) scope c then name_fault (is_meaning meaning.Mutex) scope m
+  statement_fault scope (Wait p c m) =
+      name_fault (is_meaning meaning.Condition) scope c
+      then name_fault (is_meaning meaning.Mutex) scope m
   statement_fault scope (Order p b) = None
   statement_fault scope (Assert p e) = expression_fault scope e
   statement_fault scope (While p c b q) = expression_fault scope c then statements_fault scope b
-  statement_fault scope (If p c b q o) = expression_fault scope c then statements_fault scope b then otherwise_fault scope o
+  statement_fault scope (If p c b q o) =
+      expression_fault scope c then statements_fault scope b then otherwise_fault scope o
 
   pub statements_fault : (Name → Option Meaning) → Statements → Option NameFault
   statements_fault scope Nil = None
@@ -139,13 +154,15 @@ abbrev mutual
   pub otherwise_fault : (Name → Option Meaning) → Otherwise → Option NameFault
   otherwise_fault scope Nothing = None
   otherwise_fault scope (Else b q) = statements_fault scope b
-  otherwise_fault scope (ElseIf p c b q o) = expression_fault scope c then statements_fault scope b then otherwise_fault scope o
+  otherwise_fault scope (ElseIf p c b q o) =
+      expression_fault scope c then statements_fault scope b then otherwise_fault scope o
 
 -- ---- declarations
 
 -- the fault of a declared name that has an earlier declaration in its scope
 abbrev pub twice_fault : List ℕ → List Declaration → Name → Option NameFault
-twice_fault source earlier x = elim (meaning_in source earlier x) [ Some m ↦ Some (Twice x.place) | None ↦ None ]
+twice_fault source earlier x =
+    elim (meaning_in source earlier x) [ Some m ↦ Some (Twice x.place) | None ↦ None ]
 
 abbrev pub global_name : Global → Name
 global_name (Int x i) = x
@@ -196,12 +213,14 @@ globals_fault source earlier (g ∷ gs) = twice_fault source earlier (global_nam
 
 -- a body's own declarations: its parameters, then its locals
 abbrev pub own_declarations : List Name → List Local → List Declaration
-own_declarations parameters locals = map parameter_declaration parameters ++ map local_declaration locals
+own_declarations parameters locals =
+    map parameter_declaration parameters ++ map local_declaration locals
 
 -- the first fault of these declarations, which come after the earlier ones
 abbrev pub declarations_fault : List ℕ → List Declaration → List Declaration → Option NameFault
 declarations_fault source earlier [] = None
-declarations_fault source earlier (d ∷ ds) = twice_fault source earlier d.name then declarations_fault source (earlier ++ d ∷ []) ds
+declarations_fault source earlier (d ∷ ds) =
+    twice_fault source earlier d.name then declarations_fault source (earlier ++ d ∷ []) ds
 
 -- ---- programs
 
@@ -213,15 +232,20 @@ program_declarations p = map global_declaration p.globals ++ map thread_declarat
 abbrev pub body_fault : List ℕ → List Declaration → List Name → Body → Option NameFault
 body_fault source all parameters b =
     let own = own_declarations parameters b.locals in
-    declarations_fault source [] own then statements_fault (meaning_in source (own ++ all)) b.statements
+    declarations_fault source [] own
+    then statements_fault (meaning_in source (own ++ all)) b.statements
 
-abbrev pub threads_fault : List ℕ → List Declaration → List Declaration → List Thread → Option NameFault
+abbrev pub threads_fault : List ℕ → List Declaration → List Declaration → List Thread
+    → Option NameFault
 threads_fault source all earlier [] = None
-threads_fault source all earlier (t ∷ ts) = twice_fault source earlier t.name then body_fault source all t.parameters t.body
+threads_fault source all earlier (t ∷ ts) =
+    twice_fault source earlier t.name then body_fault source all t.parameters t.body
     then threads_fault source all (earlier ++ thread_declaration t ∷ []) ts
 
 -- the first fault of a program's names, in this text
 abbrev pub names_fault : List ℕ → Program → Option NameFault
 names_fault source p =
     let all = program_declarations p in
-    globals_fault source [] p.globals then threads_fault source all (map global_declaration p.globals) p.threads then body_fault source all [] p.main
+    globals_fault source [] p.globals
+    then threads_fault source all (map global_declaration p.globals) p.threads
+    then body_fault source all [] p.main

@@ -27,7 +27,8 @@ name_of Mutexes = codes "Mutexes"
 name_of Conditions = codes "Conditions"
 
 abbrev pub parse_fault_text : ParseFault → List ℕ
-parse_fault_text (Count what n) = name_of what ++ (codes " " ++ (decimal n ++ (codes " of " ++ decimal (limit_of what))))
+parse_fault_text (Count what n) =
+    name_of what ++ (codes " " ++ (decimal n ++ (codes " of " ++ decimal (limit_of what))))
 parse_fault_text (Syntax place) = at_place (codes "Syntax") place
 parse_fault_text (Unknown place) = at_place (codes "Unknown") place
 parse_fault_text (Twice place) = at_place (codes "Twice") place

@@ -1,3 +1,4 @@
+pub use Rattle.tc_tree.specs as tc_tree
 pub mod Faults
 pub mod Programs
 pub mod helpers

@@ -58,7 +58,9 @@ ends_stretch _ = false
 
 -- the length of the first stretch between `;`, `{` and `}` that is too long, if there is one
 abbrev pub long_stretch : List Token → Option ℕ
-long_stretch tokens = find (λ n. nat_lt (limit_of Stretch) n) (map length (slice_split (λ t. ends_stretch t.kind) tokens))
+long_stretch tokens =
+    find (λ n. nat_lt (limit_of Stretch) n)
+    (map length (slice_split (λ t. ends_stretch t.kind) tokens))
 
 -- ---- programs
 
@@ -87,31 +89,44 @@ place_at text (t ∷ ts) zero = t.place
 place_at text (t ∷ ts) (suc k) = place_at text ts k
 
 -- the tokens spell a program, and this is its first fault of a name
-pub record HasNameFault (language : ℕ) (text : List ℕ) (tokens : List Token) (fault : NameFault) : Type 0 where
+pub record HasNameFault (language : ℕ) (text : List ℕ) (tokens : List Token)
+    (fault : NameFault) : Type 0 where
   pub program : Program
   pub are_of : AreOfProgram language tokens program
   pub is : names_fault text program ≡ Some fault
 
 -- the tokens spell the program, and no name has a fault
-pub record AreNamed (language : ℕ) (text : List ℕ) (tokens : List Token) (p : Program) : Type 0 where
+pub record AreNamed (language : ℕ) (text : List ℕ) (tokens : List Token)
+    (p : Program) : Type 0 where
   pub are_of : AreOfProgram language tokens p
   pub names : names_fault text p ≡ None
 
 -- the fault of the tokens of this text; each kind occurs only if none before it does
 abbrev pub IsTokensFault : ℕ → List ℕ → List Token → ParseFault → Type 0
-IsTokensFault language text tokens (Count Brackets n) = IsTooDeep tokens × (n ≡ limit_of Brackets + 1)
-IsTokensFault language text tokens (Count Stretch n) = IsNested tokens × (long_stretch tokens ≡ Some n)
+IsTokensFault language text tokens (Count Brackets n) =
+    IsTooDeep tokens × (n ≡ limit_of Brackets + 1)
+IsTokensFault language text tokens (Count Stretch n) =
+    IsNested tokens × (long_stretch tokens ≡ Some n)
 IsTokensFault language text tokens (Syntax place) = IsNested tokens × (long_stretch tokens ≡ None)
     × ((k : ℕ) × IsSyntaxFault language (words_of tokens) k × (place ≡ place_at text tokens k))
-IsTokensFault language text tokens (Unknown place) = HasNameFault language text tokens (name.Unknown place)
-IsTokensFault language text tokens (Twice place) = HasNameFault language text tokens (name.Twice place)
-IsTokensFault language text tokens (Kind place) = HasNameFault language text tokens (name.Kind place)
-IsTokensFault language text tokens (Arguments place) = HasNameFault language text tokens (name.Arguments place)
-IsTokensFault language text tokens (Count Cells n) = (p : Program) × AreNamed language text tokens p × (limit_of Cells < n) × (n ≡ count.cells p.globals)
-IsTokensFault language text tokens (Count Mutexes n) = (p : Program) × AreNamed language text tokens p × (count.cells p.globals ≤ limit_of Cells)
+IsTokensFault language text tokens (Unknown place) =
+    HasNameFault language text tokens (name.Unknown place)
+IsTokensFault language text tokens (Twice place) =
+    HasNameFault language text tokens (name.Twice place)
+IsTokensFault language text tokens (Kind place) =
+    HasNameFault language text tokens (name.Kind place)
+IsTokensFault language text tokens (Arguments place) =
+    HasNameFault language text tokens (name.Arguments place)
+IsTokensFault language text tokens (Count Cells n) =
+    (p : Program) × AreNamed language text tokens p × (limit_of Cells < n)
+    × (n ≡ count.cells p.globals)
+IsTokensFault language text tokens (Count Mutexes n) =
+    (p : Program) × AreNamed language text tokens p × (count.cells p.globals ≤ limit_of Cells)
     × (limit_of Mutexes < n) × (n ≡ count.mutexes p.globals)
-IsTokensFault language text tokens (Count Conditions n) = (p : Program) × AreNamed language text tokens p × (count.cells p.globals ≤ limit_of Cells)
-    × (count.mutexes p.globals ≤ limit_of Mutexes) × (limit_of Conditions < n) × (n ≡ count.conditions p.globals)
+IsTokensFault language text tokens (Count Conditions n) =
+    (p : Program) × AreNamed language text tokens p × (count.cells p.globals ≤ limit_of Cells)
+    × (count.mutexes p.globals ≤ limit_of Mutexes) × (limit_of Conditions < n)
+    × (n ≡ count.conditions p.globals)
 IsTokensFault language text tokens Memory = ⊥
 
 -- the text has tokens, and they have the fault

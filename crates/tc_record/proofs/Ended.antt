@@ -6,7 +6,7 @@ use Rattle.std.proofs.lemmas.Nat.{mod_below}
 use Rattle.std.proofs.lemmas.Option.{none-some, slice_get_cases}
 use Rattle.tc_base.specs.Buffers.{BufferOps}
 use Rattle.tc_base.specs.States.{State}
-use Rattle.memory_models.specs.declared.model.Model.{Model}
+use Rattle.run_log.specs.memory_models.declared.model.Model.{Model}
 use Rattle.tc_base.specs.declared.moves.Move.{Move}
 use Rattle.store_buffers.specs.Laws.{Laws}
 use Rattle.store_buffers.specs.Pending.{Binding}
@@ -15,7 +15,7 @@ use Rattle.tc_code.specs.Lawful.{IsLawful}
 use Rattle.tc_code.specs.Run.{IsReached, IsStuck, Reproduces}
 use Rattle.tc_code.specs.Step.{step, opening}
 use Rattle.tc_code.proofs.Facts.{opening_is_reached, step_is_reached}
-use Rattle.run_laws.proofs.Basics.{none_unless}
+use Rattle.tc_machine.proofs.run_laws.Basics.{none_unless}
 use Rattle.run_log.specs.Logs.{StoredLog, is_digest}
 use Rattle.path_log.specs.Texts.{HasText, is_of_format, log_text}
 use Rattle.tc_machine.specs.Moves.{enabled_moves}

@@ -17,8 +17,8 @@ use Rattle.tc_base.specs.States.{Thread, State}
 use Rattle.tc_base.specs.declared.moves.Move.{Move}
 use Rattle.tc_code.specs.Code.{Code}
 use Rattle.tc_code.specs.Step.{step, opening, born}
-use Rattle.run_laws.proofs.Basics.{none_unless}
-use Rattle.run_laws.proofs.Names.{get_put}
+use Rattle.tc_machine.proofs.run_laws.Basics.{none_unless}
+use Rattle.tc_machine.proofs.run_laws.Names.{get_put}
 use Rattle.tc_machine.specs.Exits.{all_have_exited}
 use Rattle.tc_machine.proofs.Exits.{some_is_left}
 use Rattle.tc_record.specs.declared.end.End.TheVariants.{Over, Failed, Finished, Deadlock}

@@ -1,6 +1,6 @@
 -- From facts on a run and its log to facts on the answer.
 use Rattle.std.proofs.Common.{Result, Ok, Err, List, inl, inr, subst, sym}
-use Rattle.memory_models.specs.declared.model.Model.{Model}
+use Rattle.run_log.specs.memory_models.declared.model.Model.{Model}
 use Rattle.tc_base.specs.declared.moves.Move.{Move}
 use Rattle.run_log.specs.Logs.{StoredLog}
 use Rattle.tc_code.specs.Code.{Code}

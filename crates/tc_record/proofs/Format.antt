@@ -20,11 +20,11 @@ use Rattle.tc_code.specs.Code.{Code}
 use Rattle.tc_code.specs.Step.{local_after, instr_of, request, born, is_nonzero, value_in}
 use Rattle.tc_code.specs.Run.{IsReached, path_of}
 use Rattle.path_log.specs.Texts.{is_within, is_thread}
-use Rattle.run_laws.specs.Alone.{Alone, after_request, goes_on, after_steps, taken_from}
-use Rattle.run_laws.proofs.After.{branch_is}
-use Rattle.run_laws.proofs.Basics.{some_is, some_value}
-use Rattle.run_laws.proofs.Begun.{threads_live_alone}
-use Rattle.run_laws.proofs.Created.{reached_is_created}
+use Rattle.tc_machine.specs.run_laws.Alone.{Alone, after_request, goes_on, after_steps, taken_from}
+use Rattle.tc_machine.proofs.run_laws.After.{branch_is}
+use Rattle.tc_machine.proofs.run_laws.Basics.{some_is, some_value}
+use Rattle.tc_machine.proofs.run_laws.Begun.{threads_live_alone}
+use Rattle.tc_machine.proofs.run_laws.Created.{reached_is_created}
 use Rattle.tc_record.specs.Ends.{has_many_steps}
 use Rattle.tc_record.specs.helpers.Paths.{named_path}
 use Rattle.tc_machine.proofs.Exits.{listed_there}

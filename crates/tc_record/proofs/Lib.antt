@@ -1,3 +1,5 @@
+pub use Rattle.path_laws.proofs as path_laws
+pub use Rattle.tc_code.proofs as tc_code
 pub mod Ends
 pub mod Format
 pub mod Paths

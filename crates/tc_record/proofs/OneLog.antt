@@ -14,13 +14,13 @@ use Rattle.tc_base.specs.States.{State}
 use Rattle.tc_base.specs.Paths.{Path, ThreadPath, path_under, place_in}
 use Rattle.tc_base.specs.declared.failing.Failing.{Failing}
 use Rattle.tc_base.specs.declared.failing.Failing.TheVariants as failing
-use Rattle.memory_models.specs.declared.model.Model.{Model}
+use Rattle.run_log.specs.memory_models.declared.model.Model.{Model}
 use Rattle.tc_base.proofs.Names.{itself, not_itself, same_name, same_true, turned}
 use Rattle.run_log.specs.Logs.{StoredLog, rises_from, is_there}
 use Rattle.run_log.proofs.Rising.{lesser_is_older, none_under, not_under, rise, rises_behind, rising, under_first}
-use Rattle.run_laws.specs.Alone.{same}
-use Rattle.run_laws.proofs.Names.{tells_names}
-use Rattle.run_laws.proofs.Basics.{some_is}
+use Rattle.tc_machine.specs.run_laws.Alone.{same}
+use Rattle.tc_machine.proofs.run_laws.Names.{tells_names}
+use Rattle.tc_machine.proofs.run_laws.Basics.{some_is}
 use Rattle.tc_record.specs.declared.end.End.TheVariants.{Failed, Deadlock}
 use Rattle.tc_record.specs.Ends.{told_end}
 use Rattle.tc_record.specs.Logged.{IsLogOf}

@@ -14,22 +14,22 @@ use Rattle.std.specs.Cmp.Lexicographic.{slice_cmp}
 use Rattle.std.specs.FinMap as fin
 use Rattle.std.specs.FinMap.Entries.{below_all}
 use Rattle.std.proofs.lemmas.Map.Text.{is_eq-slice_cmp}
-use Rattle.list_laws.proofs.Bools.{first_T, second_T}
+use Rattle.store_buffers.proofs.list_laws.Bools.{first_T, second_T}
 use Rattle.tc_base.specs.Names.{Name}
 use Rattle.tc_base.specs.States.{Thread, State}
 use Rattle.tc_base.specs.Paths.{Path, ThreadPath, place_in, path_under}
 use Rattle.run_log.specs.Logs.{failing_of}
 use Rattle.tc_base.specs.declared.failing.Failing.{Failing}
 use Rattle.tc_base.specs.declared.failing.Failing.TheVariants as failing
-use Rattle.memory_models.specs.declared.model.Model.{Model}
+use Rattle.run_log.specs.memory_models.declared.model.Model.{Model}
 use Rattle.tc_base.specs.Buffers.{BufferOps}
 use Rattle.tc_base.specs.declared.moves.Move.{Move}
 use Rattle.tc_code.specs.Code.{Code}
 use Rattle.tc_code.specs.Run.{path_of, path_in, run, IsStuck, EndsAs, Reproduces}
 use Rattle.run_log.specs.Logs.{StoredLog, is_above, rises_from, is_there, is_log}
-use Rattle.run_laws.specs.Alone.{same}
-use Rattle.run_laws.proofs.Basics.{some_is}
-use Rattle.run_laws.proofs.Names.{tells_names}
+use Rattle.tc_machine.specs.run_laws.Alone.{same}
+use Rattle.tc_machine.proofs.run_laws.Basics.{some_is}
+use Rattle.tc_machine.proofs.run_laws.Names.{tells_names}
 use Rattle.tc_base.proofs.Names.{same_true}
 use Rattle.tc_record.specs.Logged.{IsLogOf}
 use Rattle.tc_record.specs.helpers.Paths.{path_at, named_path, EndsBy, HasThreads}

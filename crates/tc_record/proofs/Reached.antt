@@ -21,15 +21,15 @@ use Rattle.tc_code.specs.Code.{Code, instr_at}
 use Rattle.tc_code.proofs.Facts.{at_its_place}
 use Rattle.tc_code.specs.Step.{step, opening, perform, request, born, step_in_place}
 use Rattle.tc_code.specs.Run.{IsReached}
-use Rattle.run_laws.specs.Whole.{AllThreads}
-use Rattle.run_laws.proofs.Basics.{either, some_is}
-use Rattle.run_laws.proofs.After.{branch_is}
-use Rattle.run_laws.proofs.Names.{get_put, get_put_cases, get_put_apart, child_apart}
-use Rattle.run_laws.proofs.Steps.{Went, step_went, none_failed, holds_in_reached}
-use Rattle.run_laws.proofs.Changes.{Goes, Went_on, Stayed, step_changes}
-use Rattle.run_laws.proofs.Created.{child_is_new}
-use Rattle.run_laws.specs.Alone.{same}
-use Rattle.run_laws.proofs.Main.{main_is_there, thread_stays}
+use Rattle.tc_machine.specs.run_laws.Whole.{AllThreads}
+use Rattle.tc_machine.proofs.run_laws.Basics.{either, some_is}
+use Rattle.tc_machine.proofs.run_laws.After.{branch_is}
+use Rattle.tc_machine.proofs.run_laws.Names.{get_put, get_put_cases, get_put_apart, child_apart}
+use Rattle.tc_machine.proofs.run_laws.Steps.{Went, step_went, none_failed, holds_in_reached}
+use Rattle.tc_machine.proofs.run_laws.Changes.{Goes, Went_on, Stayed, step_changes}
+use Rattle.tc_machine.proofs.run_laws.Created.{child_is_new}
+use Rattle.tc_machine.specs.run_laws.Alone.{same}
+use Rattle.tc_machine.proofs.run_laws.Main.{main_is_there, thread_stays}
 use Rattle.tc_record.specs.helpers.Paths.{HasThreads}
 
 module _ {B : Type 0} (ops : BufferOps B) (code : Code) where

@@ -10,7 +10,7 @@ use Rattle.byteorder.specs.Endian.{big_bytes}
 use Rattle.tc_limits.specs.declared.limits.TheConstants.{THREADS, DEPTH}
 use Rattle.run_log.specs.Logs.{Log}
 use Rattle.tc_base.specs.Paths.{ThreadPath}
-use Rattle.memory_models.specs.declared.model.Model.{Model}
+use Rattle.run_log.specs.memory_models.declared.model.Model.{Model}
 use Rattle.path_log.specs.Texts.{runs_behind, runs_text, thread_text, head_text, ending_code, log_text, is_thread, is_of_format}
 use Rattle.run_log.specs.Logs.{is_digest}
 use Rattle.tc_record.specs.Logged.{is_small, most_log_bytes}

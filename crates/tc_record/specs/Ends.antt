@@ -23,7 +23,8 @@ limit_of Steps = STEPS
 module _ {B : Type 0} (s : State B) where
   -- whether the named thread has done more steps than the limit
   abbrev pub has_many_steps : Name → Bool
-  has_many_steps n = option_map_or (λ t. nat_lt (limit_of Steps) t.local.steps) (fin.get s.threads n) false
+  has_many_steps n =
+      option_map_or (λ t. nat_lt (limit_of Steps) t.local.steps) (fin.get s.threads n) false
 
   -- whether some thread is deeper than the limit
   abbrev pub some_is_deep : Bool

@@ -6,7 +6,7 @@ use Rattle.tc_base.specs.Names.{Name}
 use Rattle.tc_base.specs.States.{State}
 use Rattle.run_log.specs.Logs.{Log, failing_of}
 use Rattle.tc_base.specs.Paths.{path_under}
-use Rattle.memory_models.specs.declared.model.Model.{Model}
+use Rattle.run_log.specs.memory_models.declared.model.Model.{Model}
 use Rattle.tc_code.specs.Run.{path_in}
 use Rattle.run_log.specs.Logs.{StoredLog, is_log}
 
@@ -20,7 +20,8 @@ pub record IsLogOf {B : Type 0} (under : Model) (s : State B) (stored : StoredLo
 
 -- whether a log is within the limits on threads and depth
 abbrev pub is_small : Log → Bool
-is_small log = nat_le (length log.threads) THREADS && list_all (λ t. nat_le (length t.name) DEPTH) log.threads
+is_small log =
+    nat_le (length log.threads) THREADS && list_all (λ t. nat_le (length t.name) DEPTH) log.threads
 
 -- the most bytes that such a log's text has: 39 for the head, 2 for counts, 131,084 for each thread
 abbrev pub most_log_bytes : ℕ

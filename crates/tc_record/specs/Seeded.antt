@@ -5,7 +5,7 @@ use Rattle.rand_core.specs.Steps.{first_words}
 use Rattle.rand_xoshiro.specs.SplitMix64.{mix_u64}
 use Rattle.tc_base.specs.Buffers.{BufferOps}
 use Rattle.tc_base.specs.States.{State}
-use Rattle.memory_models.specs.declared.model.Model.{Model}
+use Rattle.run_log.specs.memory_models.declared.model.Model.{Model}
 use Rattle.tc_base.specs.declared.moves.Move.{Move}
 use Rattle.tc_code.specs.Code.{Code}
 use Rattle.tc_code.specs.Step.{step, opening}
@@ -44,16 +44,22 @@ seed_words seed n = first_words mix_u64 n seed
 module _ {B : Type 0} (ops : BufferOps B) (code : Code) where
   -- the move that a word chooses, if any is enabled
   abbrev pub chosen_move : State B → ℕ → Option Move
-  chosen_move s word = slice_get (enabled_moves ops code s) (word % length (enabled_moves ops code s))
+  chosen_move s word =
+      slice_get (enabled_moves ops code s) (word % length (enabled_moves ops code s))
 
   -- the run that makes a move and then ends by a test or goes on
   abbrev pub run_by_move : State B → (State B → Ended B) → Move → Ended B
-  run_by_move s on m = option_map_or (λ u. with_moves_before (m ∷ []) (option_map_or (run_ended_at u) (end_at u) (on u))) (step ops code s m) (run_ended_at s end.StepLimit)
+  run_by_move s on m =
+      option_map_or
+      (λ u. with_moves_before (m ∷ []) (option_map_or (run_ended_at u) (end_at u) (on u)))
+      (step ops code s m) (run_ended_at s end.StepLimit)
 
   -- the run that words choose from a state: one move for each, until it ends or no word is left
   abbrev pub seeded_from : State B → List ℕ → Ended B
   seeded_from s [] = run_ended_at s end.StepLimit
-  seeded_from s (word ∷ words) = option_map_or (run_by_move s (λ u. seeded_from u words)) (chosen_move s word) (run_ended_at s (end_without_moves s))
+  seeded_from s (word ∷ words) =
+      option_map_or (run_by_move s (λ u. seeded_from u words)) (chosen_move s word)
+      (run_ended_at s (end_without_moves s))
 
   -- the run of a seed with at most this many moves
   abbrev pub seeded_run : (seed steps : ℕ) → Ended B
@@ -65,21 +71,29 @@ HasLog run = (run.end ≡ end.Failed) ⊎ (run.end ≡ end.Deadlock)
 
 -- an answer that matches the run: its end, its moves, and its log if it has one
 abbrev pub IsAnswer : {B : Type 0} → Model → Ended B → Result Seeded SeededFault → Type 0
-IsAnswer model run (Ok (Failed log moves)) = (run.end ≡ end.Failed) × (moves.items ≡ run.moves) × IsLogOf model run.state log
+IsAnswer model run (Ok (Failed log moves)) =
+    (run.end ≡ end.Failed) × (moves.items ≡ run.moves) × IsLogOf model run.state log
 IsAnswer model run (Ok (Finished moves)) = (run.end ≡ end.Finished) × (moves.items ≡ run.moves)
-IsAnswer model run (Ok (Deadlock log moves)) = (run.end ≡ end.Deadlock) × (moves.items ≡ run.moves) × IsLogOf model run.state log
+IsAnswer model run (Ok (Deadlock log moves)) =
+    (run.end ≡ end.Deadlock) × (moves.items ≡ run.moves) × IsLogOf model run.state log
 IsAnswer model run (Ok (StepLimit moves)) = (run.end ≡ end.StepLimit) × (moves.items ≡ run.moves)
-IsAnswer model run (Err (Limit which found most)) = (run.end ≡ end.Over which) × (found ≡ limit_of which + 1) × (most ≡ limit_of which)
+IsAnswer model run (Err (Limit which found most)) =
+    (run.end ≡ end.Over which) × (found ≡ limit_of which + 1) × (most ≡ limit_of which)
 IsAnswer model run (Err Memory) = Unit {0}
 
 -- the same for an answer with the line of a failure
 abbrev pub IsRecordOf : {B : Type 0} → Model → Code → Ended B → Result Recorded SeededFault → Type 0
 IsRecordOf model code run (Ok (recorded.Failed log moves line)) =
-    (run.end ≡ end.Failed) × (moves.items ≡ run.moves) × IsLogOf model run.state log × (failing_line code run.state ≡ Some line)
-IsRecordOf model code run (Ok (recorded.Finished moves)) = (run.end ≡ end.Finished) × (moves.items ≡ run.moves)
-IsRecordOf model code run (Ok (recorded.Deadlock log moves)) = (run.end ≡ end.Deadlock) × (moves.items ≡ run.moves) × IsLogOf model run.state log
-IsRecordOf model code run (Ok (recorded.StepLimit moves)) = (run.end ≡ end.StepLimit) × (moves.items ≡ run.moves)
-IsRecordOf model code run (Err (Limit which found most)) = (run.end ≡ end.Over which) × (found ≡ limit_of which + 1) × (most ≡ limit_of which)
+    (run.end ≡ end.Failed) × (moves.items ≡ run.moves) × IsLogOf model run.state log
+    × (failing_line code run.state ≡ Some line)
+IsRecordOf model code run (Ok (recorded.Finished moves)) =
+    (run.end ≡ end.Finished) × (moves.items ≡ run.moves)
+IsRecordOf model code run (Ok (recorded.Deadlock log moves)) =
+    (run.end ≡ end.Deadlock) × (moves.items ≡ run.moves) × IsLogOf model run.state log
+IsRecordOf model code run (Ok (recorded.StepLimit moves)) =
+    (run.end ≡ end.StepLimit) × (moves.items ≡ run.moves)
+IsRecordOf model code run (Err (Limit which found most)) =
+    (run.end ≡ end.Over which) × (found ≡ limit_of which + 1) × (most ≡ limit_of which)
 IsRecordOf model code run (Err Memory) = Unit {0}
 
 -- P holds of the log and the moves, if the answer is a failure or a deadlock

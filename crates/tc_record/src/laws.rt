@@ -3,7 +3,7 @@ ghost use Rattle.std.specs.Prelude.{◌≡◌, ◌≤◌, List, Some, ℕ, lengt
 ghost use Rattle.tc_base.specs.Buffers.{BufferOps};
 ghost use Rattle.run_log.specs.Logs.{Log};
 ghost use Rattle.tc_base.specs.States.{State};
-ghost use Rattle.memory_models.specs.declared.model.Model.{Model};
+ghost use Rattle.run_log.specs.memory_models.declared.model.Model.{Model};
 ghost use Rattle.store_buffers.specs.Laws.{Laws};
 ghost use Rattle.store_buffers.specs.Pending.{Binding};
 ghost use Rattle.tc_code.specs.Code.{Code};

@@ -2,7 +2,7 @@
 ghost use Rattle.std.specs.Prelude.{◌≡◌, ◌≤◌, ◌<◌, ◌+◌, ◌^◌, length, IfOk, Some, IsTrue};
 ghost use Rattle.tc_code.specs.Run.{IsReached, Reproduces, run};
 ghost use Rattle.path_log.specs.Texts.{is_of_format};
-ghost use Rattle.path_walk.specs.Fits.{Fits};
+ghost use Rattle.path_laws.specs.path_walk.Fits.{Fits};
 ghost use Rattle.tc_record.specs.Logged.{is_small};
 ghost use Rattle.tc_record.specs.Seeded as spec;
 ghost use Rattle.tc_record.specs.Seeded.{seeded_run, IsAnswer, IfLogged, IsRecordOf, IfRecorded};

@@ -5,7 +5,7 @@ use Rattle.tc_base.specs.Names.{Name, ByName}
 use Rattle.tc_base.specs.States.{Local, Thread}
 use Rattle.tc_code.specs.declared.instr.Instr.{Instr}
 use Rattle.tc_code.specs.declared.instr.Instr.TheVariants.{Branch}
-use Rattle.tc_limits.specs.declared.limits.TheConstants.{CELLS}
+use Rattle.tc_code.specs.tc_limits.declared.limits.TheConstants.{CELLS}
 use Rattle.tc_code.specs.Code.{Code}
 use Rattle.tc_code.specs.Lawful.{names_what_is}
 use Rattle.tc_code.specs.declared.code.Func.{Func}
@@ -42,7 +42,8 @@ is_branch _ = false
 
 -- a function to be started exists and has room for the arguments
 abbrev pub Starts : Code → Local → Instr → Request → Type 0
-Starts code t i (Start f) = (f < length code.functions) × (length (arguments_of t i) ≤ ints_of code f)
+Starts code t i (Start f) =
+    (f < length code.functions) × (length (arguments_of t i) ≤ ints_of code f)
 Starts code t i _ = Unit {0}
 
 module _ {B : Type 0} where

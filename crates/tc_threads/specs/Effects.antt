@@ -14,7 +14,8 @@ module _ {B : Type 0} (ops : BufferOps B) where
   -- the thread after an instruction with this effect
   abbrev pub affected : Thread B → Instr → Effect → Thread B
   affected t i (Takes v) = record t { local = local_after t.local i v }
-  affected t i (Issues c v) = record { local = local_after t.local i (pos 0); buffer = ops.issue t.buffer c v }
+  affected t i (Issues c v) =
+      record { local = local_after t.local i (pos 0); buffer = ops.issue t.buffer c v }
   affected t i Bars = record { local = local_after t.local i (pos 0); buffer = ops.bar t.buffer }
 
   -- a branch has nothing for the buffer, and a model without buffers buffers no store
@@ -24,7 +25,8 @@ module _ {B : Type 0} (ops : BufferOps B) where
   MayHave i Bars = is_branch i ≡ false
 
   -- the store that a thread drains by a form, and the threads after that
-  pub record DrainsTo (threads : ByName (Thread B)) (n : Name) (t : Thread B) (form : Option ℕ) (store : ℕ × ℤ) (left : ByName (Thread B)) : Type 0 where
+  pub record DrainsTo (threads : ByName (Thread B)) (n : Name) (t : Thread B) (form : Option ℕ)
+      (store : ℕ × ℤ) (left : ByName (Thread B)) : Type 0 where
     pub cell : store.0 ≡ (ops.drain t.buffer form).entry.cell
     pub value : store.1 ≡ (ops.drain t.buffer form).entry.value
     pub rest : left ≡ fin.insert threads n (record t { buffer = (ops.drain t.buffer form).rest })

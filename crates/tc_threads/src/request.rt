@@ -1,6 +1,6 @@
 //! The parts that requests of instructions are made of.
 ghost use Rattle.std.specs.Prelude.{◌≡◌, ◌+◌, ◌<◌, ◌^◌, unsigned_abs};
-ghost use Rattle.int_ops.specs.Arith.{is_distance};
+ghost use Rattle.tc_code.specs.int_ops.Arith.{is_distance};
 ghost use Rattle.tc_code.specs.Step as plain;
 
 use tc_base::{Handle, Request};

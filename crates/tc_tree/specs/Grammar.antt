@@ -92,10 +92,13 @@ binary_sign Or = sign.OrOr
 abbrev pub expression_then : Expression → List Word → List Word
 expression_then (Number n) rest = ANumber n ∷ rest
 expression_then (Variable x) rest = AName x ∷ rest
-expression_then (Element a i) rest = AName a ∷ ASign sign.OpenBracket ∷ expression_then i (ASign sign.CloseBracket ∷ rest)
-expression_then (Paren e) rest = ASign sign.OpenParen ∷ expression_then e (ASign sign.CloseParen ∷ rest)
+expression_then (Element a i) rest =
+    AName a ∷ ASign sign.OpenBracket ∷ expression_then i (ASign sign.CloseBracket ∷ rest)
+expression_then (Paren e) rest =
+    ASign sign.OpenParen ∷ expression_then e (ASign sign.CloseParen ∷ rest)
 expression_then (Unary op e) rest = ASign (unary_sign op) ∷ expression_then e rest
-expression_then (Binary op a b) rest = expression_then a (ASign (binary_sign op) ∷ expression_then b rest)
+expression_then (Binary op a b) rest =
+    expression_then a (ASign (binary_sign op) ∷ expression_then b rest)
 
 -- how tightly an operator binds, as in C
 abbrev pub level : Operator → ℕ
@@ -131,7 +134,8 @@ IsGrouped (Variable x) = Unit {0}
 IsGrouped (Element a i) = IsGrouped i
 IsGrouped (Paren e) = IsGrouped e
 IsGrouped (Unary op e) = (11 ≤ tightness e) × IsGrouped e
-IsGrouped (Binary op a b) = (level op ≤ tightness a) × (level op < tightness b) × IsGrouped a × IsGrouped b
+IsGrouped (Binary op a b) =
+    (level op ≤ tightness a) × (level op < tightness b) × IsGrouped a × IsGrouped b
 
 abbrev pub AreGrouped : List Expression → Type 0
 AreGrouped [] = Unit {0}
@@ -160,7 +164,8 @@ mutual
     Order : (place : Place) (barrier : Barrier) → Statement
     Assert : (place : Place) (condition : Expression) → Statement
     While : (place : Place) (condition : Expression) (body : Statements) (end : Place) → Statement
-    If : (place : Place) (condition : Expression) (body : Statements) (end : Place) (otherwise : Otherwise) → Statement
+    If : (place : Place) (condition : Expression) (body : Statements) (end : Place)
+        (otherwise : Otherwise) → Statement
 
   pub data Statements : Type 0 where
     Nil : Statements
@@ -170,28 +175,49 @@ mutual
   pub data Otherwise : Type 0 where
     Nothing : Otherwise
     Else : (body : Statements) (end : Place) → Otherwise
-    ElseIf : (place : Place) (condition : Expression) (body : Statements) (end : Place) (otherwise : Otherwise) → Otherwise
+    ElseIf : (place : Place) (condition : Expression) (body : Statements) (end : Place)
+        (otherwise : Otherwise) → Otherwise
 
 abbrev pub in_parens_then : Expression → List Word → List Word
 in_parens_then e rest = ASign sign.OpenParen ∷ expression_then e (ASign sign.CloseParen ∷ rest)
 
 abbrev mutual
   pub statement_then : Statement → List Word → List Word
-  statement_then (Assign x e) rest = AName x ∷ ASign sign.Assign ∷ expression_then e (ASign sign.Semicolon ∷ rest)
+  statement_then (Assign x e) rest =
+      AName x ∷ ASign sign.Assign ∷ expression_then e (ASign sign.Semicolon ∷ rest)
   statement_then (Store a i e) rest = AName a ∷ ASign sign.OpenBracket ∷ expression_then i
-      (ASign sign.CloseBracket ∷ ASign sign.Assign ∷ expression_then e (ASign sign.Semicolon ∷ rest))
-  statement_then (Create h f es) rest = AName h ∷ ASign sign.Assign ∷ AKeyword keyword.Create ∷ AName f ∷ ASign sign.OpenParen ∷ list_then es
+      (ASign sign.CloseBracket ∷ ASign sign.Assign
+      ∷ expression_then e (ASign sign.Semicolon ∷ rest))
+  statement_then (Create h f es) rest =
+      AName h ∷ ASign sign.Assign ∷ AKeyword keyword.Create ∷ AName f ∷ ASign sign.OpenParen
+      ∷ list_then es
       (ASign sign.CloseParen ∷ ASign sign.Semicolon ∷ rest)
-  statement_then (Swap r x e) rest = AName r ∷ ASign sign.Assign ∷ AKeyword keyword.Swap ∷ ASign sign.OpenParen ∷ AName x ∷ ASign sign.Comma ∷
+  statement_then (Swap r x e) rest =
+      AName r ∷ ASign sign.Assign ∷ AKeyword keyword.Swap ∷ ASign sign.OpenParen ∷ AName x
+      ∷ ASign sign.Comma ∷
       expression_then e (ASign sign.CloseParen ∷ ASign sign.Semicolon ∷ rest)
-  statement_then (Cas r x e f) rest = AName r ∷ ASign sign.Assign ∷ AKeyword keyword.Cas ∷ ASign sign.OpenParen ∷ AName x ∷ ASign sign.Comma ∷
-      expression_then e (ASign sign.Comma ∷ expression_then f (ASign sign.CloseParen ∷ ASign sign.Semicolon ∷ rest))
-  statement_then (Act p a x) rest = AnAction a p ∷ ASign sign.OpenParen ∷ AName x ∷ ASign sign.CloseParen ∷ ASign sign.Semicolon ∷ rest
-  statement_then (Wait p c m) rest = AWait p ∷ ASign sign.OpenParen ∷ AName c ∷ ASign sign.Comma ∷ AName m ∷ ASign sign.CloseParen ∷ ASign sign.Semicolon ∷ rest
-  statement_then (Order p b) rest = ABarrier b p ∷ ASign sign.OpenParen ∷ ASign sign.CloseParen ∷ ASign sign.Semicolon ∷ rest
-  statement_then (Assert p e) rest = AnAssert p ∷ ASign sign.OpenParen ∷ expression_then e (ASign sign.CloseParen ∷ ASign sign.Semicolon ∷ rest)
-  statement_then (While p c b q) rest = AWhile p ∷ in_parens_then c (ASign sign.OpenBrace ∷ statements_then b (AnEnd q ∷ rest))
-  statement_then (If p c b q o) rest = AnIf p ∷ in_parens_then c (ASign sign.OpenBrace ∷ statements_then b (AnEnd q ∷ otherwise_then o rest))
+  statement_then (Cas r x e f) rest =
+      AName r ∷ ASign sign.Assign ∷ AKeyword keyword.Cas ∷ ASign sign.OpenParen ∷ AName x
+      ∷ ASign sign.Comma ∷
+      expression_then e
+      (ASign sign.Comma
+      ∷ expression_then f (ASign sign.CloseParen ∷ ASign sign.Semicolon ∷ rest))
+  statement_then (Act p a x) rest =
+      AnAction a p ∷ ASign sign.OpenParen ∷ AName x ∷ ASign sign.CloseParen ∷ ASign sign.Semicolon
+      ∷ rest
+  statement_then (Wait p c m) rest =
+      AWait p ∷ ASign sign.OpenParen ∷ AName c ∷ ASign sign.Comma ∷ AName m ∷ ASign sign.CloseParen
+      ∷ ASign sign.Semicolon ∷ rest
+  statement_then (Order p b) rest =
+      ABarrier b p ∷ ASign sign.OpenParen ∷ ASign sign.CloseParen ∷ ASign sign.Semicolon ∷ rest
+  statement_then (Assert p e) rest =
+      AnAssert p ∷ ASign sign.OpenParen
+      ∷ expression_then e (ASign sign.CloseParen ∷ ASign sign.Semicolon ∷ rest)
+  statement_then (While p c b q) rest =
+      AWhile p ∷ in_parens_then c (ASign sign.OpenBrace ∷ statements_then b (AnEnd q ∷ rest))
+  statement_then (If p c b q o) rest =
+      AnIf p ∷ in_parens_then c
+      (ASign sign.OpenBrace ∷ statements_then b (AnEnd q ∷ otherwise_then o rest))
 
   pub statements_then : Statements → List Word → List Word
   statements_then Nil rest = rest
@@ -199,7 +225,8 @@ abbrev mutual
 
   pub otherwise_then : Otherwise → List Word → List Word
   otherwise_then Nothing rest = rest
-  otherwise_then (Else b q) rest = AKeyword keyword.Else ∷ ASign sign.OpenBrace ∷ statements_then b (AnEnd q ∷ rest)
+  otherwise_then (Else b q) rest =
+      AKeyword keyword.Else ∷ ASign sign.OpenBrace ∷ statements_then b (AnEnd q ∷ rest)
   otherwise_then (ElseIf p c b q o) rest = AKeyword keyword.Else ∷ AnIf p ∷ in_parens_then c
       (ASign sign.OpenBrace ∷ statements_then b (AnEnd q ∷ otherwise_then o rest))
 
@@ -249,8 +276,11 @@ initial_then (Plain n) rest = ASign sign.Assign ∷ ANumber n ∷ rest
 initial_then (Negated n) rest = ASign sign.Assign ∷ ASign sign.Minus ∷ ANumber n ∷ rest
 
 abbrev pub global_then : Global → List Word → List Word
-global_then (Int x i) rest = AKeyword keyword.Int ∷ AName x ∷ initial_then i (ASign sign.Semicolon ∷ rest)
-global_then (Array a n) rest = AKeyword keyword.Int ∷ AName a ∷ ASign sign.OpenBracket ∷ ANumber n ∷ ASign sign.CloseBracket ∷ ASign sign.Semicolon ∷ rest
+global_then (Int x i) rest =
+    AKeyword keyword.Int ∷ AName x ∷ initial_then i (ASign sign.Semicolon ∷ rest)
+global_then (Array a n) rest =
+    AKeyword keyword.Int ∷ AName a ∷ ASign sign.OpenBracket ∷ ANumber n ∷ ASign sign.CloseBracket
+    ∷ ASign sign.Semicolon ∷ rest
 global_then (Mutex m) rest = AKeyword keyword.Mutex ∷ AName m ∷ ASign sign.Semicolon ∷ rest
 global_then (Condition c) rest = AKeyword keyword.Cond ∷ AName c ∷ ASign sign.Semicolon ∷ rest
 
@@ -267,19 +297,22 @@ locals_then [] rest = rest
 locals_then (l ∷ ls) rest = local_then l (locals_then ls rest)
 
 abbrev pub body_then : Body → List Word → List Word
-body_then b rest = ASign sign.OpenBrace ∷ locals_then b.locals (statements_then b.statements (AnEnd b.end ∷ rest))
+body_then b rest =
+    ASign sign.OpenBrace ∷ locals_then b.locals (statements_then b.statements (AnEnd b.end ∷ rest))
 
 -- the parameters, each after a comma
 abbrev pub other_parameters_then : List Name → List Word → List Word
 other_parameters_then [] rest = rest
-other_parameters_then (x ∷ xs) rest = ASign sign.Comma ∷ AKeyword keyword.Int ∷ AName x ∷ other_parameters_then xs rest
+other_parameters_then (x ∷ xs) rest =
+    ASign sign.Comma ∷ AKeyword keyword.Int ∷ AName x ∷ other_parameters_then xs rest
 
 abbrev pub parameters_then : List Name → List Word → List Word
 parameters_then [] rest = rest
 parameters_then (x ∷ xs) rest = AKeyword keyword.Int ∷ AName x ∷ other_parameters_then xs rest
 
 abbrev pub thread_then : Thread → List Word → List Word
-thread_then t rest = AKeyword keyword.Thread ∷ AName t.name ∷ ASign sign.OpenParen ∷ parameters_then t.parameters
+thread_then t rest =
+    AKeyword keyword.Thread ∷ AName t.name ∷ ASign sign.OpenParen ∷ parameters_then t.parameters
     (ASign sign.CloseParen ∷ body_then t.body rest)
 
 abbrev pub threads_then : List Thread → List Word → List Word
@@ -287,7 +320,8 @@ threads_then [] rest = rest
 threads_then (t ∷ ts) rest = thread_then t (threads_then ts rest)
 
 abbrev pub program_words : Program → List Word
-program_words p = globals_then p.globals (threads_then p.threads (AKeyword keyword.Main ∷ body_then p.main []))
+program_words p =
+    globals_then p.globals (threads_then p.threads (AKeyword keyword.Main ∷ body_then p.main []))
 
 abbrev pub AreWellThreads : List Thread → Type 0
 AreWellThreads [] = Unit {0}

@@ -1,3 +1,4 @@
+pub use Rattle.tc_lexer.specs as tc_lexer
 pub mod Words
 pub mod Grammar
 pub mod Node

@@ -29,7 +29,8 @@ pub record SeenBranch : Type 0 where
 abbrev pub otherwise_of : List SeenBranch → Option SeenBlock → Otherwise
 otherwise_of [] None = grammar.Nothing
 otherwise_of [] (Some b) = grammar.Else b.statements b.end
-otherwise_of (b ∷ bs) last = grammar.ElseIf b.place b.condition b.body.statements b.body.end (otherwise_of bs last)
+otherwise_of (b ∷ bs) last =
+    grammar.ElseIf b.place b.condition b.body.statements b.body.end (otherwise_of bs last)
 
 abbrev pub view_statement : Statement-F Statement SeenBlock SeenBranch → Statement
 view_statement (Statement-F.Assign x e) = grammar.Assign x e
@@ -41,8 +42,10 @@ view_statement (Statement-F.Act p a x) = grammar.Act p a x
 view_statement (Statement-F.Wait p c m) = grammar.Wait p c m
 view_statement (Statement-F.Order p b) = grammar.Order p b
 view_statement (Statement-F.Assert p e) = grammar.Assert p e
-view_statement (Statement-F.While b) = grammar.While b.place b.condition b.body.statements b.body.end
-view_statement (Statement-F.If b others last) = grammar.If b.place b.condition b.body.statements b.body.end (otherwise_of others.items last)
+view_statement (Statement-F.While b) =
+    grammar.While b.place b.condition b.body.statements b.body.end
+view_statement (Statement-F.If b others last) =
+    grammar.If b.place b.condition b.body.statements b.body.end (otherwise_of others.items last)
 
 abbrev pub view_block : Block-F Statement SeenBlock SeenBranch → SeenBlock
 view_block b = record { statements = statements_of b.statements.items; end = b.end }
@@ -51,7 +54,8 @@ abbrev pub view_branch : Branch-F Statement SeenBlock SeenBranch → SeenBranch
 view_branch b = record { place = b.place; condition = b.condition; body = b.body }
 
 abbrev pub statement_of : TreeStatement → Statement
-statement_of s = fold-Statement Statement SeenBlock SeenBranch view_statement view_block view_branch s
+statement_of s =
+    fold-Statement Statement SeenBlock SeenBranch view_statement view_block view_branch s
 
 abbrev pub block_of : Block → SeenBlock
 block_of b = fold-Block Statement SeenBlock SeenBranch view_statement view_block view_branch b
@@ -60,10 +64,13 @@ abbrev pub branch_of : Branch → SeenBranch
 branch_of b = fold-Branch Statement SeenBlock SeenBranch view_statement view_block view_branch b
 
 abbrev pub body_of : TreeBody → Body
-body_of b = let seen = block_of b.block in record { locals = b.locals.items; statements = seen.statements; end = seen.end }
+body_of b =
+    let seen = block_of b.block in
+    record { locals = b.locals.items; statements = seen.statements; end = seen.end }
 
 abbrev pub thread_of : TreeThread → Thread
 thread_of t = record { name = t.name; parameters = t.parameters.items; body = body_of t.body }
 
 abbrev pub program_of : TreeProgram → Program
-program_of t = record { globals = t.globals.items; threads = map thread_of t.threads.items; main = body_of t.main }
+program_of t =
+    record { globals = t.globals.items; threads = map thread_of t.threads.items; main = body_of t.main }

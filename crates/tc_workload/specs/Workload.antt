@@ -12,17 +12,21 @@ use Rattle.memory_models.specs.declared.model.Model.TheVariants.{Tso}
 
 -- the cell that a worker reads, chosen by its word: any from 0 to `workers` except its own
 abbrev pub cell_read : (workers worker word : ℕ) → ℕ
-cell_read workers worker word = if nat_lt (word % workers) worker then word % workers else word % workers + 1
+cell_read workers worker word =
+    if nat_lt (word % workers) worker then word % workers else word % workers + 1
 
 abbrev pub worker_line : (worker cell : ℕ) → List ℕ
 worker_line worker cell =
-    codes "thread w" ++ (decimal worker ++ (codes "() { a[" ++ (decimal worker ++ (codes "] = 1; r[" ++ (decimal worker ++
+    codes "thread w"
+    ++ (decimal worker
+    ++ (codes "() { a[" ++ (decimal worker ++ (codes "] = 1; r[" ++ (decimal worker ++
     (codes "] = a[" ++ (decimal cell ++ codes "]; }\n")))))))
 
 -- the lines of the workers from `worker` on, one for each word
 abbrev pub worker_lines : (workers worker : ℕ) → List ℕ → List ℕ
 worker_lines workers worker [] = []
-worker_lines workers worker (word ∷ words) = worker_line worker (cell_read workers worker word) ++ worker_lines workers (worker + 1) words
+worker_lines workers worker (word ∷ words) =
+    worker_line worker (cell_read workers worker word) ++ worker_lines workers (worker + 1) words
 
 -- a text for each of `count` workers, from `worker` on
 abbrev pub each : (ℕ → List ℕ) → (worker count : ℕ) → List ℕ
@@ -33,7 +37,8 @@ abbrev pub declares : ℕ → List ℕ
 declares worker = codes "tid t" ++ (decimal worker ++ codes ";\n")
 
 abbrev pub creates : ℕ → List ℕ
-creates worker = codes "t" ++ (decimal worker ++ (codes " = create w" ++ (decimal worker ++ codes "();\n")))
+creates worker =
+    codes "t" ++ (decimal worker ++ (codes " = create w" ++ (decimal worker ++ codes "();\n")))
 
 abbrev pub joins : ℕ → List ℕ
 joins worker = codes "join(t" ++ (decimal worker ++ codes ");\n")
@@ -44,13 +49,15 @@ adds worker = codes " + r[" ++ (decimal worker ++ codes "]")
 -- the worker threads and main, which declares, creates and joins them and adds up what they read
 abbrev pub whole_text : (threads declared created joined added : List ℕ) → List ℕ
 whole_text threads declared created joined added =
-    codes "int a[13]; int r[13];\n" ++ (threads ++ (codes "main {\n" ++ (declared ++ (created ++ (joined
+    codes "int a[13]; int r[13];\n"
+    ++ (threads ++ (codes "main {\n" ++ (declared ++ (created ++ (joined
     ++ (codes "assert(r[1]" ++ (added ++ codes " >= 1); }\n")))))))
 
 -- the program with one worker for each word
 abbrev pub workload_text : List ℕ → List ℕ
 workload_text words =
-    whole_text (worker_lines (length words) 1 words) (each declares 1 (length words)) (each creates 1 (length words)) (each joins 1 (length words))
+    whole_text (worker_lines (length words) 1 words) (each declares 1 (length words))
+    (each creates 1 (length words)) (each joins 1 (length words))
     (each adds 2 (length words - 1))
 
 -- The log.
@@ -66,4 +73,10 @@ worker_paths worker (suc n) = straight (worker ∷ []) 7 ∷ worker_paths (worke
 
 -- the log: main fails in its assert, after a create, a tested join and a tested load per worker
 abbrev pub workload_log : (workers : ℕ) → Log
-workload_log workers = record { model = Tso; failing = Thread 0; threads = straight [] (5 * workers + 1) ∷ worker_paths 1 workers }
+workload_log workers =
+    record {
+      model = Tso;
+      failing = Thread 0;
+      threads = straight [] (5 * workers + 1)
+          ∷ worker_paths 1 workers;
+    }

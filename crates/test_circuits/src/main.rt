@@ -6,7 +6,7 @@
 #![tactic(auto)]
 
 ghost use Rattle.std.specs.Prelude.{◌<◌, ◌≤◌, ◌+◌};
-ghost use Rattle.bit_words.specs.Words.{AreWithin};
+ghost use Rattle.bit_ops.specs.bit_words.Words.{AreWithin};
 
 mod orders;
 

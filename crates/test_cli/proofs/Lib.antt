@@ -1,1 +1,3 @@
 pub mod Surely
+pub mod Statuses
+pub mod Calls

@@ -13,13 +13,15 @@ use Rattle.test_frame.specs.declared.Joined.TheVariants.{Empty, Both}
 -- the first file is empty, or these are the two files joined in both orders
 abbrev pub Joins : Texts → Joined → Type 0
 Joins (first ∷ second ∷ []) Empty = first ≡ []
-Joins (first ∷ second ∷ []) (Both one other) = (first ≢ []) × (one.items ≡ first ++ second) × (other.items ≡ second ++ first)
+Joins (first ∷ second ∷ []) (Both one other) =
+    (first ≢ []) × (one.items ≡ first ++ second) × (other.items ≡ second ++ first)
 Joins _ _ = ⊥
 
 -- the two keeps, one for each order
 abbrev pub joined_keeps : (out back : List ℕ) → Joined → List Keep
 joined_keeps out back Empty = []
-joined_keeps out back (Both one other) = record { name = out; bytes = one.items } ∷ record { name = back; bytes = other.items } ∷ []
+joined_keeps out back (Both one other) =
+    record { name = out; bytes = one.items } ∷ record { name = back; bytes = other.items } ∷ []
 
 abbrev pub IsJoinedText : Joined → List ℕ → Type 0
 IsJoinedText Empty text = text ≡ codes "empty\n"

@@ -21,12 +21,14 @@ empty_shelf = record { held = empty; plan = no_plan; taken = 0; faults = no_faul
 -- the bytes taken after a fetch, which reads one byte past its limit at most, or until it fails
 abbrev pub taken_after : PlainShelf → PlainPlan → List ℕ → (limit : ℕ) → ℕ
 taken_after old plan name limit =
-    let there = length (bytes_at old.held name) in capped_sum old.taken (min (unwrap_or (told_at plan) there) (min there (limit + 1)))
+    let there = length (bytes_at old.held name) in
+    capped_sum old.taken (min (unwrap_or (told_at plan) there) (min there (limit + 1)))
 
 -- the bytes taken after a piece, which fills the room unless the reading ends or fails before
 abbrev pub taken_after_piece : PlainShelf → PlainPlan → (room : ℕ) → ℕ
 taken_after_piece old plan room =
-    let rest = length (unwrap_or (rest_of old.held old.reading) []) in capped_sum old.taken (min rest (min (unwrap_or (told_at plan) room) room))
+    let rest = length (unwrap_or (rest_of old.held old.reading) []) in
+    capped_sum old.taken (min rest (min (unwrap_or (told_at plan) room) room))
 
 -- what a shelf in memory reports: its contents, and so what the open reading has left
 abbrev pub tells_with : Files → (taken : ℕ) → PlainFaults → Option PlainReading → ShelfTells

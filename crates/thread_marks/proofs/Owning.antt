@@ -2,8 +2,8 @@
 use Rattle.std.proofs.Common.{◌≡◌, ◌∙◌, ℕ, zero, suc, Bool, false, List, ◌∷◌, map, replicate, ap, refl, sym}
 use Rattle.std.specs.Prelude.{slice_set}
 use Rattle.std.proofs.lemmas.List.{map-set}
-use Rattle.tc_base.specs.declared.handle.Handle.{Handle}
-use Rattle.tc_base.specs.declared.handle.Handle.TheVariants.{Unset}
+use Rattle.path_walk.specs.tc_base.declared.handle.Handle.{Handle}
+use Rattle.path_walk.specs.tc_base.declared.handle.Handle.TheVariants.{Unset}
 use Rattle.tc_code.specs.Code.{Code}
 use Rattle.tc_code.specs.Step.{can_be_joined, handles_of}
 use Rattle.path_walk.specs.Marks.{Marks, marks_at_start}

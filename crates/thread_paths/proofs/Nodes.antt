@@ -5,14 +5,14 @@ use Rattle.std.specs.Prelude.{◌⊎◌, ◌==◌, nat_le, if◌then◌else◌}
 use Rattle.std.specs.Option.{option_map_or}
 use Rattle.std.proofs.lemmas.Bool.{and_parts, eqb-true, not-true}
 use Rattle.std.proofs.lemmas.List.{length-append}
-use Rattle.list_laws.specs.Lists.{is_nil}
+use Rattle.thread_marks.specs.list_laws.Lists.{is_nil}
 use Rattle.tc_limits.specs.declared.limits.TheConstants.{STEPS}
 use Rattle.tc_code.specs.Code.{Code, instr_at}
 use Rattle.tc_code.specs.declared.instr.Instr.{Instr}
 use Rattle.tc_code.specs.declared.instr.Instr.TheVariants.{Branch, Goto}
-use Rattle.path_walk.specs.Events.{excludes}
-use Rattle.path_walk.specs.Marks.{Marks, marks_at_start, marks_after_instr}
-use Rattle.path_walk.specs.Steps.{Onward, onward}
+use Rattle.thread_marks.specs.path_walk.Events.{excludes}
+use Rattle.thread_marks.specs.path_walk.Marks.{Marks, marks_at_start, marks_after_instr}
+use Rattle.thread_marks.specs.path_walk.Steps.{Onward, onward}
 use Rattle.thread_marks.specs.Own.{Own, own_of}
 use Rattle.thread_paths.specs.Order.{is_from}
 use Rattle.thread_paths.specs.declared.aim.Aim.{Aim}

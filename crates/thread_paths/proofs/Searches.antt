@@ -2,7 +2,7 @@
 use Rattle.std.proofs.Common.{◌≡◌, ◌∙◌, ℕ, ◌+◌, ◌-◌, ◌^◌, ◌<◌, ◌≤◌, inl, inr, Bool, true, false, ◌&&◌, List, [], ◌∷◌, length, Option, Some, None, refl, ap, sym, arith}
 use Rattle.std.specs.Prelude.{◌⊎◌}
 use Rattle.std.proofs.lemmas.Bool.{lt-leb}
-use Rattle.tc_base.specs.Paths.{Path}
+use Rattle.tc_code.specs.tc_base.Paths.{Path}
 use Rattle.tc_code.specs.Code.{Code}
 use Rattle.thread_paths.specs.Order.{is_from}
 use Rattle.thread_paths.specs.Search.{Found, IsLeftOut, IsNotAfter, IsFirst}

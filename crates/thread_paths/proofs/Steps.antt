@@ -4,8 +4,8 @@ use Rattle.std.proofs.lemmas.List.{length-append}
 use Rattle.tc_limits.specs.declared.limits.TheConstants.{STEPS}
 use Rattle.tc_code.specs.Code.{Code, instr_at}
 use Rattle.tc_code.specs.declared.instr.Instr.{Instr}
-use Rattle.path_walk.specs.Events.{excludes}
-use Rattle.path_walk.specs.Marks.{Marks, marks_after_instr}
+use Rattle.thread_marks.specs.path_walk.Events.{excludes}
+use Rattle.thread_marks.specs.path_walk.Marks.{Marks, marks_after_instr}
 use Rattle.thread_marks.specs.Own.{Own, own_of}
 use Rattle.thread_paths.specs.declared.aim.Scope.{Scope}
 use Rattle.thread_paths.specs.declared.descent.At.{At}

@@ -5,16 +5,16 @@ use Rattle.std.specs.Prelude.{slice_get, if◌then◌else◌}
 use Rattle.std.specs.List.{list_any}
 use Rattle.std.specs.Option.{option_map_or}
 use Rattle.std.proofs.lemmas.Bool.{and_parts, ne_eqb, not-true}
-use Rattle.list_laws.specs.Lists.{is_nil}
-use Rattle.tc_base.specs.Paths.{Path}
+use Rattle.thread_marks.specs.list_laws.Lists.{is_nil}
+use Rattle.tc_code.specs.tc_base.Paths.{Path}
 use Rattle.tc_code.specs.Code.{Code, instr_at}
 use Rattle.tc_code.specs.declared.instr.Instr.{Instr}
 use Rattle.tc_code.specs.declared.instr.Instr.TheVariants as instr
-use Rattle.path_walk.specs.Events.{excludes, is_impossible}
-use Rattle.path_walk.specs.Marks.{Marks, marks_at_start, marks_after_instr, marked_from, marked_steps}
-use Rattle.path_walk.specs.Steps.{Onward, onward, with_place, places_from, end_from, step_at, steps_at, is_site}
-use Rattle.path_walk.specs.declared.fault.Misfit.{Misfit}
-use Rattle.path_walk.proofs.Places.{past_exit, short, step_more, end_more, count}
+use Rattle.thread_marks.specs.path_walk.Events.{excludes, is_impossible}
+use Rattle.thread_marks.specs.path_walk.Marks.{Marks, marks_at_start, marks_after_instr, marked_from, marked_steps}
+use Rattle.thread_marks.specs.path_walk.Steps.{Onward, onward, with_place, places_from, end_from, step_at, steps_at, is_site}
+use Rattle.thread_marks.specs.path_walk.declared.fault.Misfit.{Misfit}
+use Rattle.thread_marks.proofs.path_walk.Places.{past_exit, short, step_more, end_more, count}
 use Rattle.thread_paths.specs.Ends.{is_exit, is_used, last_is, has_end, fails_at_end, MayTake}
 use Rattle.thread_paths.specs.declared.aim.Aim.{Aim}
 use Rattle.thread_paths.specs.declared.aim.End.{End}

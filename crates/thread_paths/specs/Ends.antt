@@ -2,13 +2,13 @@
 use Rattle.std.specs.Prelude.{◌≡◌, ℕ, ◌-◌, ◌==◌, List, length, Bool, true, false, ◌&&◌, ◌||◌, Ok, slice_get}
 use Rattle.std.specs.List.{list_any}
 use Rattle.std.specs.Option.{option_map_or}
-use Rattle.tc_base.specs.Paths.{Path}
+use Rattle.tc_code.specs.tc_base.Paths.{Path}
 use Rattle.tc_code.specs.Code.{Code}
 use Rattle.tc_code.specs.declared.instr.Instr.{Instr}
 use Rattle.tc_code.specs.declared.instr.Instr.TheVariants as instr
-use Rattle.path_walk.specs.Events.{is_impossible}
-use Rattle.path_walk.specs.Marks.{marked_steps}
-use Rattle.path_walk.specs.Steps.{step_at, steps_at, places_from, ends_at_site, can_block, standing}
+use Rattle.thread_marks.specs.path_walk.Events.{is_impossible}
+use Rattle.thread_marks.specs.path_walk.Marks.{marked_steps}
+use Rattle.thread_marks.specs.path_walk.Steps.{step_at, steps_at, places_from, ends_at_site, can_block, standing}
 use Rattle.thread_paths.specs.declared.aim.Aim.{Aim}
 use Rattle.thread_paths.specs.declared.aim.End.{End}
 use Rattle.thread_paths.specs.declared.aim.End.TheVariants.{Exit, Used, Open, Rest}
@@ -35,7 +35,8 @@ module _ (code : Code) (f : ℕ) where
   -- whether there is a last step, and it is of this kind
   abbrev pub last_is : (Instr → Bool) → List ℕ → Bool
   last_is kind places =
-      option_map_or (λ k. kind (step_at code f k).instr) (slice_get places (length places - 1)) false
+      option_map_or (λ k. kind (step_at code f k).instr)
+      (slice_get places (length places - 1)) false
 
   -- whether a path to these places ends as it should, if the thread doesn't fail
   abbrev pub has_end : End → Path → List ℕ → Bool

@@ -1,3 +1,4 @@
+pub use Rattle.thread_marks.specs.path_walk
 pub mod Order
 pub mod Ends
 pub mod Search

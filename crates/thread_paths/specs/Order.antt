@@ -1,6 +1,6 @@
 -- The order of the paths of a thread.
 use Rattle.std.specs.Prelude.{ℕ, Bool, true, false, nat_le, List, [], ◌∷◌}
-use Rattle.tc_base.specs.Paths.{Path}
+use Rattle.tc_code.specs.tc_base.Paths.{Path}
 
 -- whether outcomes and steps are those of a position or come after it: false comes before true,
 -- fewer outcomes before more, and with equal outcomes fewer steps before more

@@ -1,6 +1,6 @@
 -- The result of a search for a path.
 use Rattle.std.specs.Prelude.{◌≡◌, ◌<◌, ◌≤◌, ◌⊎◌, length, true, Option, Some, None, IfSome}
-use Rattle.tc_base.specs.Paths.{Path}
+use Rattle.tc_code.specs.tc_base.Paths.{Path}
 use Rattle.tc_limits.specs.declared.limits.TheConstants.{STEPS}
 use Rattle.tc_code.specs.Code.{Code}
 use Rattle.thread_paths.specs.Ends.{MayTake}
@@ -16,7 +16,8 @@ pub record Found : Type 0 where
 -- a path is left out, and the cut says why: too many outcomes, or more steps than a log holds
 abbrev pub IsLeftOut : Scope → Cut → Path → Type 0
 IsLeftOut scope cut q =
-    ((scope.most < length q.outcomes) × (cut.outcomes ≡ true)) ⊎ ((STEPS < q.steps) × (cut.steps ≡ true))
+    ((scope.most < length q.outcomes) × (cut.outcomes ≡ true))
+    ⊎ ((STEPS < q.steps) × (cut.steps ≡ true))
 
 -- a path was found, and it is this one or comes before it
 abbrev pub IsNotAfter : Option Path → Path → Type 0

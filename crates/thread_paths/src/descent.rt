@@ -2,7 +2,7 @@
 //! path may end or none goes on.
 ghost use Rattle.std.specs.Prelude.{◌≡◌, ℕ, List, Bool, true, false, ◌&&◌, ◌≤◌, ◌<◌, ◌+◌, ◌^◌, length, IfOk, []};
 ghost use Rattle.tc_limits.specs.declared.limits.TheConstants.{STEPS};
-ghost use Rattle.path_walk.specs.Marks.{Marks};
+ghost use Rattle.thread_marks.specs.path_walk.Marks.{Marks};
 ghost use Rattle.thread_marks.specs.Own.{own_of};
 ghost use Rattle.thread_paths.specs.Order.{is_from};
 ghost use Rattle.thread_paths.specs.helpers.Descents.{is_branch, takes, at_after, is_end, IsOpened, IsNode, IsAdvance, IsDescent};

@@ -11,7 +11,7 @@ pub struct Path {
 }
 
 impl Model for Path {
-    ghost use Rattle.tc_base.specs.Paths.{Path as PlainPath};
+    ghost use Rattle.tc_code.specs.tc_base.Paths.{Path as PlainPath};
 
     ghost Value = { PlainPath };
 

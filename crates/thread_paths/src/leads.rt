@@ -2,8 +2,8 @@
 ghost use Rattle.std.specs.Prelude.{◌≡◌, ◌+◌, ◌<◌, ◌^◌, true};
 ghost use Rattle.std.specs.Option.{option_map_or};
 ghost use Rattle.tc_code.specs.Code.{instr_at};
-ghost use Rattle.path_walk.specs.Marks.{Marks};
-ghost use Rattle.path_walk.specs.Steps.{is_site, can_block};
+ghost use Rattle.thread_marks.specs.path_walk.Marks.{Marks};
+ghost use Rattle.thread_marks.specs.path_walk.Steps.{is_site, can_block};
 ghost use Rattle.thread_marks.specs.Own.{own_of};
 ghost use Rattle.thread_paths.specs.Ends.{is_exit, is_used};
 ghost use Rattle.thread_paths.specs.helpers.Descents.{is_branch, place_after, ends_with, is_last};

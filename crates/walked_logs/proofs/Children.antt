@@ -2,9 +2,9 @@
 use Rattle.std.proofs.Common.{◌≡◌, ◌∙◌, inl, inr, ℕ, zero, suc, ◌+◌, List, [], ◌∷◌, ◌++◌, Some, refl, sym, ap, subst, arith, Option}
 use Rattle.std.specs.Prelude.{slice_get}
 use Rattle.std.proofs.lemmas.Option.{none-some, same_Some}
-use Rattle.tc_base.specs.Names.{Name, child}
-use Rattle.run_history.proofs.of_pending.In.{In, in_append}
-use Rattle.tc_code.specs.declared.instr.Instr.{Instr}
+use Rattle.log_walk.specs.tc_base.Names.{Name, child}
+use Rattle.normal_logs.proofs.run_history.of_pending.In.{In, in_append}
+use Rattle.log_walk.specs.tc_code.declared.instr.Instr.{Instr}
 use Rattle.log_walk.specs.Told.{Told}
 use Rattle.log_walk.specs.Rest.{end_of, waits_for, children_from}
 use Rattle.log_walk.specs.declared.bounds.Kind.{Kind}

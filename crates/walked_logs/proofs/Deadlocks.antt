@@ -5,35 +5,35 @@ use Rattle.std.specs.List.{list_all, list_any}
 use Rattle.std.specs.Option.{option_map_or}
 use Rattle.std.proofs.lemmas.Bool.{false≢true, true_from_ne_false, eqb-true}
 use Rattle.std.proofs.lemmas.Option.{same_Some}
-use Rattle.run_log.specs.Logs.{Log, failing_of}
-use Rattle.tc_base.specs.Names.{Name, child}
-use Rattle.tc_base.specs.Paths.{Path, ThreadPath, place_in, path_under}
-use Rattle.tc_code.specs.Code.{Code, instr_at}
-use Rattle.tc_code.specs.declared.instr.Instr.{Instr}
-use Rattle.tc_code.specs.Lawful.{IsLawful}
-use Rattle.tc_code.specs.Step.{child_number}
-use Rattle.tc_code.specs.declared.instr.Instr.TheVariants.{Lock, Join}
-use Rattle.run_laws.proofs.Basics.{index_or-set_cases}
-use Rattle.path_walk.specs.declared.event.Blocked.TheVariants as blocked
+use Rattle.log_walk.specs.run_log.Logs.{Log, failing_of}
+use Rattle.log_walk.specs.tc_base.Names.{Name, child}
+use Rattle.log_walk.specs.tc_base.Paths.{Path, ThreadPath, place_in, path_under}
+use Rattle.log_walk.specs.tc_code.Code.{Code, instr_at}
+use Rattle.log_walk.specs.tc_code.declared.instr.Instr.{Instr}
+use Rattle.log_walk.specs.tc_code.Lawful.{IsLawful}
+use Rattle.log_walk.specs.tc_code.Step.{child_number}
+use Rattle.log_walk.specs.tc_code.declared.instr.Instr.TheVariants.{Lock, Join}
+use Rattle.normal_logs.proofs.run_laws.Basics.{index_or-set_cases}
+use Rattle.log_walk.specs.path_walk.declared.event.Blocked.TheVariants as blocked
 use Rattle.walked_logs.proofs.Told.{number_at}
 use Rattle.walked_logs.proofs.Stands.{ends_exit as ends_by_exit, first_instr, function_there}
-use Rattle.run_history.proofs.of_pending.In.{In}
-use Rattle.path_walk.specs.Events.{is_impossible, blocked_at}
-use Rattle.path_walk.specs.Fits.{ending_by, ending_of}
-use Rattle.path_walk.specs.Marks.{Marks, marked_steps, marks_after, marks_at_start, handle_in}
-use Rattle.path_walk.specs.Paths.{Walk, blocked_after, have_exited, is_dead, walk_of}
-use Rattle.path_walk.specs.Steps.{steps_at, is_failing, places_if_well_ended, can_block, standing, end_from}
-use Rattle.path_walk.specs.declared.ending.Ending.{Ending}
-use Rattle.path_walk.specs.declared.ending.Ending.TheVariants.{Fails, Rests, Open}
-use Rattle.path_walk.specs.declared.event.Sleep.{Sleep}
-use Rattle.path_walk.specs.declared.fault.Misfit.{Misfit}
-use Rattle.path_walk.specs.declared.fault.Misfit.TheVariants.{NotBlocked}
-use Rattle.path_laws.specs.history.Along.{IsThread, path_thread}
-use Rattle.path_laws.proofs.of_history.Walks.{IsWalk, walk_is}
-use Rattle.path_laws.proofs.of_events.Lists.{from_map}
-use Rattle.thread_paths.specs.Ends.{MayTake, has_end, is_exit}
-use Rattle.thread_paths.specs.declared.aim.End.{End}
-use Rattle.thread_paths.specs.declared.aim.End.TheVariants as end
+use Rattle.normal_logs.proofs.run_history.of_pending.In.{In}
+use Rattle.log_walk.specs.path_walk.Events.{is_impossible, blocked_at}
+use Rattle.log_walk.specs.path_walk.Fits.{ending_by, ending_of}
+use Rattle.log_walk.specs.path_walk.Marks.{Marks, marked_steps, marks_after, marks_at_start, handle_in}
+use Rattle.log_walk.specs.path_walk.Paths.{Walk, blocked_after, have_exited, is_dead, walk_of}
+use Rattle.log_walk.specs.path_walk.Steps.{steps_at, is_failing, places_if_well_ended, can_block, standing, end_from}
+use Rattle.log_walk.specs.path_walk.declared.ending.Ending.{Ending}
+use Rattle.log_walk.specs.path_walk.declared.ending.Ending.TheVariants.{Fails, Rests, Open}
+use Rattle.log_walk.specs.path_walk.declared.event.Sleep.{Sleep}
+use Rattle.log_walk.specs.path_walk.declared.fault.Misfit.{Misfit}
+use Rattle.log_walk.specs.path_walk.declared.fault.Misfit.TheVariants.{NotBlocked}
+use Rattle.normal_logs.specs.path_laws.history.Along.{IsThread, path_thread}
+use Rattle.normal_logs.proofs.path_laws.of_history.Walks.{IsWalk, walk_is}
+use Rattle.normal_logs.proofs.path_laws.of_events.Lists.{from_map}
+use Rattle.log_walk.specs.thread_paths.Ends.{MayTake, has_end, is_exit}
+use Rattle.log_walk.specs.thread_paths.declared.aim.End.{End}
+use Rattle.log_walk.specs.thread_paths.declared.aim.End.TheVariants as end
 use Rattle.log_walk.specs.Rest.{MakeUp, all, aim_of, waits_for, waits}
 use Rattle.log_walk.specs.declared.bounds.Kind.TheVariants.{Deadlock}
 use Rattle.normal_logs.specs.Ends.{IsJoined, IsHeldAtEnd, NeverExits}

@@ -8,38 +8,38 @@ use Rattle.std.proofs.Math.Seq.{take-length}
 use Rattle.std.proofs.lemmas.Bool.{false≢true, eqb-true, eq-eqb}
 use Rattle.std.proofs.lemmas.List.{length-drop, length-map, length-set, length-replicate}
 use Rattle.std.proofs.lemmas.Option.{none-some, same_Some, slice_get_within}
-use Rattle.run_log.specs.Logs.{Log}
-use Rattle.tc_base.specs.Names.{Name}
-use Rattle.tc_base.specs.Paths.{Path}
-use Rattle.tc_code.specs.Code.{Code}
-use Rattle.tc_code.specs.Step.{child_number}
-use Rattle.tc_code.specs.declared.instr.Instr.{Instr}
-use Rattle.tc_code.specs.declared.instr.Instr.TheVariants.{Lock, Unlock, Sleep, Wake, Create, Join, Exit}
-use Rattle.run_laws.proofs.Basics.{index_or-replicate}
-use Rattle.run_history.proofs.of_pending.In.{In, in_mapped, from_mapped}
-use Rattle.path_walk.specs.Events.{asks, kind_with, join_by, joins_of, regions_of}
-use Rattle.path_walk.specs.Fits.{fails_in, ending_of}
-use Rattle.path_walk.specs.Marks.{Marks, marks_at_start, marks_after_instr, marks_after, has_mutex, handle_in}
-use Rattle.path_walk.specs.Paths.{Walk}
-use Rattle.path_walk.specs.Steps.{Step, step_at, steps_at, is_site, is_failing, places_if_well_ended, ends_at_site}
-use Rattle.path_walk.specs.declared.ending.Ending.{Ending}
-use Rattle.path_walk.specs.declared.ending.Ending.TheVariants.{Fails, Rests, Open}
-use Rattle.path_walk.specs.declared.event.Event.{Event}
-use Rattle.path_walk.specs.declared.event.EventKind.{EventKind}
-use Rattle.path_walk.specs.declared.event.EventKind.TheVariants as kind
-use Rattle.path_walk.specs.declared.event.Link.{Link}
-use Rattle.path_walk.specs.declared.fault.Misfit.{Misfit}
-use Rattle.path_walk.specs.declared.fault.Misfit.TheVariants.{NotASite}
-use Rattle.path_laws.specs.events.Done.{IsOpenAfter}
-use Rattle.list_laws.proofs.Lists.{split_at}
-use Rattle.path_laws.proofs.Local.{marks-append}
-use Rattle.path_laws.proofs.of_history.Walks.{IsWalk}
-use Rattle.path_laws.proofs.of_events.Lists.{in_contains, contains_in}
-use Rattle.path_laws.proofs.of_events.Marked.{events_from, event_at, event_there, events_rise}
-use Rattle.path_laws.proofs.of_events.Events.{at_step}
-use Rattle.path_laws.proofs.of_events.Regions.{OpenRegion, held_upto, held_is, to_region, from_region}
-use Rattle.path_laws.proofs.of_events.Sites.{walk_fails_at_site}
-use Rattle.thread_paths.specs.Ends.{is_exit, is_used}
+use Rattle.log_walk.specs.run_log.Logs.{Log}
+use Rattle.log_walk.specs.tc_base.Names.{Name}
+use Rattle.log_walk.specs.tc_base.Paths.{Path}
+use Rattle.log_walk.specs.tc_code.Code.{Code}
+use Rattle.log_walk.specs.tc_code.Step.{child_number}
+use Rattle.log_walk.specs.tc_code.declared.instr.Instr.{Instr}
+use Rattle.log_walk.specs.tc_code.declared.instr.Instr.TheVariants.{Lock, Unlock, Sleep, Wake, Create, Join, Exit}
+use Rattle.normal_logs.proofs.run_laws.Basics.{index_or-replicate}
+use Rattle.normal_logs.proofs.run_history.of_pending.In.{In, in_mapped, from_mapped}
+use Rattle.log_walk.specs.path_walk.Events.{asks, kind_with, join_by, joins_of, regions_of}
+use Rattle.log_walk.specs.path_walk.Fits.{fails_in, ending_of}
+use Rattle.log_walk.specs.path_walk.Marks.{Marks, marks_at_start, marks_after_instr, marks_after, has_mutex, handle_in}
+use Rattle.log_walk.specs.path_walk.Paths.{Walk}
+use Rattle.log_walk.specs.path_walk.Steps.{Step, step_at, steps_at, is_site, is_failing, places_if_well_ended, ends_at_site}
+use Rattle.log_walk.specs.path_walk.declared.ending.Ending.{Ending}
+use Rattle.log_walk.specs.path_walk.declared.ending.Ending.TheVariants.{Fails, Rests, Open}
+use Rattle.log_walk.specs.path_walk.declared.event.Event.{Event}
+use Rattle.log_walk.specs.path_walk.declared.event.EventKind.{EventKind}
+use Rattle.log_walk.specs.path_walk.declared.event.EventKind.TheVariants as kind
+use Rattle.log_walk.specs.path_walk.declared.event.Link.{Link}
+use Rattle.log_walk.specs.path_walk.declared.fault.Misfit.{Misfit}
+use Rattle.log_walk.specs.path_walk.declared.fault.Misfit.TheVariants.{NotASite}
+use Rattle.normal_logs.specs.path_laws.events.Done.{IsOpenAfter}
+use Rattle.log_walk.proofs.list_laws.Lists.{split_at}
+use Rattle.normal_logs.proofs.path_laws.Local.{marks-append}
+use Rattle.normal_logs.proofs.path_laws.of_history.Walks.{IsWalk}
+use Rattle.normal_logs.proofs.path_laws.of_events.Lists.{in_contains, contains_in}
+use Rattle.normal_logs.proofs.path_laws.of_events.Marked.{events_from, event_at, event_there, events_rise}
+use Rattle.normal_logs.proofs.path_laws.of_events.Events.{at_step}
+use Rattle.normal_logs.proofs.path_laws.of_events.Regions.{OpenRegion, held_upto, held_is, to_region, from_region}
+use Rattle.normal_logs.proofs.path_laws.of_events.Sites.{walk_fails_at_site}
+use Rattle.log_walk.specs.thread_paths.Ends.{is_exit, is_used}
 use Rattle.log_walk.specs.Told.{Told, untold, is_create, told}
 use Rattle.normal_logs.specs.Ends.{EndsWith, HoldsAtEnd, IsJoined, IsUsed}
 use Rattle.walked_logs.proofs.Told.{Joins, JoinsNow, last_of, After, told_along, alike_first}

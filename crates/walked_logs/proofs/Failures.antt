@@ -3,19 +3,19 @@ use Rattle.std.proofs.Common.{◌≡◌, ◌∙◌, inl, inr, ℕ, Bool, true, f
 use Rattle.std.specs.Prelude.{slice_get, option_map, option_and_then}
 use Rattle.std.proofs.lemmas.Bool.{false≢true, false_from_ne_true}
 use Rattle.std.proofs.lemmas.Option.{same_Some}
-use Rattle.run_log.specs.Logs.{Log, failing_of}
-use Rattle.tc_base.specs.Names.{Name, by_name, child}
-use Rattle.tc_base.specs.Paths.{ThreadPath, place_in}
-use Rattle.tc_base.proofs.Names.{not_itself, same_true, same_refl}
-use Rattle.tc_code.specs.Code.{Code}
-use Rattle.run_history.proofs.of_pending.In.{In}
-use Rattle.path_walk.specs.Fits.{fails_in, ending_by}
-use Rattle.path_walk.specs.Paths.{Walk}
-use Rattle.path_walk.specs.Steps.{is_failing}
-use Rattle.path_walk.specs.declared.ending.Ending.TheVariants.{Fails, Open}
-use Rattle.path_laws.specs.history.Along.{IsThread, path_thread}
-use Rattle.path_laws.proofs.of_history.Walks.{IsWalk, walk_is}
-use Rattle.path_laws.proofs.of_events.Lists.{in_place}
+use Rattle.log_walk.specs.run_log.Logs.{Log, failing_of}
+use Rattle.log_walk.specs.tc_base.Names.{Name, by_name, child}
+use Rattle.log_walk.specs.tc_base.Paths.{ThreadPath, place_in}
+use Rattle.log_walk.proofs.tc_base.Names.{not_itself, same_true, same_refl}
+use Rattle.log_walk.specs.tc_code.Code.{Code}
+use Rattle.normal_logs.proofs.run_history.of_pending.In.{In}
+use Rattle.log_walk.specs.path_walk.Fits.{fails_in, ending_by}
+use Rattle.log_walk.specs.path_walk.Paths.{Walk}
+use Rattle.log_walk.specs.path_walk.Steps.{is_failing}
+use Rattle.log_walk.specs.path_walk.declared.ending.Ending.TheVariants.{Fails, Open}
+use Rattle.normal_logs.specs.path_laws.history.Along.{IsThread, path_thread}
+use Rattle.normal_logs.proofs.path_laws.of_history.Walks.{IsWalk, walk_is}
+use Rattle.normal_logs.proofs.path_laws.of_events.Lists.{in_place}
 use Rattle.log_walk.specs.Rest.{MakeUp, all}
 use Rattle.log_walk.specs.declared.bounds.Kind.TheVariants.{Failure}
 use Rattle.normal_logs.specs.Ends.{IsUsed, Acts}

@@ -1,3 +1,5 @@
+pub use Rattle.normal_logs.proofs as normal_logs
+pub use Rattle.normal_logs.proofs.path_laws
 pub mod Told
 pub mod Names
 pub mod Children

@@ -6,31 +6,31 @@ use Rattle.std.specs.List.{list_any}
 use Rattle.std.specs.declared.cmp.Ordering.TheVariants.{Less}
 use Rattle.std.proofs.lemmas.Bool.{false≢true, and_parts, eqb-true, eq-eqb, false_from_ne_true, true_from_ne_false}
 use Rattle.std.proofs.lemmas.Option.{none-some, same_Some}
-use Rattle.run_log.specs.Logs.{Log, rises_from}
-use Rattle.tc_base.specs.Names.{Name, main, by_name, child}
-use Rattle.tc_base.specs.Paths.{Path, ThreadPath, path_under}
-use Rattle.tc_base.proofs.Names.{between, not_itself, child_is_above}
-use Rattle.tc_code.specs.Code.{Code, instr_at}
-use Rattle.tc_code.specs.declared.instr.Instr.{Instr}
-use Rattle.tc_code.specs.declared.instr.Instr.TheVariants.{Lock}
+use Rattle.log_walk.specs.run_log.Logs.{Log, rises_from}
+use Rattle.log_walk.specs.tc_base.Names.{Name, main, by_name, child}
+use Rattle.log_walk.specs.tc_base.Paths.{Path, ThreadPath, path_under}
+use Rattle.log_walk.proofs.tc_base.Names.{between, not_itself, child_is_above}
+use Rattle.log_walk.specs.tc_code.Code.{Code, instr_at}
+use Rattle.log_walk.specs.tc_code.declared.instr.Instr.{Instr}
+use Rattle.log_walk.specs.tc_code.declared.instr.Instr.TheVariants.{Lock}
 use Rattle.log_walk.specs.declared.bounds.Kind.TheVariants.{Failure, Deadlock}
 use Rattle.std.proofs.Math.Bool.{or-true}
 use Rattle.std.proofs.lemmas.List.{length-replicate, length-set}
-use Rattle.run_laws.proofs.Basics.{index_or-replicate}
-use Rattle.run_history.proofs.of_pending.In.{In, in_append, in_left, in_right, any_in, in_any}
-use Rattle.path_walk.specs.Fits.{places_in, started, child_function, function_below, function_of}
-use Rattle.path_walk.specs.Marks.{marks_at_start}
-use Rattle.path_walk.specs.Paths.{Walk}
-use Rattle.path_walk.specs.Steps.{steps_at}
-use Rattle.path_walk.proofs.Faults.{function_of_child, missing, fitting}
-use Rattle.path_laws.specs.history.Along.{IsThread, path_thread}
-use Rattle.path_laws.proofs.Logs.{place_of}
-use Rattle.path_laws.proofs.Prefixes.{own_under}
-use Rattle.path_laws.proofs.of_history.Walks.{IsWalk, walk_is, named}
-use Rattle.path_laws.proofs.of_events.Lists.{in_place, in_contains, contains_in}
-use Rattle.thread_paths.specs.Ends.{MayTake}
-use Rattle.thread_paths.specs.declared.aim.End.{End}
-use Rattle.thread_paths.specs.declared.aim.End.TheVariants as end
+use Rattle.normal_logs.proofs.run_laws.Basics.{index_or-replicate}
+use Rattle.normal_logs.proofs.run_history.of_pending.In.{In, in_append, in_left, in_right, any_in, in_any}
+use Rattle.log_walk.specs.path_walk.Fits.{places_in, started, child_function, function_below, function_of}
+use Rattle.log_walk.specs.path_walk.Marks.{marks_at_start}
+use Rattle.log_walk.specs.path_walk.Paths.{Walk}
+use Rattle.log_walk.specs.path_walk.Steps.{steps_at}
+use Rattle.log_walk.proofs.path_walk.Faults.{function_of_child, missing, fitting}
+use Rattle.normal_logs.specs.path_laws.history.Along.{IsThread, path_thread}
+use Rattle.normal_logs.proofs.path_laws.Logs.{place_of}
+use Rattle.normal_logs.proofs.path_laws.Prefixes.{own_under}
+use Rattle.normal_logs.proofs.path_laws.of_history.Walks.{IsWalk, walk_is, named}
+use Rattle.normal_logs.proofs.path_laws.of_events.Lists.{in_place, in_contains, contains_in}
+use Rattle.log_walk.specs.thread_paths.Ends.{MayTake}
+use Rattle.log_walk.specs.thread_paths.declared.aim.End.{End}
+use Rattle.log_walk.specs.thread_paths.declared.aim.End.TheVariants as end
 use Rattle.log_walk.specs.Told.{Told, told}
 use Rattle.log_walk.specs.Rest.{Rest, MakeUp, all, rest_by, meet, either, aim_of, may_fail, ends_log, last_end, open_end, children_from, waits_for, waits, is_free, lacks}
 use Rattle.log_walk.specs.declared.bounds.Kind.{Kind}

@@ -6,11 +6,11 @@ use Rattle.std.specs.Ordering.{nat_cmp, is_lt, ordering_then}
 use Rattle.std.specs.declared.cmp.Ordering.TheVariants.{Less, Greater}
 use Rattle.std.proofs.lemmas.Bool.{and_parts}
 use Rattle.std.proofs.lemmas.Cmp.{nat_cmp_total}
-use Rattle.tc_base.specs.Names.{Name, by_name, child}
-use Rattle.tc_base.specs.Paths.{ThreadPath}
-use Rattle.tc_base.proofs.Names.{less_true, between, not_itself}
-use Rattle.run_log.specs.Logs.{rises_from}
-use Rattle.run_history.proofs.of_pending.In.{In}
+use Rattle.log_walk.specs.tc_base.Names.{Name, by_name, child}
+use Rattle.log_walk.specs.tc_base.Paths.{ThreadPath}
+use Rattle.log_walk.proofs.tc_base.Names.{less_true, between, not_itself}
+use Rattle.log_walk.specs.run_log.Logs.{rises_from}
+use Rattle.normal_logs.proofs.run_history.of_pending.In.{In}
 
 -- a name and all below it come before another
 abbrev pub Before : Name → Name → Type 0

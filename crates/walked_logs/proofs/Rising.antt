@@ -3,12 +3,12 @@ use Rattle.std.proofs.Common.{◌≡◌, ◌∙◌, inl, inr, ◌+◌, ◌&&◌,
 use Rattle.std.specs.Prelude.{slice_get}
 use Rattle.std.specs.Ordering.{is_lt}
 use Rattle.std.proofs.lemmas.Option.{none-some, same_Some}
-use Rattle.tc_base.specs.Names.{Name, by_name}
-use Rattle.tc_base.specs.Paths.{ThreadPath}
-use Rattle.tc_base.proofs.Names.{child_is_above}
-use Rattle.tc_code.specs.Code.{Code, instr_at}
-use Rattle.run_log.specs.Logs.{is_above, rises_from}
-use Rattle.run_history.proofs.of_pending.In.{In, in_append}
+use Rattle.log_walk.specs.tc_base.Names.{Name, by_name}
+use Rattle.log_walk.specs.tc_base.Paths.{ThreadPath}
+use Rattle.log_walk.proofs.tc_base.Names.{child_is_above}
+use Rattle.log_walk.specs.tc_code.Code.{Code, instr_at}
+use Rattle.log_walk.specs.run_log.Logs.{is_above, rises_from}
+use Rattle.normal_logs.proofs.run_history.of_pending.In.{In, in_append}
 use Rattle.log_walk.specs.Told.{told}
 use Rattle.log_walk.specs.Rest.{Rest, MakeUp, all, leave, rest_by, children_from}
 use Rattle.log_walk.specs.declared.bounds.Kind.{Kind}

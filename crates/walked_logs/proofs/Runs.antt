@@ -1,7 +1,7 @@
 -- Where some run fails or deadlocks, some run reproduces a log whose threads make up a log.
 use Rattle.std.proofs.Common.{IsSome}
-use Rattle.tc_code.specs.Run.{IsStuck}
-use Rattle.run_follows.specs.Machine.{Machine}
+use Rattle.log_walk.specs.tc_code.Run.{IsStuck}
+use Rattle.normal_logs.specs.run_follows.Machine.{Machine}
 use Rattle.normal_logs.specs.Within.{Allowed, HasBeginnings, ComesTo, ReproducesSome}
 use Rattle.normal_logs.proofs.Logs.{fails_to, stuck_to}
 use Rattle.walked_logs.specs.Walked.{IsWalked, IsWalkedDeadlock}

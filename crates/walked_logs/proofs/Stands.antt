@@ -5,24 +5,24 @@ use Rattle.std.specs.Prelude.{slice_get, unwrap_or, option_and_then}
 use Rattle.std.specs.Option.{option_map_or}
 use Rattle.std.proofs.lemmas.Bool.{false≢true, and_parts}
 use Rattle.std.proofs.lemmas.Option.{none-some, same_Some, slice_get_within}
-use Rattle.tc_code.specs.Code.{Code, instr_at}
-use Rattle.tc_code.specs.Lawful.{IsLawful, IsLawfulFunction, target, takes}
-use Rattle.tc_code.specs.declared.code.Func.{Func}
-use Rattle.tc_code.specs.declared.instr.Instr.{Instr}
-use Rattle.tc_code.specs.declared.instr.Instr.TheVariants.{Branch, Goto, Exit, Create}
-use Rattle.tc_code.proofs.Facts.{placed}
-use Rattle.path_walk.specs.Steps.{Onward, onward, step_at, steps_at, places_from, end_from, Step}
-use Rattle.path_walk.proofs.Places.{Unrolled, unrolled, end_more, past_exit}
-use Rattle.thread_paths.specs.Ends.{is_exit}
+use Rattle.log_walk.specs.tc_code.Code.{Code, instr_at}
+use Rattle.log_walk.specs.tc_code.Lawful.{IsLawful, IsLawfulFunction, target, takes}
+use Rattle.log_walk.specs.tc_code.declared.code.Func.{Func}
+use Rattle.log_walk.specs.tc_code.declared.instr.Instr.{Instr}
+use Rattle.log_walk.specs.tc_code.declared.instr.Instr.TheVariants.{Branch, Goto, Exit, Create}
+use Rattle.log_walk.proofs.tc_code.Facts.{placed}
+use Rattle.log_walk.specs.path_walk.Steps.{Onward, onward, step_at, steps_at, places_from, end_from, Step}
+use Rattle.log_walk.proofs.path_walk.Places.{Unrolled, unrolled, end_more, past_exit}
+use Rattle.log_walk.specs.thread_paths.Ends.{is_exit}
 use Rattle.walked_logs.proofs.Told.{last_of}
-use Rattle.run_log.specs.Logs.{Log}
-use Rattle.tc_base.specs.Names.{Name}
-use Rattle.tc_base.proofs.Names.{parent_of}
-use Rattle.run_laws.proofs.Basics.{some_value}
-use Rattle.run_history.proofs.of_pending.In.{from_mapped}
-use Rattle.path_walk.specs.Fits.{starts, started, places_in, child_function, function_of}
-use Rattle.path_walk.proofs.Faults.{function_of_child}
-use Rattle.path_laws.proofs.of_events.Lists.{in_place, from_map}
+use Rattle.log_walk.specs.run_log.Logs.{Log}
+use Rattle.log_walk.specs.tc_base.Names.{Name}
+use Rattle.log_walk.proofs.tc_base.Names.{parent_of}
+use Rattle.normal_logs.proofs.run_laws.Basics.{some_value}
+use Rattle.normal_logs.proofs.run_history.of_pending.In.{from_mapped}
+use Rattle.log_walk.specs.path_walk.Fits.{starts, started, places_in, child_function, function_of}
+use Rattle.log_walk.proofs.path_walk.Faults.{function_of_child}
+use Rattle.normal_logs.proofs.path_laws.of_events.Lists.{in_place, from_map}
 
 none_from : {X : Type 0} (xs : List X) (k : ℕ) → slice_get xs k ≡ None → length xs ≤ k
 none_from [] k e = omega arith

@@ -4,20 +4,20 @@ use Rattle.std.specs.List.{list_any}
 use Rattle.std.proofs.Math.Bool.{and-false, or-true}
 use Rattle.std.proofs.lemmas.Bool.{false≢true, eq-eqb, false_from_ne_true}
 use Rattle.std.proofs.lemmas.Option.{same_Some}
-use Rattle.run_log.specs.Logs.{Log}
-use Rattle.tc_base.specs.Names.{Name}
-use Rattle.tc_code.specs.Code.{Code}
-use Rattle.path_walk.specs.Events.{is_impossible, events_of, joins_of}
-use Rattle.path_walk.specs.declared.event.Event.{Event}
-use Rattle.path_walk.specs.Fits.{fails_in, places_in, function_of}
-use Rattle.path_walk.specs.Marks.{marked_steps}
-use Rattle.path_walk.specs.Paths.{Walk}
-use Rattle.path_walk.specs.Steps.{steps_at, is_site, ends_at_site}
-use Rattle.path_laws.specs.history.Along.{IsThread, path_thread}
-use Rattle.path_laws.proofs.of_history.Walks.{IsWalk, walk_is}
-use Rattle.thread_paths.specs.Ends.{MayTake, has_end, is_exit, is_used}
-use Rattle.thread_paths.specs.declared.aim.End.{End}
-use Rattle.thread_paths.specs.declared.aim.End.TheVariants as end
+use Rattle.log_walk.specs.run_log.Logs.{Log}
+use Rattle.log_walk.specs.tc_base.Names.{Name}
+use Rattle.log_walk.specs.tc_code.Code.{Code}
+use Rattle.log_walk.specs.path_walk.Events.{is_impossible, events_of, joins_of}
+use Rattle.log_walk.specs.path_walk.declared.event.Event.{Event}
+use Rattle.log_walk.specs.path_walk.Fits.{fails_in, places_in, function_of}
+use Rattle.log_walk.specs.path_walk.Marks.{marked_steps}
+use Rattle.log_walk.specs.path_walk.Paths.{Walk}
+use Rattle.log_walk.specs.path_walk.Steps.{steps_at, is_site, ends_at_site}
+use Rattle.normal_logs.specs.path_laws.history.Along.{IsThread, path_thread}
+use Rattle.normal_logs.proofs.path_laws.of_history.Walks.{IsWalk, walk_is}
+use Rattle.log_walk.specs.thread_paths.Ends.{MayTake, has_end, is_exit, is_used}
+use Rattle.log_walk.specs.thread_paths.declared.aim.End.{End}
+use Rattle.log_walk.specs.thread_paths.declared.aim.End.TheVariants as end
 use Rattle.log_walk.specs.Rest.{may_fail, aim_of, ends_log}
 use Rattle.log_walk.specs.declared.bounds.Kind.TheVariants.{Failure}
 use Rattle.normal_logs.specs.Ends.{IsJoined, Acts, EndsUsed}

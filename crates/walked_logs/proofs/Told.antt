@@ -4,17 +4,17 @@ use Rattle.std.proofs.Common.{refl, sym, ap, subst, arith, append_assoc, append-
 use Rattle.std.specs.Prelude.{unwrap_or}
 use Rattle.std.specs.List.{cons_option}
 use Rattle.std.proofs.lemmas.List.{length-append}
-use Rattle.tc_base.specs.declared.handle.Handle.{Handle}
-use Rattle.tc_base.specs.declared.handle.Handle.TheVariants.{Unset, Child, Joined}
-use Rattle.tc_code.specs.Code.{Code}
-use Rattle.tc_code.specs.Step.{handles_of, child_number}
-use Rattle.tc_code.specs.declared.instr.Instr.{Instr}
-use Rattle.tc_code.specs.declared.instr.Instr.TheVariants.{Lock, Unlock, Sleep, Wake, Create, Join, Exit}
-use Rattle.run_history.proofs.of_pending.In.{In, in_append, in_left, in_right}
-use Rattle.path_walk.specs.Fits.{starts, started}
-use Rattle.path_walk.specs.Marks.{Marks, marks_at_start, marks_after_instr, marks_after, handle_in}
-use Rattle.path_walk.specs.Steps.{Step, step_at, steps_at, places_from, end_from, is_site}
-use Rattle.path_walk.proofs.Places.{Unrolled, unrolled, end_more}
+use Rattle.log_walk.specs.tc_base.declared.handle.Handle.{Handle}
+use Rattle.log_walk.specs.tc_base.declared.handle.Handle.TheVariants.{Unset, Child, Joined}
+use Rattle.log_walk.specs.tc_code.Code.{Code}
+use Rattle.log_walk.specs.tc_code.Step.{handles_of, child_number}
+use Rattle.log_walk.specs.tc_code.declared.instr.Instr.{Instr}
+use Rattle.log_walk.specs.tc_code.declared.instr.Instr.TheVariants.{Lock, Unlock, Sleep, Wake, Create, Join, Exit}
+use Rattle.normal_logs.proofs.run_history.of_pending.In.{In, in_append, in_left, in_right}
+use Rattle.log_walk.specs.path_walk.Fits.{starts, started}
+use Rattle.log_walk.specs.path_walk.Marks.{Marks, marks_at_start, marks_after_instr, marks_after, handle_in}
+use Rattle.log_walk.specs.path_walk.Steps.{Step, step_at, steps_at, places_from, end_from, is_site}
+use Rattle.log_walk.proofs.path_walk.Places.{Unrolled, unrolled, end_more}
 use Rattle.log_walk.specs.Told.{Told, untold, is_create, told_by, told_from}
 use Rattle.log_walk.proofs.Follows.{more}
 

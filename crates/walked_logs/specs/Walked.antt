@@ -1,8 +1,8 @@
 -- Logs that going through the threads that make up a log comes to.
 use Rattle.std.specs.Prelude.{◌≡◌, IsSome}
-use Rattle.run_log.specs.Logs.{Log, failing_of}
-use Rattle.tc_base.specs.declared.failing.Failing.TheVariants as failing
-use Rattle.tc_code.specs.Code.{Code}
+use Rattle.log_walk.specs.run_log.Logs.{Log, failing_of}
+use Rattle.log_walk.specs.tc_base.declared.failing.Failing.TheVariants as failing
+use Rattle.log_walk.specs.tc_code.Code.{Code}
 use Rattle.log_walk.specs.Rest.{all, MakeUp}
 use Rattle.log_walk.specs.declared.bounds.Kind.TheVariants.{Failure, Deadlock}
 

@@ -5,12 +5,12 @@
 #![tactic(auto)]
 
 ghost use Rattle.std.specs.Prelude.{◌≡◌, ◌<◌, true, None, IsSome, List, length};
-ghost use Rattle.run_log.specs.Logs.{Log, rises_from};
-ghost use Rattle.tc_base.specs.Paths.{ThreadPath};
-ghost use Rattle.tc_code.specs.Code.{Code};
-ghost use Rattle.tc_code.specs.Lawful.{IsLawful};
-ghost use Rattle.tc_code.specs.Run.{IsStuck};
-ghost use Rattle.run_follows.specs.Machine.{Machine};
+ghost use Rattle.log_walk.specs.run_log.Logs.{Log, rises_from};
+ghost use Rattle.log_walk.specs.tc_base.Paths.{ThreadPath};
+ghost use Rattle.log_walk.specs.tc_code.Code.{Code};
+ghost use Rattle.log_walk.specs.tc_code.Lawful.{IsLawful};
+ghost use Rattle.log_walk.specs.tc_code.Run.{IsStuck};
+ghost use Rattle.normal_logs.specs.run_follows.Machine.{Machine};
 ghost use Rattle.log_walk.specs.Rest.{all, MakeUp};
 ghost use Rattle.log_walk.specs.declared.bounds.Kind.{Kind};
 ghost use Rattle.log_walk.specs.declared.bounds.Kind.TheVariants.{Failure, Deadlock};

@@ -13,18 +13,18 @@ use Rattle.path_walk.specs.declared.event.Blocked.{Blocked}
 use Rattle.path_walk.specs.declared.event.Blocked.TheVariants.{Lock, Wake, Join}
 use Rattle.path_walk.specs.declared.event.Event.{Event}
 use Rattle.path_walk.specs.declared.event.Sleep.{Sleep}
-use Rattle.sym_terms.specs.declared.node.Node.{Node}
-use Rattle.sym_exec.specs.Executed.{Symbolic}
-use Rattle.sym_exec.specs.declared.symbolic.Access.{Access}
+use Rattle.order_formula.specs.sym_terms.declared.node.Node.{Node}
+use Rattle.clap_solve.specs.sym_exec.Executed.{Symbolic}
+use Rattle.clap_solve.specs.sym_exec.declared.symbolic.Access.{Access}
 use Rattle.order_formula.specs.Worlds.{World}
 use Rattle.order_formula.specs.declared.group.Group.{Group}
 use Rattle.order_formula.specs.declared.group.Group.TheVariants.{Own, Child, Read, Mutex, Condition, Test, Stuck}
-use Rattle.lawful_order.specs.Children.{ChildRule}
-use Rattle.lawful_order.specs.Conditions.{ConditionRule, IsBroadcast, IsSignal, IsSleep, Waits, is_broadcast, is_signal}
-use Rattle.lawful_order.specs.Events.{Of, all_events, all_sleeps, ender_of}
-use Rattle.lawful_order.specs.Lawful.{IsWorldOf, MeetsRule}
-use Rattle.lawful_order.specs.Reads.{ReadRule, Sees, TakesFirst, TakesFrom}
-use Rattle.lawful_order.specs.Stuck.{CannotGoOn}
+use Rattle.reached_groups.specs.lawful_order.Children.{ChildRule}
+use Rattle.reached_groups.specs.lawful_order.Conditions.{ConditionRule, IsBroadcast, IsSignal, IsSleep, Waits, is_broadcast, is_signal}
+use Rattle.reached_groups.specs.lawful_order.Events.{Of, all_events, all_sleeps, ender_of}
+use Rattle.reached_groups.specs.lawful_order.Lawful.{IsWorldOf, MeetsRule}
+use Rattle.reached_groups.specs.lawful_order.Reads.{ReadRule, Sees, TakesFirst, TakesFrom}
+use Rattle.reached_groups.specs.lawful_order.Stuck.{CannotGoOn}
 use Rattle.why_impossible.specs.Enders.{EnderRule}
 
 module _ (paths : Paths) (w : World) where

@@ -4,11 +4,11 @@ use Rattle.std.specs.Prelude.{codes}
 use Rattle.std.specs.Fmt.{decimal}
 use Rattle.std.proofs.lemmas.Option.{same_Some}
 use Rattle.tc_base.specs.Names.{Name, main, name_text}
-use Rattle.tc_decimal.specs.Decimals.{number_at}
-use Rattle.tc_decimal.proofs.Decimals.{front_again}
-use Rattle.schedule_file.specs.Schedules.{is_name}
-use Rattle.schedule_file.specs.helpers.Reading.{◌>>=◌, behind, name_at, or_else}
-use Rattle.schedule_file.proofs.Fronts.{name_again}
+use Rattle.clap_solve.specs.tc_decimal.Decimals.{number_at}
+use Rattle.clap_solve.proofs.tc_decimal.Decimals.{front_again}
+use Rattle.clap_solve.specs.schedule_file.Schedules.{is_name}
+use Rattle.clap_solve.specs.schedule_file.helpers.Reading.{◌>>=◌, behind, name_at, or_else}
+use Rattle.clap_solve.proofs.schedule_file.Fronts.{name_again}
 use Rattle.why_impossible.specs.Reasons.{at_line, reason_line}
 use Rattle.why_impossible.specs.declared.reason.Reason.{Reason}
 use Rattle.why_impossible.specs.declared.reason.Reason.TheVariants.{Own, Child, Read, Mutex, Condition, Test, Stuck, Dead}

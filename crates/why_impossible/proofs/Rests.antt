@@ -9,34 +9,34 @@ use Rattle.std.proofs.lemmas.Option.{same_Some, slice_get-map}
 use Rattle.tc_base.specs.Buffers.{BufferOps}
 use Rattle.run_log.specs.Logs.{Log}
 use Rattle.tc_base.specs.Names.{Name}
-use Rattle.memory_models.specs.declared.model.Model.{Model}
+use Rattle.run_log.specs.memory_models.declared.model.Model.{Model}
 use Rattle.tc_code.specs.Code.{Code}
 use Rattle.store_buffers.specs.Laws.{Laws}
 use Rattle.store_buffers.specs.Pending.{Binding}
 use Rattle.path_walk.specs.Paths.{Paths, Walk, paths_of, walk_of}
-use Rattle.sym_laws.proofs.Names.{one_place}
-use Rattle.schedule_file.specs.Schedules.{is_name}
-use Rattle.schedule_decode.specs.Decodable.{HaveRoom}
-use Rattle.sym_exec.specs.Executed.{Executed, executed}
+use Rattle.clap_solve.proofs.sym_laws.Names.{one_place}
+use Rattle.clap_solve.specs.schedule_file.Schedules.{is_name}
+use Rattle.clap_solve.specs.schedule_decode.Decodable.{HaveRoom}
+use Rattle.clap_solve.specs.sym_exec.Executed.{Executed, executed}
 use Rattle.order_formula.specs.Groups.{HoldsIn}
 use Rattle.order_formula.specs.Orders.{IsOrder}
 use Rattle.order_formula.specs.Worlds.{IsWorld, World}
 use Rattle.order_formula.specs.declared.group.Group.{Group}
 use Rattle.order_formula.specs.declared.group.Group.TheVariants as group
-use Rattle.lawful_order.specs.Lawful.{IsWorldOf, MeetsRule}
-use Rattle.order_events.proofs.Lists.{at_in, in_map, of_map}
-use Rattle.order_events.proofs.Parts.{each_in}
-use Rattle.read_write.proofs.Formulas.{mapped}
-use Rattle.clap_system.specs.Ready.{IsReady}
-use Rattle.clap_system.specs.Systems.{System, system_of, with_needs}
-use Rattle.clap_system.proofs.Choices.{choices_are_enders}
-use Rattle.clap_system.proofs.Exact.{group_exact}
-use Rattle.clap_system.proofs.Needs.{parts_exact}
-use Rattle.orders_are_runs.proofs.Terms.{system_terms}
+use Rattle.reached_groups.specs.lawful_order.Lawful.{IsWorldOf, MeetsRule}
+use Rattle.reached_groups.proofs.order_events.Lists.{at_in, in_map, of_map}
+use Rattle.reached_groups.proofs.order_events.Parts.{each_in}
+use Rattle.clap_solve.proofs.read_write.Formulas.{mapped}
+use Rattle.clap_solve.specs.clap_system.Ready.{IsReady}
+use Rattle.clap_solve.specs.clap_system.Systems.{System, system_of, with_needs}
+use Rattle.clap_solve.proofs.clap_system.Choices.{choices_are_enders}
+use Rattle.clap_solve.proofs.clap_system.Exact.{group_exact}
+use Rattle.clap_solve.proofs.clap_system.Needs.{parts_exact}
+use Rattle.clap_solve.proofs.orders_are_runs.Terms.{system_terms}
 use Rattle.dead_paths.specs.Causes.{cause_of}
-use Rattle.bit_blast.specs.Blasted.{Blasted, impossible, layout_of}
-use Rattle.bit_blast.specs.Contended.{contended}
-use Rattle.bit_blast.proofs.Completed.{contended_within}
+use Rattle.reached_groups.specs.bit_blast.Blasted.{Blasted, impossible, layout_of}
+use Rattle.reached_groups.specs.bit_blast.Contended.{contended}
+use Rattle.reached_groups.proofs.bit_blast.Completed.{contended_within}
 use Rattle.refute_check.specs.Refutations.{IsClosed}
 use Rattle.refute_check.specs.declared.line.Line.{Line}
 use Rattle.clap_solve.specs.Clauses.{blasted_by, blasted_of}

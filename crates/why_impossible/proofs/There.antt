@@ -8,37 +8,37 @@ use Rattle.tc_code.specs.Code.{Code}
 use Rattle.store_buffers.specs.Pending.{Binding}
 use Rattle.path_walk.specs.Paths.{ArePaths, Paths, Walk}
 use Rattle.path_walk.specs.declared.event.Event.{Event}
-use Rattle.sym_terms.specs.declared.node.Node.{Node}
-use Rattle.sym_exec.specs.Executed.{Symbolic, executed}
-use Rattle.sym_events.proofs.Whole.{is_executed}
+use Rattle.order_formula.specs.sym_terms.declared.node.Node.{Node}
+use Rattle.clap_solve.specs.sym_exec.Executed.{Symbolic, executed}
+use Rattle.clap_solve.proofs.sym_events.Whole.{is_executed}
 use Rattle.order_formula.specs.declared.formula.Conjunct.{Conjunct}
 use Rattle.order_formula.specs.declared.group.Group.{Group}
-use Rattle.lawful_order.specs.Events.{Of, all_events}
-use Rattle.lawful_order.specs.Whole.{IsExecutedBy}
-use Rattle.order_events.proofs.Lists.{of_map}
-use Rattle.order_events.proofs.Numbers.{of_all_from}
-use Rattle.order_events.proofs.Parts.{each_in, in_of_each}
-use Rattle.condition_order.specs.Conditions.{condition_formula}
-use Rattle.condition_order.proofs.Groups.{have_their_group}
-use Rattle.memory_order.specs.Own.{own_formula}
-use Rattle.memory_order.proofs.Exact.{Always, Failing, IsOwn, Tested, of_formula}
-use Rattle.sync_order.specs.Children.{children_formula}
-use Rattle.sync_order.specs.Mutexes.{mutexes_formula}
-use Rattle.sync_order.specs.Stuck.{stuck_at, stuck_formula}
-use Rattle.sync_order.specs.Sync.{sync_formula}
-use Rattle.sync_order.proofs.Links.{made_by}
-use Rattle.sync_order.proofs.Regions.{mutexes_group}
-use Rattle.sync_order.proofs.Whole.{each_part}
-use Rattle.read_write.specs.Reading.{read_formula}
-use Rattle.read_write.proofs.Formulas.{load_from}
-use Rattle.read_write.proofs.Numbers.{access_of}
-use Rattle.clap_system.specs.Systems.{rules_of, system_by, with_needs}
-use Rattle.clap_system.specs.Tests.{test_formula}
-use Rattle.clap_system.proofs.Tests.{of_test}
+use Rattle.reached_groups.specs.lawful_order.Events.{Of, all_events}
+use Rattle.reached_groups.specs.lawful_order.Whole.{IsExecutedBy}
+use Rattle.reached_groups.proofs.order_events.Lists.{of_map}
+use Rattle.reached_groups.proofs.order_events.Numbers.{of_all_from}
+use Rattle.reached_groups.proofs.order_events.Parts.{each_in, in_of_each}
+use Rattle.clap_solve.specs.condition_order.Conditions.{condition_formula}
+use Rattle.clap_solve.proofs.condition_order.Groups.{have_their_group}
+use Rattle.clap_solve.specs.memory_order.Own.{own_formula}
+use Rattle.clap_solve.proofs.memory_order.Exact.{Always, Failing, IsOwn, Tested, of_formula}
+use Rattle.clap_solve.specs.sync_order.Children.{children_formula}
+use Rattle.clap_solve.specs.sync_order.Mutexes.{mutexes_formula}
+use Rattle.clap_solve.specs.sync_order.Stuck.{stuck_at, stuck_formula}
+use Rattle.clap_solve.specs.sync_order.Sync.{sync_formula}
+use Rattle.clap_solve.proofs.sync_order.Links.{made_by}
+use Rattle.clap_solve.proofs.sync_order.Regions.{mutexes_group}
+use Rattle.clap_solve.proofs.sync_order.Whole.{each_part}
+use Rattle.clap_solve.specs.read_write.Reading.{read_formula}
+use Rattle.clap_solve.proofs.read_write.Formulas.{load_from}
+use Rattle.clap_solve.proofs.read_write.Numbers.{access_of}
+use Rattle.clap_solve.specs.clap_system.Systems.{rules_of, system_by, with_needs}
+use Rattle.clap_solve.specs.clap_system.Tests.{test_formula}
+use Rattle.clap_solve.proofs.clap_system.Tests.{of_test}
 use Rattle.reached_groups.specs.Groups.{AreReachedGroups}
-use Rattle.bit_blast.specs.Blasted.{Blasted}
+use Rattle.reached_groups.specs.bit_blast.Blasted.{Blasted}
 use Rattle.refute_check.specs.declared.line.Line.{Line}
-use Rattle.order_events.proofs.Lists.{at_in}
+use Rattle.reached_groups.proofs.order_events.Lists.{at_in}
 use Rattle.why_impossible.specs.helpers.There.{IsThere}
 
 module _ (paths : Paths) where

@@ -1,7 +1,7 @@
 -- What a derivation proves about a log, with its reasons.
 use Rattle.std.specs.Prelude.{◌≡◌, ◌≢◌, ◌⊎◌, ℕ, true, false, List, [], ◌∷◌, length, map, Some}
 use Rattle.std.specs.List.{All, AllPairs, Contains}
-use Rattle.int_ops.specs.Arith.{IsInt}
+use Rattle.tc_code.specs.int_ops.Arith.{IsInt}
 use Rattle.tc_base.specs.Buffers.{BufferOps}
 use Rattle.run_log.specs.Logs.{Log}
 use Rattle.tc_code.specs.Code.{Code}
@@ -9,8 +9,8 @@ use Rattle.store_buffers.specs.Pending.{Binding}
 use Rattle.order_formula.specs.Worlds.{IsWorld, World}
 use Rattle.order_formula.specs.declared.group.Group.{Group}
 use Rattle.order_formula.specs.declared.group.Group.TheVariants.{Condition}
-use Rattle.lawful_order.specs.Events.{all_events, all_sleeps}
-use Rattle.lawful_order.specs.Lawful.{MeetsRule}
+use Rattle.reached_groups.specs.lawful_order.Events.{all_events, all_sleeps}
+use Rattle.reached_groups.specs.lawful_order.Lawful.{MeetsRule}
 use Rattle.dead_paths.specs.Causes.{cause_of}
 use Rattle.refute_check.specs.Refutations.{IsClosed, IsOpen}
 use Rattle.refute_check.specs.declared.line.Line.{Line}

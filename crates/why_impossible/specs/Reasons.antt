@@ -46,4 +46,5 @@ reason_line reason = reason_text reason ++ codes "\n"
 
 -- the number of reasons, and a line for each
 abbrev pub reasons_text : List Reason → List ℕ
-reasons_text reasons = codes "reasons " ++ (decimal (length reasons) ++ (codes "\n" ++ flat_map reason_line reasons))
+reasons_text reasons =
+    codes "reasons " ++ (decimal (length reasons) ++ (codes "\n" ++ flat_map reason_line reasons))

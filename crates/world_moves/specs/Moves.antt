@@ -16,8 +16,8 @@ use Rattle.sym_terms.specs.declared.node.Node.{Node}
 use Rattle.sym_exec.specs.Alone.{cell_by}
 use Rattle.sym_exec.specs.Executed.{Symbolic}
 use Rattle.order_formula.specs.Worlds.{World, position}
-use Rattle.lawful_order.specs.Events.{Of, all_events}
-use Rattle.lawful_order.specs.Memory.{cell_of, is_store}
+use Rattle.order_cells.specs.lawful_order.Events.{Of, all_events}
+use Rattle.order_cells.specs.lawful_order.Memory.{cell_of, is_store}
 use Rattle.world_plan.specs.Plan.{is_failure, is_failing, woken_by}
 
 -- the number of steps that each thread has done, and all moves so far
@@ -34,12 +34,15 @@ runs_to m t n k = replicate (k - steps_of m t) (move.Run n)
 
 -- appends moves, after which a thread has done at least k steps
 abbrev pub with_moves : Made → (thread steps : ℕ) → List Move → Made
-with_moves m t k more = record { steps = slice_set m.steps t (max (steps_of m t) k); moves = m.moves ++ more }
+with_moves m t k more =
+    record { steps = slice_set m.steps t (max (steps_of m t) k); moves = m.moves ++ more }
 
 -- appends the remaining steps of a thread
 abbrev pub with_rest : Paths → Made → (thread : ℕ) → Made
 with_rest paths m t =
-    option_map_or (λ (q : Walk). with_moves m t (length q.places) (runs_to m t q.name (length q.places))) (slice_get paths.threads t) m
+    option_map_or
+    (λ (q : Walk). with_moves m t (length q.places) (runs_to m t q.name (length q.places)))
+    (slice_get paths.threads t) m
 
 -- appends the remaining steps of a thread, unless it is the failing one
 abbrev pub with_passing : Paths → Made → (thread : ℕ) → Made
@@ -56,27 +59,36 @@ module _ (paths : Paths) (w : World) where
 
   -- the position of the failing event, or one past all positions if none fails
   abbrev pub last_place : ℕ
-  last_place = option_map_or (λ e. position w e.0) (find (λ e. is_failure e.1.it.kind) (enumerate_from 0 (all_events paths))) past_all
+  last_place =
+      option_map_or (λ e. position w e.0)
+      (find (λ e. is_failure e.1.it.kind) (enumerate_from 0 (all_events paths))) past_all
 
   -- the move of an event's own step; a signal wakes the thread whose sleep it ends, if any
   abbrev pub own_move : (event : ℕ) → Name → EventKind → Move
   own_move g n (kind.Signal c) = option_map_or (move.Wake n) (woken_by paths w g) (move.Run n)
   own_move g n _ = move.Run n
 
-module _ (buffered : Bool) (bound : Binding) (paths : Paths) (symbolic : Symbolic) (nodes : List Node) (w : World) where
+module _ (buffered : Bool) (bound : Binding) (paths : Paths) (symbolic : Symbolic)
+    (nodes : List Node) (w : World) where
   -- the drain of the store in a thread's step
   abbrev pub drains_of : (thread : ℕ) → Name → (step : ℕ) → List Move
-  drains_of t n k = option_map_or (λ c. move.Drain n (form_of bound (cell_by nodes w.loads c)) ∷ []) (cell_of symbolic t k) []
+  drains_of t n k =
+      option_map_or (λ c. move.Drain n (form_of bound (cell_by nodes w.loads c)) ∷ [])
+      (cell_of symbolic t k) []
 
   -- appends an event: its thread's steps up to and including it, and the drain of a buffered store
   abbrev pub with_event : Made → (number thread : ℕ) → Walk → Event → Made
   with_event m g t q x =
       if buffered && is_store x.kind
-      then with_moves m t (x.step + 1) (runs_to m t q.name (x.step + 1) ++ drains_of t q.name x.step)
-      else with_moves m t (x.step + 1) (runs_to m t q.name x.step ++ own_move paths w g q.name x.kind ∷ [])
+      then with_moves m t (x.step + 1)
+      (runs_to m t q.name (x.step + 1) ++ drains_of t q.name x.step)
+      else with_moves m t (x.step + 1)
+      (runs_to m t q.name x.step ++ own_move paths w g q.name x.kind ∷ [])
 
   abbrev pub with_number : Made → ℕ × Of Event → Made
-  with_number m e = option_map_or (λ (q : Walk). with_event m e.0 e.1.thread q e.1.it) (slice_get paths.threads e.1.thread) m
+  with_number m e =
+      option_map_or (λ (q : Walk). with_event m e.0 e.1.thread q e.1.it)
+      (slice_get paths.threads e.1.thread) m
 
   -- the moves for the events at the first p positions
   abbrev pub made_to : ℕ → Made
@@ -85,7 +97,9 @@ module _ (buffered : Bool) (bound : Binding) (paths : Paths) (symbolic : Symboli
 
   -- then the remaining steps of all threads except the failing one, and at last of that one
   abbrev pub made_passing : Made
-  made_passing = fold (with_passing paths) (made_to (last_place paths w)) (range_with_len 0 (length paths.threads))
+  made_passing =
+      fold (with_passing paths) (made_to (last_place paths w))
+      (range_with_len 0 (length paths.threads))
 
   abbrev pub made : Made
   made = option_map_or (with_rest paths made_passing) (place_in paths.failing) made_passing

@@ -9,8 +9,8 @@ use Rattle.sym_exec.specs.Executed.{Symbolic}
 use Rattle.sym_exec.specs.declared.symbolic.Cell.{Cell}
 use Rattle.order_formula.specs.Worlds.{World}
 use Rattle.order_cells.specs.Terms.{CellIsOf}
-use Rattle.lawful_order.specs.Events.{Of}
-use Rattle.lawful_order.specs.Memory.{cell_of, is_store}
+use Rattle.order_cells.specs.lawful_order.Events.{Of}
+use Rattle.order_cells.specs.lawful_order.Memory.{cell_of, is_store}
 use Rattle.world_moves.specs.Moves.{event_here, last_place}
 
 -- a cell's terms exist, and its number fits in 32 bits
@@ -19,9 +19,11 @@ pub record IsNumbered (nodes : List Node) (w : World) (c : Cell) : Type 0 where
   pub number : cell_by nodes w.loads c < 2 ^ 32
 
 -- the next step's number fits in 64 bits, and the cell of a store in a buffer is numbered
-pub record IsTellable (buffered : Bool) (symbolic : Symbolic) (nodes : List Node) (w : World) (thread : ℕ) (x : Event) : Type 0 where
+pub record IsTellable (buffered : Bool) (symbolic : Symbolic) (nodes : List Node) (w : World)
+    (thread : ℕ) (x : Event) : Type 0 where
   pub next : x.step + 1 < 2 ^ 64
-  pub cell : (buffered && is_store x.kind) ≡ true → IfSome (cell_of symbolic thread x.step) (IsNumbered nodes w)
+  pub cell : (buffered && is_store x.kind) ≡ true
+      → IfSome (cell_of symbolic thread x.step) (IsNumbered nodes w)
 
 -- each event before the failing one satisfies this
 abbrev pub AreTellable : Bool → Paths → Symbolic → List Node → World → Type 0

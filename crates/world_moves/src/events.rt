@@ -3,8 +3,8 @@ ghost use Rattle.std.specs.Prelude.{◌≡◌, ◌==◌, ◌+◌, max, fold, opt
 ghost use Rattle.std.specs.List.{enumerate_from, find};
 ghost use Rattle.std.specs.Option.{option_map_or};
 ghost use Rattle.sym_exec.specs.Alone.{cell_by};
-ghost use Rattle.lawful_order.specs.Events.{all_sleeps};
-ghost use Rattle.lawful_order.specs.Memory as memory;
+ghost use Rattle.order_cells.specs.lawful_order.Events.{all_sleeps};
+ghost use Rattle.order_cells.specs.lawful_order.Memory as memory;
 ghost use Rattle.order_formula.specs.Truth.{Serves};
 ghost use Rattle.order_formula.specs.Worlds.{is_ended, position as place};
 ghost use Rattle.world_plan.specs.Plan as plan;

@@ -2,11 +2,11 @@
 ghost use Rattle.std.specs.Prelude.{◌≡◌, ◌<◌, ◌≤◌, ◌+◌, ◌^◌, ◌++◌, ◌∷◌, [], fold, true, length, IfOk, OnOk};
 ghost use Rattle.std.specs.List.{range_with_len};
 ghost use Rattle.std.specs.Option.{IfSome, option_map_or};
-ghost use Rattle.tc_limits.specs.declared.limits.TheConstants.{EVENTS};
+ghost use Rattle.path_walk.specs.tc_limits.declared.limits.TheConstants.{EVENTS};
 ghost use Rattle.order_formula.specs.Truth.{Serves};
 ghost use Rattle.store_buffers.specs.Pending.{form_of};
-ghost use Rattle.lawful_order.specs.Events.{all_events, all_sleeps};
-ghost use Rattle.lawful_order.specs.Memory as memory;
+ghost use Rattle.order_cells.specs.lawful_order.Events.{all_events, all_sleeps};
+ghost use Rattle.order_cells.specs.lawful_order.Memory as memory;
 ghost use Rattle.world_plan.specs.Plan as plan;
 ghost use Rattle.world_moves.specs.Moves as spec;
 ghost use Rattle.world_moves.specs.Needs.{AreTellable, IsNumbered, IsTellable};

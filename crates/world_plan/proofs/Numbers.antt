@@ -7,10 +7,10 @@ use Rattle.std.proofs.lemmas.Bool.{true≢false, cases_order, eq-eqb, eqb-true, 
 use Rattle.std.proofs.lemmas.Map.Keys.{IsDistinct-head, IsDistinct-tail}
 use Rattle.std.proofs.lemmas.Option.{none-some, same_Some, slice_get-get_or, slice_get-map, slice_get_within}
 use Rattle.std.proofs.lemmas.List.Sums.{position_or_len_is}
-use Rattle.path_walk.specs.Paths.{Walk, Paths}
-use Rattle.path_walk.specs.declared.event.Event.{Event}
-use Rattle.lawful_order.specs.Events.{Of, all_from, all_events, number_of}
-use Rattle.lawful_order.specs.Whole.{HasStep, AreWhole}
+use Rattle.order_events.specs.path_walk.Paths.{Walk, Paths}
+use Rattle.order_events.specs.path_walk.declared.event.Event.{Event}
+use Rattle.order_events.specs.lawful_order.Events.{Of, all_from, all_events, number_of}
+use Rattle.order_events.specs.lawful_order.Whole.{HasStep, AreWhole}
 use Rattle.order_events.proofs.Lists.{of_cons, in_back, at_in, in_at}
 use Rattle.order_events.proofs.Numbers.{of_all_from, has_number, is_step, is_step_at, is_own, one_step}
 

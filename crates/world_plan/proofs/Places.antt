@@ -4,11 +4,11 @@ use Rattle.std.specs.Prelude.{slice_get}
 use Rattle.std.specs.List.{Contains}
 use Rattle.std.proofs.lemmas.Bool.{eq-eqb, eqb-true}
 use Rattle.std.proofs.lemmas.Option.{none-some, same_Some}
-use Rattle.path_walk.specs.Paths.{Walk, Paths}
-use Rattle.path_walk.specs.declared.event.Event.{Event}
-use Rattle.order_formula.specs.Worlds.{World, IsWorld}
-use Rattle.lawful_order.specs.Events.{Of, all_events, number_of, place_of}
-use Rattle.lawful_order.specs.Whole.{HasStep, AreWhole}
+use Rattle.order_events.specs.path_walk.Paths.{Walk, Paths}
+use Rattle.order_events.specs.path_walk.declared.event.Event.{Event}
+use Rattle.order_events.specs.order_formula.Worlds.{World, IsWorld}
+use Rattle.order_events.specs.lawful_order.Events.{Of, all_events, number_of, place_of}
+use Rattle.order_events.specs.lawful_order.Whole.{HasStep, AreWhole}
 use Rattle.order_events.proofs.Numbers.{in_all_from, of_all_from, has_number, one_step}
 use Rattle.world_plan.specs.Plan.{event_at}
 use Rattle.world_plan.proofs.Numbers.{of_find, in_find, one_place, one_event}

@@ -4,25 +4,25 @@ use Rattle.std.specs.List.{Contains}
 use Rattle.std.proofs.lemmas.Bool.{false≢true, eqb-true, and_parts}
 use Rattle.std.proofs.lemmas.List.{length-drop, length-map}
 use Rattle.std.proofs.lemmas.Option.{slice_get_within}
-use Rattle.run_log.specs.Logs.{Log}
-use Rattle.tc_base.specs.declared.failing.Failing.{Failing}
-use Rattle.tc_base.specs.declared.failing.Failing.TheVariants as failing
-use Rattle.tc_code.specs.Code.{Code}
-use Rattle.tc_code.specs.declared.instr.Instr.{Instr}
-use Rattle.tc_code.specs.declared.instr.Instr.TheVariants.{Exit}
-use Rattle.run_log.specs.Logs.{is_log}
-use Rattle.path_walk.specs.Events.{asks, kind_with}
-use Rattle.path_walk.specs.Fits.{fails_in, Fits}
-use Rattle.path_walk.specs.Marks.{Marks, marks_at_start, marks_after}
-use Rattle.path_walk.specs.Paths.{Walk}
-use Rattle.path_walk.specs.Steps.{step_at, steps_at}
-use Rattle.path_walk.specs.declared.event.Event.{Event}
-use Rattle.path_walk.specs.declared.event.EventKind.TheVariants as kind
-use Rattle.path_laws.specs.history.Along.{IsThread, path_thread}
-use Rattle.path_laws.proofs.of_history.Walks.{thread_path_at, walk_is}
-use Rattle.path_laws.proofs.of_events.Events.{at_step}
-use Rattle.path_laws.proofs.of_events.Lists.{in_contains}
-use Rattle.sym_exec.specs.Executed.{has_failed}
+use Rattle.order_events.specs.run_log.Logs.{Log}
+use Rattle.order_events.specs.tc_base.declared.failing.Failing.{Failing}
+use Rattle.order_events.specs.tc_base.declared.failing.Failing.TheVariants as failing
+use Rattle.order_events.specs.tc_code.Code.{Code}
+use Rattle.order_events.specs.tc_code.declared.instr.Instr.{Instr}
+use Rattle.order_events.specs.tc_code.declared.instr.Instr.TheVariants.{Exit}
+use Rattle.order_events.specs.run_log.Logs.{is_log}
+use Rattle.order_events.specs.path_walk.Events.{asks, kind_with}
+use Rattle.order_events.specs.path_walk.Fits.{fails_in, Fits}
+use Rattle.order_events.specs.path_walk.Marks.{Marks, marks_at_start, marks_after}
+use Rattle.order_events.specs.path_walk.Paths.{Walk}
+use Rattle.order_events.specs.path_walk.Steps.{step_at, steps_at}
+use Rattle.order_events.specs.path_walk.declared.event.Event.{Event}
+use Rattle.order_events.specs.path_walk.declared.event.EventKind.TheVariants as kind
+use Rattle.sym_laws.specs.path_laws.history.Along.{IsThread, path_thread}
+use Rattle.sym_laws.proofs.path_laws.of_history.Walks.{thread_path_at, walk_is}
+use Rattle.sym_laws.proofs.path_laws.of_events.Events.{at_step}
+use Rattle.sym_laws.proofs.path_laws.of_events.Lists.{in_contains}
+use Rattle.sym_laws.specs.sym_exec.Executed.{has_failed}
 use Rattle.sym_laws.proofs.Names.{one_place, failing_is}
 
 one_fails : (f : Failing) (t u : ℕ) → has_failed f t ≡ true → has_failed f u ≡ true → t ≡ u

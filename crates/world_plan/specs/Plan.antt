@@ -3,23 +3,23 @@ use Rattle.std.specs.Prelude.{ℕ, zero, suc, ◌+◌, ◌-◌, ◌==◌, max, B
 use Rattle.std.specs.Prelude.{Option, Some, None, option_map, option_and_then, if◌then◌else◌}
 use Rattle.std.specs.List.{enumerate_from, find, filter, range_with_len}
 use Rattle.std.specs.Option.{option_map_or}
-use Rattle.tc_base.specs.Paths.{place_in}
-use Rattle.tc_base.specs.Names.{Name, child}
-use Rattle.tc_base.specs.declared.request.Request.{Request}
-use Rattle.tc_base.specs.declared.request.Request.TheVariants.{WakeOne, Start}
-use Rattle.tc_code.specs.Code.{Code}
-use Rattle.store_buffers.specs.Pending.{Pending, Store, Bar}
-use Rattle.run_history.specs.History.{Deed, Did, Drained, Issue, pending_issues}
-use Rattle.run_history.specs.Locals.{asks_next}
-use Rattle.run_history.specs.Told.{steps_in, children_in}
-use Rattle.run_follows.specs.Follow.{taken_in}
-use Rattle.path_walk.specs.Paths.{Walk, Paths}
-use Rattle.path_walk.specs.declared.event.Event.{Event}
-use Rattle.path_walk.specs.declared.event.EventKind.{EventKind}
-use Rattle.path_walk.specs.declared.event.EventKind.TheVariants as kind
-use Rattle.order_formula.specs.Worlds.{World, is_ended}
-use Rattle.lawful_order.specs.Events.{Of, all_events, all_sleeps, number_of, place_of}
-use Rattle.lawful_order.specs.Memory.{is_store}
+use Rattle.order_events.specs.tc_base.Paths.{place_in}
+use Rattle.order_events.specs.tc_base.Names.{Name, child}
+use Rattle.order_events.specs.tc_base.declared.request.Request.{Request}
+use Rattle.order_events.specs.tc_base.declared.request.Request.TheVariants.{WakeOne, Start}
+use Rattle.order_events.specs.tc_code.Code.{Code}
+use Rattle.order_events.specs.store_buffers.Pending.{Pending, Store, Bar}
+use Rattle.sym_laws.specs.run_history.History.{Deed, Did, Drained, Issue, pending_issues}
+use Rattle.sym_laws.specs.run_history.Locals.{asks_next}
+use Rattle.sym_laws.specs.run_history.Told.{steps_in, children_in}
+use Rattle.sym_laws.specs.run_follows.Follow.{taken_in}
+use Rattle.order_events.specs.path_walk.Paths.{Walk, Paths}
+use Rattle.order_events.specs.path_walk.declared.event.Event.{Event}
+use Rattle.order_events.specs.path_walk.declared.event.EventKind.{EventKind}
+use Rattle.order_events.specs.path_walk.declared.event.EventKind.TheVariants as kind
+use Rattle.order_events.specs.order_formula.Worlds.{World, is_ended}
+use Rattle.order_events.specs.lawful_order.Events.{Of, all_events, all_sleeps, number_of, place_of}
+use Rattle.order_events.specs.lawful_order.Memory.{is_store}
 
 abbrev pub is_failure : EventKind → Bool
 is_failure kind.Fail = true
@@ -38,7 +38,8 @@ event_at paths w p = find (λ e. place_of paths w e.thread e.it.step == p) (all_
 -- the position of the failing event, or one past all positions if none fails
 abbrev pub end_of : Paths → World → ℕ
 end_of paths w =
-    option_map_or (λ e. place_of paths w e.thread e.it.step) (find (λ e. is_failure e.it.kind) (all_events paths))
+    option_map_or (λ e. place_of paths w e.thread e.it.step)
+    (find (λ e. is_failure e.it.kind) (all_events paths))
     (fold (λ n p. max n (p + 1)) 0 w.positions)
 
 -- the drain of an item that the thread n issued in the step k, if it is a store
@@ -58,7 +59,8 @@ threads_in_turn paths =
 -- the drain of the store that a thread issued in a step, if it is pending
 abbrev pub drains_next : Bool → List Deed → Name → (step : ℕ) → List Deed
 drains_next buffered h n k =
-    option_map_or (λ (i : Issue). drain_of n i.number i.what) (find (λ (i : Issue). i.number == k) (pending_issues buffered h n)) []
+    option_map_or (λ (i : Issue). drain_of n i.number i.what)
+    (find (λ (i : Issue). i.number == k) (pending_issues buffered h n)) []
 
 -- the other thread of a step: the child that it creates, or the thread that it wakes
 abbrev pub other_of : Paths → World → List Deed → (thread : ℕ) → Name → Request → Option Name
@@ -70,7 +72,9 @@ module _ (buffered : Bool) (code : Code) (paths : Paths) (w : World) where
   -- the next step of a thread, if it makes a request
   abbrev pub does_next : List Deed → (thread : ℕ) → Name → List Deed
   does_next h t n =
-      option_map_or (λ r. Did n (steps_in h n) r (taken_in buffered code h n r) (other_of paths w h t n r) ∷ []) (asks_next code h n) []
+      option_map_or
+      (λ r. Did n (steps_in h n) r (taken_in buffered code h n r) (other_of paths w h t n r) ∷ [])
+      (asks_next code h n) []
 
   -- the history after k more steps of a thread
   abbrev pub goes_on : ℕ → List Deed → (thread : ℕ) → Name → List Deed
@@ -87,7 +91,9 @@ module _ (buffered : Bool) (code : Code) (paths : Paths) (w : World) where
 
   abbrev pub with_event : List Deed → Of Event → List Deed
   with_event h e =
-      option_map_or (λ (q : Walk). with_drain (goes_to h e.thread q.name (e.it.step + 1)) q.name e.it) (slice_get paths.threads e.thread) h
+      option_map_or
+      (λ (q : Walk). with_drain (goes_to h e.thread q.name (e.it.step + 1)) q.name e.it)
+      (slice_get paths.threads e.thread) h
 
   -- the history of the events at the first p positions
   abbrev pub up_to : ℕ → List Deed
@@ -96,7 +102,9 @@ module _ (buffered : Bool) (code : Code) (paths : Paths) (w : World) where
 
   -- appends the remaining steps of a thread
   abbrev pub with_rest : List Deed → (thread : ℕ) → List Deed
-  with_rest h t = option_map_or (λ (q : Walk). goes_to h t q.name (length q.places)) (slice_get paths.threads t) h
+  with_rest h t =
+      option_map_or (λ (q : Walk). goes_to h t q.name (length q.places))
+      (slice_get paths.threads t) h
 
   -- the events before the end, and then the remaining steps of all threads
   abbrev pub plan : List Deed

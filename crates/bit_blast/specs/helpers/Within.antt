@@ -2,7 +2,7 @@
 use Rattle.std.specs.Prelude.{ℕ, ◌≤◌, List}
 use Rattle.std.specs.List.{All}
 use Rattle.cnf_core.specs.Clauses.{var_of}
-use Rattle.bit_words.specs.Words.{AreWithin}
+use Rattle.bit_ops.specs.bit_words.Words.{AreWithin}
 use Rattle.bit_blast.specs.Cases.{Parts}
 use Rattle.bit_blast.specs.Reads.{Source}
 

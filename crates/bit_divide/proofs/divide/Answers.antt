@@ -2,7 +2,7 @@ use Rattle.std.proofs.Common.{rules, subst, sym, replicate, ◌≤◌}
 use Rattle.std.proofs.lemmas.List.Elements.{All-replicate}
 use Rattle.cnf_core.specs.Clauses.{var_of}
 use Rattle.bit_words.specs.Words.{AreWithin}
-use Rattle.bit_arith.proofs.Rows.{within_inverted}
+use Rattle.bit_shift.proofs.bit_arith.Rows.{within_inverted}
 use Rattle.bit_divide.proofs.divide.Goals as goal
 
 pub divide_places-requires : goal.divide_places-requires

@@ -5,7 +5,7 @@ use Rattle.std.proofs.Math.ListN.{length-set}
 use Rattle.std.proofs.lemmas.Int.{to_z-of_z}
 use Rattle.std.proofs.lemmas.Nat.Bits.{shr_and_one}
 use Rattle.std.proofs.lemmas.List.FromFn.{fill_by_all}
-use Rattle.int_ops.specs.Arith.{bit}
+use Rattle.sym_terms.specs.int_ops.Arith.{bit}
 use Rattle.bit_gates.specs.Folded.{constant}
 use Rattle.bit_terms.specs.Terms.{constant_word}
 use Rattle.bit_terms.proofs.constant_word.Goals as goal

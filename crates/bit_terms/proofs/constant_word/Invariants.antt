@@ -1,6 +1,6 @@
 use Rattle.std.proofs.Common.{◌≡◌, ℕ, ◌<◌, length, get_or}
 use Rattle.std.specs.Prelude.{◌==◌, false}
-use Rattle.int_ops.specs.Arith.{bit}
+use Rattle.sym_terms.specs.int_ops.Arith.{bit}
 use Rattle.bit_gates.specs.Folded.{constant}
 use Rattle.bit_terms.proofs.constant_word.Given as goal
 

@@ -19,7 +19,8 @@ abbrev pub answer_of : StagedSearch → Option Progress
 answer_of c = answer_at c.stage c.values.items
 
 abbrev pub searched_of : StagedSearch → Searched
-searched_of c = record { formula = c.state.formula; lines = c.state.derivation; answer = answer_of c }
+searched_of c =
+    record { formula = c.state.formula; lines = c.state.derivation; answer = answer_of c }
 
 -- the invariant at a stage
 abbrev pub IsAt : Stage → List Bool → State → Type 0

@@ -39,7 +39,8 @@ abbrev pub kept_in : List Clause → ℕ
 kept_in cs = count_by (λ c. c.kept) cs
 
 -- the kept clauses, the lines and the counts agree
-pub record BelongTogether (f : Formula) (cs : List Clause) (lines : List Line) (n d : ℕ) : Type 0 where
+pub record BelongTogether (f : Formula) (cs : List Clause) (lines : List Line)
+    (n d : ℕ) : Type 0 where
   pub few : f.vars < LIMIT
   pub given : length f.clauses < LIMIT
   pub count : length cs ≡ length f.clauses + n
@@ -129,7 +130,8 @@ pub record IsLoaded (s : State) (n : ℕ) : Type 0 where
   pub given : length s.formula.clauses < LIMIT
   pub count : length s.clauses ≡ n
   pub keeps : KeepsAll (take n s.formula.clauses) s.clauses
-  pub represents : Represents s.clauses (fold keep (opening s.formula.vars) (take n s.formula.clauses))
+  pub represents : Represents s.clauses
+      (fold keep (opening s.formula.vars) (take n s.formula.clauses))
   pub no_lines : s.derivation ≡ []
   pub none_added : s.added ≡ 0
   pub none_deleted : s.deleted ≡ 0
@@ -164,8 +166,11 @@ pub record MayAllGo (s : State) (ks : List ℕ) : Type 0 where
 pub record MarksReasons (t : Trail) (n : ℕ) (marks : List Bool) : Type 0 where
   pub size : length marks ≡ n
   pub few : count_by (λ b. b) marks ≤ length t.literals
-  pub marked : (p k : ℕ) → p < length t.literals → slice_index_or t.reasons p None ≡ Some k → slice_index_or marks k false ≡ true
+  pub marked : (p k : ℕ) → p < length t.literals → slice_index_or t.reasons p None ≡ Some k
+      → slice_index_or marks k false ≡ true
 
 -- each learnt clause that is kept is marked
 abbrev pub NoneMayGo : State → List Bool → Type 0
-NoneMayGo s marks = (k : ℕ) → length s.formula.clauses ≤ k → k < length s.clauses → (at s.clauses k).kept ≡ true → slice_index_or marks k false ≡ true
+NoneMayGo s marks =
+    (k : ℕ) → length s.formula.clauses ≤ k → k < length s.clauses → (at s.clauses k).kept ≡ true
+    → slice_index_or marks k false ≡ true

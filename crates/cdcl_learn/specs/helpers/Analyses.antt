@@ -16,15 +16,19 @@ open_from met base = count_by (λ b. b) (drop base met)
 -- the hints lead to a conflict from any part of the trail that has the literals of all met places
 abbrev pub Suffices : Trail → List Clause → List Bool → List ℕ → Type 0
 Suffices t cs met hints =
-    (given : List ℕ) → ((x : ℕ) → Contains given x → Contains t.literals x) → ((p : ℕ) → IsMet met p → Contains given (slice_index t.literals p))
+    (given : List ℕ) → ((x : ℕ) → Contains given x → Contains t.literals x)
+    → ((p : ℕ) → IsMet met p → Contains given (slice_index t.literals p))
     → Leads cs given (reverse hints)
 
 -- the count and the literals agree with the met places
-pub record Tallies (t : Trail) (met : List Bool) (count_open root base : ℕ) (literals : List ℕ) : Type 0 where
+pub record Tallies (t : Trail) (met : List Bool) (count_open root base : ℕ)
+    (literals : List ℕ) : Type 0 where
   pub size : length met ≡ length t.literals
   pub count : count_open ≡ open_from met base
-  pub taken : (p : ℕ) → root ≤ p → p < base → IsMet met p → Contains literals (opposite_of (slice_index t.literals p))
-  pub from_places : (x : ℕ) → Contains literals x → (p : ℕ) × (root ≤ p) × (p < base) × (x ≡ opposite_of (slice_index t.literals p))
+  pub taken : (p : ℕ) → root ≤ p → p < base → IsMet met p
+      → Contains literals (opposite_of (slice_index t.literals p))
+  pub from_places : (x : ℕ) → Contains literals x
+      → (p : ℕ) × (root ≤ p) × (p < base) × (x ≡ opposite_of (slice_index t.literals p))
 
 -- one more place is met, and no other place changes
 pub record Marks (old new : List Bool) (place : ℕ) : Type 0 where
@@ -34,9 +38,12 @@ pub record Marks (old new : List Bool) (place : ℕ) : Type 0 where
 
 -- the places of all these literals are met
 pub record Meets (t : Trail) (old new : List Bool) (literals : List ℕ) : Type 0 where
-  pub all : (x p : ℕ) → Contains literals x → p < length t.literals → variable_of (slice_index t.literals p) ≡ variable_of x → IsMet new p
+  pub all : (x p : ℕ) → Contains literals x → p < length t.literals
+      → variable_of (slice_index t.literals p) ≡ variable_of x → IsMet new p
   pub kept : (p : ℕ) → IsMet old p → IsMet new p
-  pub only : (p : ℕ) → IsMet new p → IsMet old p ⊎ ((x : ℕ) × Contains literals x × (variable_of (slice_index t.literals p) ≡ variable_of x))
+  pub only : (p : ℕ) → IsMet new p
+      → IsMet old p
+      ⊎ ((x : ℕ) × Contains literals x × (variable_of (slice_index t.literals p) ≡ variable_of x))
 
 -- a place isn't met any more, and only places before it are newly met
 pub record Resolves (old new : List Bool) (place : ℕ) : Type 0 where

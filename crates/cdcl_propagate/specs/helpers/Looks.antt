@@ -25,23 +25,34 @@ pub record IsFound (t : Trail) (ls : List ℕ) (other next : ℕ) : Type 0 where
 
 -- what each outcome of a look at a watch means
 abbrev pub Finds : Trail → List Clause → ℕ → Watch → Look → Type 0
-Finds t cs fallen w Satisfied = watches (at cs w.clause) fallen ≡ true → HasTrue t.literals (at cs w.clause)
+Finds t cs fallen w Satisfied =
+    watches (at cs w.clause) fallen ≡ true → HasTrue t.literals (at cs w.clause)
 Finds t cs fallen w Gone = watches (at cs w.clause) fallen ≡ false
-Finds t cs fallen w (Moves clause other next) = (clause ≡ w.clause) × Watching cs fallen clause other × IsFound t (at cs clause).literals other next
-Finds t cs fallen w (Forces clause other) = (clause ≡ w.clause) × Watching cs fallen clause other × IsOpen t other × AllFalseBut t (at cs clause).literals other
-Finds t cs fallen w (Conflict clause) = (clause ≡ w.clause) × Watching cs fallen clause (beside (at cs clause) fallen)
+Finds t cs fallen w (Moves clause other next) =
+    (clause ≡ w.clause) × Watching cs fallen clause other
+    × IsFound t (at cs clause).literals other next
+Finds t cs fallen w (Forces clause other) =
+    (clause ≡ w.clause) × Watching cs fallen clause other × IsOpen t other
+    × AllFalseBut t (at cs clause).literals other
+Finds t cs fallen w (Conflict clause) =
+    (clause ≡ w.clause) × Watching cs fallen clause (beside (at cs clause) fallen)
     × ((x : ℕ) → Contains (at cs clause).literals x → Contains t.literals (opposite_of x))
 
 -- each clause that watches the literal has a true literal
 abbrev pub IsVisited : Trail → List Clause → ℕ → Type 0
-IsVisited t cs fallen = (k : ℕ) → k < length cs → watches (at cs k) fallen ≡ true → HasTrue t.literals (at cs k)
+IsVisited t cs fallen =
+    (k : ℕ) → k < length cs → watches (at cs k) fallen ≡ true → HasTrue t.literals (at cs k)
 
 -- the same for the watches before a place of the literal's list
 abbrev pub IsVisitedBelow : Trail → List Clause → List (List Watch) → ℕ → ℕ → Type 0
-IsVisitedBelow t cs ws fallen place = (p : ℕ) (d : Watch) → p < place → watches (at cs (slice_index_or (listed ws fallen) p d).clause) fallen ≡ true
+IsVisitedBelow t cs ws fallen place =
+    (p : ℕ) (d : Watch) → p < place
+    → watches (at cs (slice_index_or (listed ws fallen) p d).clause) fallen ≡ true
     → HasTrue t.literals (at cs (slice_index_or (listed ws fallen) p d).clause)
 
 -- the clause now watches `other` and `next`, and is in the watch list of `next` too
-pub record WasMoved (cs : List Clause) (ws : List (List Watch)) (ds : List Clause) (vs : List (List Watch)) (clause other next : ℕ) : Type 0 where
+pub record WasMoved (cs : List Clause) (ws : List (List Watch)) (ds : List Clause)
+    (vs : List (List Watch)) (clause other next : ℕ) : Type 0 where
   pub clauses : ds ≡ slice_set cs clause (record (at cs clause) { first = other; second = next })
-  pub lists : vs ≡ slice_set ws next (listed ws next ++ record { clause = clause; blocker = other } ∷ [])
+  pub lists : vs ≡ slice_set ws next
+      (listed ws next ++ record { clause = clause; blocker = other } ∷ [])

@@ -20,13 +20,15 @@ trail_of a = record {
 pub record StandsAt (a : Inside) (k : ℕ) : Type 0 where
   pub within : slice_index a.literals.items k < 2 * length a.places.items
   pub true_there : slice_index_or a.values.items (slice_index a.literals.items k) Open ≡ True
-  pub false_there : slice_index_or a.values.items (opposite_of (slice_index a.literals.items k)) Open ≡ False
+  pub false_there : slice_index_or a.values.items
+      (opposite_of (slice_index a.literals.items k)) Open ≡ False
   pub known : slice_index a.places.items (variable_of (slice_index a.literals.items k)) ≡ k
 
 -- the variable of a literal that isn't open is on the trail, at its recorded place
 pub record IsPlaced (a : Inside) (l : ℕ) : Type 0 where
   pub on_trail : slice_index a.places.items (variable_of l) < a.len
-  pub there : variable_of (slice_index a.literals.items (slice_index a.places.items (variable_of l))) ≡ variable_of l
+  pub there : variable_of
+      (slice_index a.literals.items (slice_index a.places.items (variable_of l))) ≡ variable_of l
 
 -- a level begins after all earlier levels, and no later than the propagated part ends
 pub record StartsWell (a : Inside) (k : ℕ) : Type 0 where
@@ -45,5 +47,6 @@ pub record IsLaidOut (a : Inside) : Type 0 where
   pub levels_fit : a.levels ≤ a.len
   pub propagated_fits : a.propagated ≤ a.len
   pub stands : (k : ℕ) → k < a.len → StandsAt a k
-  pub placed : (l : ℕ) → l < 2 * length a.places.items → slice_index_or a.values.items l Open ≢ Open → IsPlaced a l
+  pub placed : (l : ℕ) → l < 2 * length a.places.items
+      → slice_index_or a.values.items l Open ≢ Open → IsPlaced a l
   pub starts : (k : ℕ) → k < a.levels → StartsWell a k

@@ -9,12 +9,10 @@ pub returns-in-Some : goal.returns-in-Some
 returns-in-Some c =
     let named : Some c.in-Some.refutation.now ≡ first_of (codes "least") (rows_of (found_of c.args.matches.now)) =
     ap (option_map (λ (s : Bor Text). s.now)) (sym c.in-Some.is) ∙ c.get_str.ensures ∙ first_value-rows (found_of c.args.matches.now) (codes "least") in
-    λ i. searched_as (named i) (c.text-program.ensures i) (c.text-log.ensures i) (c.text-out.ensures i) (c.written_model-model.ensures i)
-    (c.budget_in-budget.ensures i)
+    λ i. searched_as (named i) (c.solve_in-solve.ensures i)
 
 pub returns-in-None : goal.returns-in-None
 returns-in-None c =
     let unnamed : None ≡ first_of (codes "least") (rows_of (found_of c.args.matches.now)) =
     ap (option_map (λ (s : Bor Text). s.now)) (sym c.in-None.is) ∙ c.get_str.ensures ∙ first_value-rows (found_of c.args.matches.now) (codes "least") in
-    λ i. searched_as (unnamed i) (c.text-program.ensures i) (c.text-log.ensures i) (c.text-out.ensures i) (c.written_model-model.ensures i)
-    (c.budget_in-budget.ensures i)
+    λ i. searched_as (unnamed i) (c.solve_in-solve.ensures i)

@@ -3,7 +3,7 @@ use Rattle.std.proofs.lemmas.Result.{IfOk-weaker}
 use Rattle.clap.specs.Words.{App, app_of, new_app, rule_of, with_rule}
 use Rattle.clap.specs.declared.builder.value_parser.ValueParser.TheVariants as parser
 use Rattle.clap_debug_words.specs.CommandLine as spec
-use Rattle.clap_debug_words.specs.declared.workers.TheConstants.{WORKERS}
+use Rattle.workload_command.specs.declared.workers.TheConstants.{WORKERS}
 use Rattle.clap_debug_words.proofs.workload.Goals as goal
 
 pub returns : goal.returns

@@ -1,9 +1,9 @@
 -- The results of a search of a log's clauses.
 use Rattle.std.specs.Prelude.{◌≡◌, ◌<◌, ◌≤◌, ℕ, suc, Bool, true, false, IsTrue, List, length}
-use Rattle.tc_base.specs.Buffers.{BufferOps}
+use Rattle.run_log.specs.tc_base.Buffers.{BufferOps}
 use Rattle.run_log.specs.Logs.{Log}
-use Rattle.memory_models.specs.declared.model.Model.{Model}
-use Rattle.tc_base.specs.declared.moves.Move.{Move}
+use Rattle.run_log.specs.memory_models.declared.model.Model.{Model}
+use Rattle.run_log.specs.tc_base.declared.moves.Move.{Move}
 use Rattle.tc_code.specs.Code.{Code}
 use Rattle.tc_code.specs.Run.{Reproduces}
 use Rattle.store_buffers.specs.Pending.{Binding}
@@ -48,12 +48,15 @@ module _ (buffered : Bool) (bound : Binding) (code : Code) (p : Posed) where
 module _ {B : Type 0} (ops : BufferOps B) (code : Code) (p : Posed) where
   -- the moves reproduce each log with these paths
   abbrev pub ReproduceEach : List Move → Type 0
-  ReproduceEach moves = (log : Log) → is_log log ≡ true → Fits code log → paths_of code log ≡ p.paths → Reproduces ops code log moves
+  ReproduceEach moves =
+      (log : Log) → is_log log ≡ true → Fits code log → paths_of code log ≡ p.paths
+      → Reproduces ops code log moves
 
   module _ (model : Model) where
     -- the answer from a search's result: a schedule of such moves, or the search's own derivation
     abbrev pub IsAnsweredOn : Solved → Answer → Type 0
-    IsAnsweredOn (solved.Sat values) (Found schedule) = (schedule.model ≡ model) × ReproduceEach schedule.moves.items
+    IsAnsweredOn (solved.Sat values) (Found schedule) =
+        (schedule.model ≡ model) × ReproduceEach schedule.moves.items
     IsAnsweredOn (solved.Unsat lines) (Impossible own) = own ≡ lines
     IsAnsweredOn (solved.Spent lines) (Spent own) = own ≡ lines
     IsAnsweredOn _ _ = ⊥
@@ -67,6 +70,8 @@ module _ {B : Type 0} (ops : BufferOps B) (code : Code) (p : Posed) where
     -- values that satisfy the clauses give a schedule of such moves; others, the first false clause
     abbrev pub IsImportedOn : List Bool → Imported → Type 0
     IsImportedOn values (imported.Found schedule) =
-        IsTrue (satisfies (value_in values) p.blasted.clauses.clauses) × (schedule.model ≡ model) × ReproduceEach schedule.moves.items
+        IsTrue (satisfies (value_in values) p.blasted.clauses.clauses) × (schedule.model ≡ model)
+        × ReproduceEach schedule.moves.items
     IsImportedOn values (imported.False number) =
-        (place : ℕ) × (number ≡ suc place) × IsFirstFalse (value_in values) p.blasted.clauses.clauses place
+        (place : ℕ) × (number ≡ suc place)
+        × IsFirstFalse (value_in values) p.blasted.clauses.clauses place

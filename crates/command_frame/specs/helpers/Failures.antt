@@ -71,5 +71,6 @@ SaysNoMoreOf _ status old new = SaysNoMemory status old new
 
 -- the line was put with its status, or the put failed, or there was no memory for the line
 abbrev pub SaysFailure : Failure → ℕ → SinkTells → SinkTells → Type 0
-SaysFailure f status old new = ((status ≡ number_of (failure_status f)) × Wrote old new (failure_line f))
+SaysFailure f status old new =
+    ((status ≡ number_of (failure_status f)) × Wrote old new (failure_line f))
     ⊎ ((status ≡ 8) × WrotePart old new (failure_line f)) ⊎ SaysNoMoreOf f status old new

@@ -15,4 +15,5 @@ own_of t = record { held = t.held; joinable = map can_be_joined t.handles }
 
 -- the start of a function: nothing is held, and no child can be joined
 abbrev pub nothing_own : Code → ℕ → Own
-nothing_own code f = record { held = replicate code.mutexes false; joinable = replicate (handles_of code f) false }
+nothing_own code f =
+    record { held = replicate code.mutexes false; joinable = replicate (handles_of code f) false }

@@ -26,11 +26,14 @@ plain n = if n == 0 then End else Literal (pos n)
 -- the meaning of a word in a line of values
 abbrev pub word_in : List ℕ → Option Word
 word_in [] = None
-word_in (b ∷ bytes) = if b == 45 then option_and_then negated (number_of last_var bytes) else option_map plain (number_of last_var (b ∷ bytes))
+word_in (b ∷ bytes) =
+    if b == 45 then option_and_then negated (number_of last_var bytes)
+    else option_map plain (number_of last_var (b ∷ bytes))
 
 -- the state after a word: no literal is the opposite of an earlier one, and nothing follows the 0
 abbrev pub after_word : Said → Word → Option Said
-after_word (Begun literals) (Literal l) = if is_among literals (neg_ℤ l) then None else Some (Begun (insert_key int_eq literals l))
+after_word (Begun literals) (Literal l) =
+    if is_among literals (neg_ℤ l) then None else Some (Begun (insert_key int_eq literals l))
 after_word (Begun literals) End = Some (Whole literals)
 after_word said word = None
 
@@ -41,12 +44,14 @@ after_part said (b ∷ bytes) = option_and_then (after_word said) (word_in (b �
 
 abbrev pub after_parts : Said → List (List ℕ) → Option Said
 after_parts said [] = Some said
-after_parts said (part ∷ parts) = option_and_then (λ next. after_parts next parts) (after_part said part)
+after_parts said (part ∷ parts) =
+    option_and_then (λ next. after_parts next parts) (after_part said part)
 
 -- the state after a line of values: `v`, then words, each after blanks
 abbrev pub after_values : Said → List (List ℕ) → Option Said
 after_values said [] = None
-after_values said (part ∷ parts) = if bytes_eq part (codes "v") then after_parts said parts else None
+after_values said (part ∷ parts) =
+    if bytes_eq part (codes "v") then after_parts said parts else None
 
 -- the state after a line that isn't skipped: first the status, then values up to the 0, then none
 abbrev pub after_line : Said → List ℕ → Option Said
@@ -66,7 +71,8 @@ at_end number said = Err number
 abbrev pub reading : ℕ → Said → List (List ℕ) → Result (List ℤ) ℕ
 reading number said [] = at_end number said
 reading number said (line ∷ lines) =
-    option_map_or (λ next. reading (number + 1) next lines) (after_any said (trimmed line)) (Err number)
+    option_map_or (λ next. reading (number + 1) next lines) (after_any said (trimmed line))
+    (Err number)
 
 -- the result of reading a text
 abbrev pub answer : List ℕ → Result (List ℤ) ℕ

@@ -1,8 +1,8 @@
 -- The results of a search.
 use Rattle.std.specs.Prelude.{◌≡◌, ℕ, ◌<◌, ◌≤◌, Bool, true, false, IsTrue, List, length}
-use Rattle.tc_base.specs.Buffers.{BufferOps}
+use Rattle.run_log.specs.tc_base.Buffers.{BufferOps}
 use Rattle.run_log.specs.Logs.{Log}
-use Rattle.memory_models.specs.declared.model.Model.{Model}
+use Rattle.run_log.specs.memory_models.declared.model.Model.{Model}
 use Rattle.tc_code.specs.Code.{Code}
 use Rattle.store_buffers.specs.Pending.{Binding}
 use Rattle.run_log.specs.Logs.{is_log}
@@ -15,7 +15,7 @@ use Rattle.cdcl_core.specs.declared.progress.Solved.{Solved}
 use Rattle.cdcl_core.specs.declared.progress.Solved.TheVariants as solved
 use Rattle.clap_solve.specs.Clauses.{clauses_of}
 use Rattle.clap_solve.specs.Posed.{IsGiven, Posed, posed_of}
-use Rattle.switch_runs.specs.Worlds.{world_switches}
+use Rattle.switch_clauses.specs.switch_runs.Worlds.{world_switches}
 use Rattle.least_switch.specs.Least.{HasSwitches}
 use Rattle.least_switch.specs.declared.best.Best.{Best}
 use Rattle.least_switch.specs.declared.bounded.Bounded.{Bounded}
@@ -26,7 +26,8 @@ use Rattle.least_switch.specs.helpers.Bounded.{IsBounded}
 module _ {B : Type 0} (ops : BufferOps B) (model : Model) (code : Code) where
   -- the schedule comes from a world, for each log of these paths
   pub record IsOfWorld (paths : Paths) (w : World) (b : Best) : Type 0 where
-    pub has : (log : Log) → is_log log ≡ true → Fits code log → paths_of code log ≡ paths → HasSwitches ops model code log b.schedule b.switches
+    pub has : (log : Log) → is_log log ≡ true → Fits code log → paths_of code log ≡ paths
+        → HasSwitches ops model code log b.schedule b.switches
     pub count : b.switches ≡ world_switches paths w
 
   module _ (log : Log) where
@@ -37,7 +38,8 @@ module _ {B : Type 0} (ops : BufferOps B) (model : Model) (code : Code) where
     IsBestUpTo most b = IsBest b × (b.switches ≤ most)
 
 -- the values satisfy the clauses of a log
-pub record IsFirst (buffered : Bool) (bound : Binding) (code : Code) (log : Log) (p : Posed) (values : List Bool) : Type 0 where
+pub record IsFirst (buffered : Bool) (bound : Binding) (code : Code) (log : Log) (p : Posed)
+    (values : List Bool) : Type 0 where
   pub given : IsGiven code log
   pub posed : p ≡ posed_of buffered bound code log
   pub variables : p.paths.dead ≡ false → 0 < p.blasted.clauses.vars
@@ -45,7 +47,8 @@ pub record IsFirst (buffered : Bool) (bound : Binding) (code : Code) (log : Log)
   pub all : p.blasted.clauses.vars ≤ length values
 
 -- the values satisfy the clauses of a log with at most `most` switches
-pub record IsSaid (buffered : Bool) (bound : Binding) (code : Code) (log : Log) (most : ℕ) (b : Bounded) (values : List Bool) : Type 0 where
+pub record IsSaid (buffered : Bool) (bound : Binding) (code : Code) (log : Log) (most : ℕ)
+    (b : Bounded) (values : List Bool) : Type 0 where
   pub given : IsGiven code log
   pub bounded : IsBounded buffered bound code log most b
   pub satisfies : IsTrue (satisfies (value_in values) b.clauses.clauses)
@@ -70,13 +73,15 @@ IsFoundOn f Is budget (found.Impossible lines) = Solves f budget (solved.Unsat l
 IsFoundOn f Is budget (found.Spent lines) = Solves f budget (solved.Spent lines)
 
 -- the clauses of a log, with everything that they are made from
-pub record IsPosedFor (buffered : Bool) (bound : Binding) (code : Code) (log : Log) (p : Posed) : Type 0 where
+pub record IsPosedFor (buffered : Bool) (bound : Binding) (code : Code) (log : Log)
+    (p : Posed) : Type 0 where
   pub given : IsGiven code log
   pub is : p ≡ posed_of buffered bound code log
   pub variables : p.paths.dead ≡ false → 0 < p.blasted.clauses.vars
 
 -- the result of the search over the clauses of a log
-pub record IsFirstFound {B : Type 0} (ops : BufferOps B) (model : Model) (buffered : Bool) (bound : Binding) (code : Code) (log : Log) (budget : ℕ)
+pub record IsFirstFound {B : Type 0} (ops : BufferOps B) (model : Model) (buffered : Bool)
+    (bound : Binding) (code : Code) (log : Log) (budget : ℕ)
     (x : Found) : Type 0 where
   pub given : IsGiven code log
   pub found : IsFoundOn (clauses_of buffered bound code log) (IsBest ops model code log) budget x

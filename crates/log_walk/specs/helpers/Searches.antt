@@ -5,7 +5,7 @@ use Rattle.tc_base.specs.Names.{Name}
 use Rattle.tc_limits.specs.declared.limits.TheConstants.{DEPTH}
 use Rattle.tc_base.specs.Paths.{Path, ThreadPath}
 use Rattle.tc_code.specs.Code.{Code}
-use Rattle.path_walk.specs.Steps.{Onward}
+use Rattle.thread_paths.specs.path_walk.Steps.{Onward}
 use Rattle.thread_paths.specs.Ends.{MayTake}
 use Rattle.thread_paths.specs.Order.{comes_from}
 use Rattle.thread_paths.specs.declared.aim.Scope.{Scope}
@@ -31,16 +31,19 @@ pub record IsKept (before after : LeftOut) : Type 0 where
 
 -- what was left out, including what a search for a path left out
 abbrev pub with_cut : LeftOut → Cut → LeftOut
-with_cut out cut = record out { outcomes = out.outcomes || cut.outcomes; steps = out.steps || cut.steps }
+with_cut out cut =
+    record out { outcomes = out.outcomes || cut.outcomes; steps = out.steps || cut.steps }
 
 -- the scope of the search for an awaited thread's path
 abbrev pub scope_of : Bounds → Rest → Awaited → Scope
-scope_of bounds rest next = record { function = next.function; aim = aim_of bounds.kind rest.ends next.end; most = bounds.most }
+scope_of bounds rest next =
+    record { function = next.function; aim = aim_of bounds.kind rest.ends next.end; most = bounds.most }
 
 -- whether a thread of this name may be added; if not, the limit in its way is reported
 abbrev pub IsOpen : Name → ℕ → LeftOut → Bool → Type 0
 IsOpen n room out true = (1 ≤ room) × (length n ≤ DEPTH)
-IsOpen n room out false = ((room ≡ 0) × (out.threads ≡ true)) ⊎ ((DEPTH < length n) × (out.depth ≡ true))
+IsOpen n room out false =
+    ((room ≡ 0) × (out.threads ≡ true)) ⊎ ((DEPTH < length n) × (out.depth ≡ true))
 
 -- the first thread of the log given last, and below it the other threads
 abbrev pub first_of : Option (List ThreadPath) → Option ThreadPath
@@ -63,7 +66,8 @@ abbrev pub behind : Path → Option (List ThreadPath) → Wanted
 behind p last [] = false
 behind p last (t ∷ ts) = (comes_from p t.path && comes_from t.path p) && are_to_come last ts
 
-module _ (code : Code) (bounds : Bounds) (rest : Rest) (wanted : Wanted) (room : ℕ) (out : LeftOut) where
+module _ (code : Code) (bounds : Bounds) (rest : Rest) (wanted : Wanted) (room : ℕ)
+    (out : LeftOut) where
   -- these are the first threads that complete the log and pass the test
   pub record AreFirst (ts : List ThreadPath) : Type 0 where
     pub make_up : MakeUp code bounds.kind rest ts
@@ -75,29 +79,38 @@ module _ (code : Code) (bounds : Bounds) (rest : Rest) (wanted : Wanted) (room :
 
   -- no threads complete the log and pass the test, except those left out
   abbrev pub AreNone : Type 0
-  AreNone = (us : List ThreadPath) → MakeUp code bounds.kind rest us → wanted us ≡ true → IsLeftOut bounds.most room out us
+  AreNone =
+      (us : List ThreadPath) → MakeUp code bounds.kind rest us → wanted us ≡ true
+      → IsLeftOut bounds.most room out us
 
 -- an awaited thread may take a path, and is within the bounds with it
-pub record IsTaken (code : Code) (bounds : Bounds) (rest : Rest) (next : Awaited) (p : Path) : Type 0 where
+pub record IsTaken (code : Code) (bounds : Bounds) (rest : Rest) (next : Awaited)
+    (p : Path) : Type 0 where
   pub may : MayTake code next.function (aim_of bounds.kind rest.ends next.end) p
   pub within : IsWithin bounds.most (record { name = next.name; path = p })
 
 -- the threads given last, if there are any, make up the rest within the bounds
 abbrev pub CanFollow : Code → Bounds → Rest → Option (List ThreadPath) → Type 0
-CanFollow code bounds rest last = IfSome last (λ ts. MakeUp code bounds.kind rest ts × All (IsWithin bounds.most) ts)
+CanFollow code bounds rest last =
+    IfSome last (λ ts. MakeUp code bounds.kind rest ts × All (IsWithin bounds.most) ts)
 
 -- the first threads were added after those before
-pub record IsAdded (code : Code) (bounds : Bounds) (rest : Rest) (wanted : Wanted) (room : ℕ) (before after : List ThreadPath) (out : LeftOut)
+pub record IsAdded (code : Code) (bounds : Bounds) (rest : Rest) (wanted : Wanted) (room : ℕ)
+    (before after : List ThreadPath) (out : LeftOut)
     : Type 0 where
   pub added : List ThreadPath
   pub is : after ≡ before ++ added
   pub first : AreFirst code bounds rest wanted room out added
 
-pub record IsSame (code : Code) (bounds : Bounds) (rest : Rest) (wanted : Wanted) (room : ℕ) (before after : List ThreadPath) (out : LeftOut)
+pub record IsSame (code : Code) (bounds : Bounds) (rest : Rest) (wanted : Wanted) (room : ℕ)
+    (before after : List ThreadPath) (out : LeftOut)
     : Type 0 where
   pub same : after ≡ before
   pub none : AreNone code bounds rest wanted room out
 
-abbrev pub IsEnd : Code → Bounds → Rest → Wanted → ℕ → List ThreadPath → List ThreadPath → LeftOut → Bool → Type 0
-IsEnd code bounds rest wanted room before after out true = IsAdded code bounds rest wanted room before after out
-IsEnd code bounds rest wanted room before after out false = IsSame code bounds rest wanted room before after out
+abbrev pub IsEnd : Code → Bounds → Rest → Wanted → ℕ → List ThreadPath → List ThreadPath → LeftOut
+    → Bool → Type 0
+IsEnd code bounds rest wanted room before after out true =
+    IsAdded code bounds rest wanted room before after out
+IsEnd code bounds rest wanted room before after out false =
+    IsSame code bounds rest wanted room before after out

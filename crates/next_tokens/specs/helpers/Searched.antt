@@ -20,4 +20,6 @@ IsSearched text stuck = MatchOption stuck
 
 -- `left` is the number of words from their fault on, or none if they are a program
 abbrev pub IsLeft : List Word → Option ℕ → Type 0
-IsLeft words left = MatchOption left (AreProgram words) (λ n. (n ≤ length words) × IsSyntaxFault 3 words (length words - n))
+IsLeft words left =
+    MatchOption left (AreProgram words)
+    (λ n. (n ≤ length words) × IsSyntaxFault 3 words (length words - n))

@@ -95,7 +95,8 @@ abbrev pub read_byte : Reader → ℕ → Reader
 read_byte r b =
     if b == 32
     then end_word r
-    else (if b == 58 then end_field r else (if b == 46 then end_number r else read_digit r.field r b))
+    else (if b == 58 then end_field r
+    else (if b == 46 then end_number r else read_digit r.field r b))
 
 -- the words in some bytes
 abbrev pub words_in : List ℕ → Reader

@@ -1,10 +1,10 @@
-use Rattle.path_walk.specs.Paths.{paths_of}
-use Rattle.run_follows.specs.Follow.{moves_for}
-use Rattle.run_history.specs.History.{history}
+use Rattle.clap_system.specs.path_walk.Paths.{paths_of}
+use Rattle.plan_runs.specs.run_follows.Follow.{moves_for}
+use Rattle.plan_runs.specs.run_history.History.{history}
 use Rattle.run_lawful.proofs.Lawful.{is_lawful}
 use Rattle.run_lawful.specs.world.WorldOf.{world_in}
-use Rattle.sym_laws.specs.Valued.{found}
-use Rattle.world_plan.specs.Plan.{plan}
+use Rattle.plan_runs.specs.sym_laws.Valued.{found}
+use Rattle.plan_runs.specs.world_plan.Plan.{plan}
 use Rattle.plan_runs.proofs.Laws.{given}
 use Rattle.plan_runs.proofs.Runs.{plan_reproduces}
 use Rattle.orders_are_runs.proofs.orders_are_runs.Goals as goal

@@ -6,18 +6,18 @@ use Rattle.std.proofs.Math.Seq.{take-suc}
 use Rattle.std.proofs.lemmas.Bool.{cases_Bool, and_parts, eqb-true, eq-eqb, lt-ltb, ltb-true, false_from_ne_true}
 use Rattle.std.proofs.lemmas.List.{length-drop, length-map}
 use Rattle.std.proofs.lemmas.Option.{none-some, same_Some, slice_get_within, slice_get_cases, get_or_from_slice_get}
-use Rattle.tc_base.specs.Names.{Name}
-use Rattle.tc_base.specs.States.{Local}
-use Rattle.tc_base.specs.declared.request.Request.{Request}
-use Rattle.tc_base.specs.declared.request.Request.TheVariants.{Bar}
-use Rattle.tc_code.specs.Step.{request, site}
-use Rattle.tc_code.specs.declared.instr.Instr.{Instr}
-use Rattle.tc_code.specs.declared.instr.Instr.TheVariants.{Inside, Holds, Ready, Assert, Nonzero, InRange, Stbar}
-use Rattle.run_laws.proofs.Names.{is_same, same_self}
-use Rattle.run_history.specs.History.{Deed, Did, same}
-use Rattle.run_history.specs.Told.{steps_in}
-use Rattle.run_history.specs.pending.Deeds.{is_bar_between, has_bar_between}
-use Rattle.run_history.proofs.of_pending.In.{In, in_at, in_split, any_in, in_any}
+use Rattle.path_walk.specs.tc_base.Names.{Name}
+use Rattle.path_walk.specs.tc_base.States.{Local}
+use Rattle.path_walk.specs.tc_base.declared.request.Request.{Request}
+use Rattle.path_walk.specs.tc_base.declared.request.Request.TheVariants.{Bar}
+use Rattle.path_walk.specs.tc_code.Step.{request, site}
+use Rattle.path_walk.specs.tc_code.declared.instr.Instr.{Instr}
+use Rattle.path_walk.specs.tc_code.declared.instr.Instr.TheVariants.{Inside, Holds, Ready, Assert, Nonzero, InRange, Stbar}
+use Rattle.run_follows.proofs.run_laws.Names.{is_same, same_self}
+use Rattle.run_follows.specs.run_history.History.{Deed, Did, same}
+use Rattle.run_follows.specs.run_history.Told.{steps_in}
+use Rattle.run_follows.specs.run_history.pending.Deeds.{is_bar_between, has_bar_between}
+use Rattle.run_follows.proofs.run_history.of_pending.In.{In, in_at, in_split, any_in, in_any}
 use Rattle.path_walk.specs.Events.{kind_with}
 use Rattle.path_walk.specs.Fits.{fails_in}
 use Rattle.path_walk.specs.Marks.{Marks, marks_at_start, marks_after_instr, marks_after}

@@ -7,16 +7,16 @@ use Rattle.std.specs.List.{filter_map}
 use Rattle.std.proofs.lemmas.Bool.{lt-ltb}
 use Rattle.std.proofs.lemmas.List.{length-map}
 use Rattle.std.proofs.lemmas.Option.{none-some, same_Some, slice_get_within}
-use Rattle.run_log.specs.Logs.{Log}
-use Rattle.tc_base.specs.Names.{Name}
-use Rattle.tc_base.specs.States.{Thread}
-use Rattle.tc_base.specs.declared.request.Request.{Request}
-use Rattle.tc_code.specs.Code.{Code}
-use Rattle.run_laws.proofs.Names.{is_same, same_self}
-use Rattle.run_history.specs.History.{Deed, Did, Drained, same}
-use Rattle.run_history.specs.Told.{is_thread_in, steps_in}
-use Rattle.run_history.proofs.Threads.{none_done}
-use Rattle.run_history.proofs.of_pending.In.{In, in_at, in_split, in_filter, from_filter, in_mapped, from_mapped}
+use Rattle.path_walk.specs.run_log.Logs.{Log}
+use Rattle.path_walk.specs.tc_base.Names.{Name}
+use Rattle.path_walk.specs.tc_base.States.{Thread}
+use Rattle.path_walk.specs.tc_base.declared.request.Request.{Request}
+use Rattle.path_walk.specs.tc_code.Code.{Code}
+use Rattle.run_follows.proofs.run_laws.Names.{is_same, same_self}
+use Rattle.run_follows.specs.run_history.History.{Deed, Did, Drained, same}
+use Rattle.run_follows.specs.run_history.Told.{is_thread_in, steps_in}
+use Rattle.run_follows.proofs.run_history.Threads.{none_done}
+use Rattle.run_follows.proofs.run_history.of_pending.In.{In, in_at, in_split, in_filter, from_filter, in_mapped, from_mapped}
 use Rattle.path_walk.specs.Fits.{fails_in}
 use Rattle.path_walk.specs.Marks.{marks_at_start}
 use Rattle.path_walk.specs.Paths.{Walk}

@@ -3,13 +3,13 @@ use Rattle.std.proofs.Common.{◌≡◌, ◌∙◌, ℕ, ◌+◌, ◌≤◌, ◌
 use Rattle.std.proofs.Common.{Option, sym, ap, subst, arith, slice_index_or}
 use Rattle.std.specs.Prelude.{unwrap_or}
 use Rattle.std.proofs.lemmas.List.{length-map, length-replicate, take-map}
-use Rattle.tc_base.specs.Paths.{Path}
-use Rattle.tc_base.specs.Names.{Name}
-use Rattle.tc_base.specs.States.{Local, Thread}
-use Rattle.tc_code.specs.Code.{Code}
-use Rattle.tc_code.specs.Step.{holds, step_in_place}
-use Rattle.tc_code.proofs.Facts.{at_its_place}
-use Rattle.run_laws.proofs.Basics.{index_or-replicate}
+use Rattle.path_walk.specs.tc_base.Paths.{Path}
+use Rattle.path_walk.specs.tc_base.Names.{Name}
+use Rattle.path_walk.specs.tc_base.States.{Local, Thread}
+use Rattle.path_walk.specs.tc_code.Code.{Code}
+use Rattle.path_walk.specs.tc_code.Step.{holds, step_in_place}
+use Rattle.path_walk.proofs.tc_code.Facts.{at_its_place}
+use Rattle.run_follows.proofs.run_laws.Basics.{index_or-replicate}
 use Rattle.path_walk.specs.Fits.{fails_in}
 use Rattle.path_walk.specs.Marks.{marks_at_start, marks_after, has_mutex}
 use Rattle.path_walk.specs.Steps.{step_at, steps_at}

@@ -3,7 +3,7 @@ use Rattle.std.proofs.Common.{◌≡◌, ◌∙◌, inl, inr, ℕ, zero, suc, �
 use Rattle.std.specs.Prelude.{slice_get}
 use Rattle.std.specs.List.{AllByRecursion as Each, Contains, filter}
 use Rattle.std.proofs.lemmas.Option.{none-some, same_Some}
-use Rattle.run_history.proofs.of_pending.In.{In}
+use Rattle.run_follows.proofs.run_history.of_pending.In.{In}
 
 pub in_map : {X Y : Type 0} (f : X → Y) (x : X) (xs : List X) → In x xs → In (f x) (map f xs)
 in_map f x [] i = absurd i

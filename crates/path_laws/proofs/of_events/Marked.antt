@@ -5,13 +5,13 @@ use Rattle.std.specs.Prelude.{slice_get, unwrap_or, option_map}
 use Rattle.std.specs.List.{AllByRecursion as Each, cons_option, find}
 use Rattle.std.proofs.lemmas.Bool.{eq-eqb}
 use Rattle.std.proofs.lemmas.Option.{none-some, same_Some}
-use Rattle.tc_code.specs.Code.{Code, line_at}
+use Rattle.path_walk.specs.tc_code.Code.{Code, line_at}
 use Rattle.path_walk.specs.Steps.{Step}
 use Rattle.path_walk.specs.Marks.{Marks, Marked, marks_after_instr, marks_after, marked_from}
 use Rattle.path_walk.specs.Events.{kind_with, event_of, events_of}
 use Rattle.path_walk.specs.declared.event.Event.{Event}
 use Rattle.path_walk.specs.declared.event.EventKind.{EventKind}
-use Rattle.run_history.proofs.of_pending.In.{In, in_mapped}
+use Rattle.run_follows.proofs.run_history.of_pending.In.{In, in_mapped}
 use Rattle.path_laws.proofs.of_history.Places.{marked_at}
 use Rattle.path_laws.proofs.of_events.Lists.{in_place, each_of}
 

@@ -6,20 +6,20 @@ use Rattle.std.specs.FinMap as fin
 use Rattle.std.specs.List.{Contains, cons_option}
 use Rattle.std.proofs.lemmas.Bool.{false≢true, eqb-true}
 use Rattle.std.proofs.lemmas.Option.{none-some, same_Some}
-use Rattle.tc_base.specs.Names.{Name}
-use Rattle.tc_base.specs.States.{Thread}
-use Rattle.tc_base.specs.declared.request.Request.{Request}
-use Rattle.tc_base.specs.declared.request.Request.TheVariants.{Silent, Acquire, Release, BeginWait, EndWait}
-use Rattle.tc_code.specs.Code.{Code}
-use Rattle.tc_code.specs.Step.{holds}
-use Rattle.run_laws.proofs.Asks.{AsksOf}
-use Rattle.run_laws.proofs.Basics.{some_value}
-use Rattle.run_laws.proofs.Owners.{owners_hold}
-use Rattle.run_history.specs.History.{Deed, Did}
-use Rattle.run_history.specs.Told.{owner_by, owner_in, steps_in}
-use Rattle.run_history.proofs.Last.{owners_are_last}
+use Rattle.path_walk.specs.tc_base.Names.{Name}
+use Rattle.path_walk.specs.tc_base.States.{Thread}
+use Rattle.path_walk.specs.tc_base.declared.request.Request.{Request}
+use Rattle.path_walk.specs.tc_base.declared.request.Request.TheVariants.{Silent, Acquire, Release, BeginWait, EndWait}
+use Rattle.path_walk.specs.tc_code.Code.{Code}
+use Rattle.path_walk.specs.tc_code.Step.{holds}
+use Rattle.run_follows.proofs.run_laws.Asks.{AsksOf}
+use Rattle.run_follows.proofs.run_laws.Basics.{some_value}
+use Rattle.run_follows.proofs.run_laws.Owners.{owners_hold}
+use Rattle.run_follows.specs.run_history.History.{Deed, Did}
+use Rattle.run_follows.specs.run_history.Told.{owner_by, owner_in, steps_in}
+use Rattle.run_follows.proofs.run_history.Last.{owners_are_last}
 use Rattle.run_follows.proofs.of_deeds.Cells.{next_within}
-use Rattle.run_history.proofs.of_pending.In.{In}
+use Rattle.run_follows.proofs.run_history.of_pending.In.{In}
 use Rattle.path_walk.specs.Events.{acquired_mutex, release_step, regions_of}
 use Rattle.path_walk.specs.Fits.{fails_in}
 use Rattle.path_walk.specs.Marks.{marks_at_start, marks_after}

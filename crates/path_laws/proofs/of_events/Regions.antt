@@ -10,12 +10,12 @@ use Rattle.std.proofs.Math.Dec.{eqb-suc-zero}
 use Rattle.std.proofs.lemmas.Bool.{eqb-true, lt-ltb, le-ltb, ltb-true}
 use Rattle.std.proofs.lemmas.List.{length-set}
 use Rattle.std.proofs.lemmas.Option.{none-some, same_Some}
-use Rattle.list_laws.proofs.Options.{or_none}
-use Rattle.tc_code.specs.Code.{Code}
-use Rattle.tc_code.specs.declared.instr.Instr.{Instr}
-use Rattle.tc_code.specs.declared.instr.Instr.TheVariants.{Inside, Holds, Ready, Assert, Nonzero, InRange, Lock, Unlock, Sleep, Wake}
-use Rattle.run_history.proofs.Lists.{index_or-set}
-use Rattle.run_history.proofs.of_pending.In.{In}
+use Rattle.path_walk.proofs.list_laws.Options.{or_none}
+use Rattle.path_walk.specs.tc_code.Code.{Code}
+use Rattle.path_walk.specs.tc_code.declared.instr.Instr.{Instr}
+use Rattle.path_walk.specs.tc_code.declared.instr.Instr.TheVariants.{Inside, Holds, Ready, Assert, Nonzero, InRange, Lock, Unlock, Sleep, Wake}
+use Rattle.run_follows.proofs.run_history.Lists.{index_or-set}
+use Rattle.run_follows.proofs.run_history.of_pending.In.{In}
 use Rattle.path_walk.specs.Events.{kind_with, acquired_mutex, released_mutex, release_step, region_of, regions_of}
 use Rattle.path_walk.specs.Marks.{Marks, marks_after_instr, marks_after, has_mutex}
 use Rattle.path_walk.specs.Steps.{Step, is_site}

@@ -6,13 +6,13 @@ use Rattle.std.specs.Option.{option_map_or}
 use Rattle.std.proofs.lemmas.Bool.{and_parts, eqb-true, ltb-true}
 use Rattle.std.proofs.lemmas.List.{length-map}
 use Rattle.std.proofs.lemmas.Option.{none-some, same_Some, slice_get-map}
-use Rattle.run_log.specs.Logs.{Log}
-use Rattle.tc_base.specs.Paths.{Path}
-use Rattle.tc_code.specs.Code.{Code, instr_at}
-use Rattle.tc_code.specs.Lawful.{IsLawful}
-use Rattle.tc_code.specs.declared.instr.Instr.{Instr}
-use Rattle.tc_code.specs.declared.instr.Instr.TheVariants.{Lock, Wake, Exit}
-use Rattle.tc_code.proofs.Facts.{placed}
+use Rattle.path_walk.specs.run_log.Logs.{Log}
+use Rattle.path_walk.specs.tc_base.Paths.{Path}
+use Rattle.path_walk.specs.tc_code.Code.{Code, instr_at}
+use Rattle.path_walk.specs.tc_code.Lawful.{IsLawful}
+use Rattle.path_walk.specs.tc_code.declared.instr.Instr.{Instr}
+use Rattle.path_walk.specs.tc_code.declared.instr.Instr.TheVariants.{Lock, Wake, Exit}
+use Rattle.path_walk.proofs.tc_code.Facts.{placed}
 use Rattle.path_walk.specs.Events.{kind_with, acquired_mutex}
 use Rattle.path_walk.specs.Fits.{ending_of, fails_in}
 use Rattle.path_walk.specs.Marks.{Marks}

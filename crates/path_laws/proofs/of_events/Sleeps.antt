@@ -5,15 +5,15 @@ use Rattle.std.specs.Prelude.{slice_get, unwrap_or, option_map, option_and_then}
 use Rattle.std.specs.List.{cons_option}
 use Rattle.std.proofs.lemmas.List.{length-map}
 use Rattle.std.proofs.lemmas.Option.{none-some, same_Some}
-use Rattle.run_log.specs.Logs.{Log}
-use Rattle.tc_code.specs.Code.{Code, instr_at}
-use Rattle.tc_code.specs.Lawful.{IsLawful}
-use Rattle.tc_code.specs.declared.code.Func.{Func}
-use Rattle.tc_code.specs.declared.instr.Instr.{Instr}
-use Rattle.tc_code.specs.declared.instr.Instr.TheVariants as instr
-use Rattle.tc_code.specs.declared.instr.Instr.TheVariants.{Exit}
-use Rattle.tc_code.proofs.Facts.{placed}
-use Rattle.run_history.proofs.of_pending.In.{In}
+use Rattle.path_walk.specs.run_log.Logs.{Log}
+use Rattle.path_walk.specs.tc_code.Code.{Code, instr_at}
+use Rattle.path_walk.specs.tc_code.Lawful.{IsLawful}
+use Rattle.path_walk.specs.tc_code.declared.code.Func.{Func}
+use Rattle.path_walk.specs.tc_code.declared.instr.Instr.{Instr}
+use Rattle.path_walk.specs.tc_code.declared.instr.Instr.TheVariants as instr
+use Rattle.path_walk.specs.tc_code.declared.instr.Instr.TheVariants.{Exit}
+use Rattle.path_walk.proofs.tc_code.Facts.{placed}
+use Rattle.run_follows.proofs.run_history.of_pending.In.{In}
 use Rattle.path_walk.specs.Events.{kind_with, sleep_by, sleeps_of}
 use Rattle.path_walk.specs.Fits.{fails_in}
 use Rattle.path_walk.specs.Marks.{Marks, marks_at_start, marks_after_instr}

@@ -3,12 +3,12 @@ use Rattle.std.proofs.Common.{◌≡◌, ◌∙◌, ℕ, zero, suc, ◌+◌, ◌
 use Rattle.std.proofs.Common.{Option, None, refl, sym, ap, subst, arith}
 use Rattle.std.proofs.lemmas.List.Sums.{sum_by-append, sum_by-cons}
 use Rattle.std.proofs.lemmas.Option.{same_Some}
-use Rattle.tc_base.specs.Names.{Name}
-use Rattle.tc_base.specs.declared.request.Request.{Request}
-use Rattle.tc_code.specs.Step.{request}
-use Rattle.run_laws.proofs.Names.{is_same, same_self}
-use Rattle.run_history.specs.History.{Deed, Did, Drained, same}
-use Rattle.run_history.specs.Told.{is_step_of, steps_in, failed_in}
+use Rattle.path_walk.specs.tc_base.Names.{Name}
+use Rattle.path_walk.specs.tc_base.declared.request.Request.{Request}
+use Rattle.path_walk.specs.tc_code.Step.{request}
+use Rattle.run_follows.proofs.run_laws.Names.{is_same, same_self}
+use Rattle.run_follows.specs.run_history.History.{Deed, Did, Drained, same}
+use Rattle.run_follows.specs.run_history.Told.{is_step_of, steps_in, failed_in}
 use Rattle.run_follows.specs.Follow.{MayFollow}
 use Rattle.path_laws.specs.Setting.{Setting}
 use Rattle.path_laws.specs.history.Next.{IsNextOnPath}

@@ -7,23 +7,23 @@ use Rattle.std.specs.List.{Contains, filter_map, last_or}
 use Rattle.std.proofs.lemmas.Bool.{cases_lt, and_parts, eqb-true, eq-eqb}
 use Rattle.std.proofs.lemmas.List.Elements.{filter_map-append}
 use Rattle.std.proofs.lemmas.Option.{none-some, same_Some}
-use Rattle.list_laws.specs.Lists.{is_nil}
-use Rattle.tc_base.specs.Names.{Name}
-use Rattle.tc_base.specs.States.{Local, Thread}
-use Rattle.tc_base.specs.declared.request.Request.{Request}
-use Rattle.tc_base.specs.declared.request.Request.TheVariants.{Silent, BeginWait, EndWait, WakeOne, WakeAll, Start, Finish}
-use Rattle.tc_code.specs.Step.{request, instr_of, drains_first}
-use Rattle.store_buffers.specs.Pending.{stores}
-use Rattle.run_laws.proofs.Names.{is_same, same_self}
-use Rattle.run_laws.proofs.Waiters.{waiters_are_at_wake}
-use Rattle.run_history.specs.History.{Deed, Did, same, pending}
-use Rattle.run_history.specs.Last.{IsLast, waits_by}
-use Rattle.run_history.specs.Locals.{asks_next}
-use Rattle.run_history.specs.Told.{owner_in, waiting_in, steps_in, is_exit_of, has_exited_in}
-use Rattle.run_history.proofs.Last.{waiters_are_last}
+use Rattle.path_walk.specs.list_laws.Lists.{is_nil}
+use Rattle.path_walk.specs.tc_base.Names.{Name}
+use Rattle.path_walk.specs.tc_base.States.{Local, Thread}
+use Rattle.path_walk.specs.tc_base.declared.request.Request.{Request}
+use Rattle.path_walk.specs.tc_base.declared.request.Request.TheVariants.{Silent, BeginWait, EndWait, WakeOne, WakeAll, Start, Finish}
+use Rattle.path_walk.specs.tc_code.Step.{request, instr_of, drains_first}
+use Rattle.run_follows.specs.store_buffers.Pending.{stores}
+use Rattle.run_follows.proofs.run_laws.Names.{is_same, same_self}
+use Rattle.run_follows.proofs.run_laws.Waiters.{waiters_are_at_wake}
+use Rattle.run_follows.specs.run_history.History.{Deed, Did, same, pending}
+use Rattle.run_follows.specs.run_history.Last.{IsLast, waits_by}
+use Rattle.run_follows.specs.run_history.Locals.{asks_next}
+use Rattle.run_follows.specs.run_history.Told.{owner_in, waiting_in, steps_in, is_exit_of, has_exited_in}
+use Rattle.run_follows.proofs.run_history.Last.{waiters_are_last}
 use Rattle.run_follows.proofs.of_deeds.Cells.{next_within}
 use Rattle.run_follows.specs.Follow.{MayFollow, may_do_in}
-use Rattle.run_history.proofs.of_pending.In.{In, in_at, in_split, any_in, in_any}
+use Rattle.run_follows.proofs.run_history.of_pending.In.{In, in_at, in_split, any_in, in_any}
 use Rattle.path_walk.specs.declared.event.Event.{Event}
 use Rattle.path_walk.specs.declared.event.EventKind.TheVariants as kind
 use Rattle.path_walk.specs.declared.event.Sleep.{Sleep}

@@ -5,17 +5,17 @@ use Rattle.std.specs.Prelude.{slice_get, option_map, is_some}
 use Rattle.std.specs.FinMap as fin
 use Rattle.std.proofs.lemmas.List.{length-append}
 use Rattle.std.proofs.lemmas.Option.{none-some, same_Some, slice_get_within, option_and_then_some}
-use Rattle.tc_base.specs.Paths.{Path, path_under}
-use Rattle.tc_base.specs.Names.{Name, child}
-use Rattle.tc_base.specs.States.{Thread, State}
-use Rattle.tc_base.specs.declared.moves.Move.{Move}
-use Rattle.tc_base.proofs.Names.{parent_of}
-use Rattle.tc_code.specs.Run.{Reproduces, path_of}
-use Rattle.run_laws.proofs.Basics.{some_value}
-use Rattle.run_laws.proofs.Created.{reached_is_created}
-use Rattle.run_laws.proofs.Main.{main_is_there}
-use Rattle.run_history.specs.History.{history}
-use Rattle.run_history.specs.Told.{is_thread_in, steps_in}
+use Rattle.path_walk.specs.tc_base.Paths.{Path, path_under}
+use Rattle.path_walk.specs.tc_base.Names.{Name, child}
+use Rattle.path_walk.specs.tc_base.States.{Thread, State}
+use Rattle.path_walk.specs.tc_base.declared.moves.Move.{Move}
+use Rattle.path_walk.proofs.tc_base.Names.{parent_of}
+use Rattle.path_walk.specs.tc_code.Run.{Reproduces, path_of}
+use Rattle.run_follows.proofs.run_laws.Basics.{some_value}
+use Rattle.run_follows.proofs.run_laws.Created.{reached_is_created}
+use Rattle.run_follows.proofs.run_laws.Main.{main_is_there}
+use Rattle.run_follows.specs.run_history.History.{history}
+use Rattle.run_follows.specs.run_history.Told.{is_thread_in, steps_in}
 use Rattle.run_follows.specs.Logged.{path_by, path_told, EndsAsIn, GoesAsLogged}
 use Rattle.path_walk.specs.Fits.{started, places_in, child_function, function_of}
 use Rattle.path_walk.specs.Paths.{Walk}

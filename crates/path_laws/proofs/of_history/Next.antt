@@ -7,17 +7,17 @@ use Rattle.std.specs.Bool.{beq}
 use Rattle.std.proofs.lemmas.Bool.{false_from_ne_true}
 use Rattle.std.proofs.lemmas.List.{append_cancel_left, length-drop, length-map, take-map}
 use Rattle.std.proofs.lemmas.Option.{none-some, same_Some, slice_get-map, slice_get_within}
-use Rattle.tc_base.specs.Paths.{Path}
-use Rattle.tc_base.specs.States.{Local, Thread}
-use Rattle.tc_base.specs.declared.handle.Handle.TheVariants.{Unset}
-use Rattle.tc_code.specs.Code.{Code, instr_at}
-use Rattle.tc_code.specs.Step.{request, can_be_joined, instr_of}
-use Rattle.tc_code.specs.declared.instr.Instr.{Instr}
-use Rattle.tc_code.specs.declared.instr.Instr.TheVariants.{Holds, Lock, Ready, Exit}
-use Rattle.run_laws.proofs.Exits.{exited_past_exit}
-use Rattle.run_history.specs.History.{Deed}
-use Rattle.run_history.specs.Locals.{asks_next}
-use Rattle.run_history.specs.Told.{is_thread_in, steps_in, failed_in}
+use Rattle.path_walk.specs.tc_base.Paths.{Path}
+use Rattle.path_walk.specs.tc_base.States.{Local, Thread}
+use Rattle.path_walk.specs.tc_base.declared.handle.Handle.TheVariants.{Unset}
+use Rattle.path_walk.specs.tc_code.Code.{Code, instr_at}
+use Rattle.path_walk.specs.tc_code.Step.{request, can_be_joined, instr_of}
+use Rattle.path_walk.specs.tc_code.declared.instr.Instr.{Instr}
+use Rattle.path_walk.specs.tc_code.declared.instr.Instr.TheVariants.{Holds, Lock, Ready, Exit}
+use Rattle.run_follows.proofs.run_laws.Exits.{exited_past_exit}
+use Rattle.run_follows.specs.run_history.History.{Deed}
+use Rattle.run_follows.specs.run_history.Locals.{asks_next}
+use Rattle.run_follows.specs.run_history.Told.{is_thread_in, steps_in, failed_in}
 use Rattle.path_walk.specs.Events.{excludes, is_impossible}
 use Rattle.path_walk.specs.Fits.{fails_in, places_in}
 use Rattle.path_walk.specs.Marks.{Marks, marks_at_start, marks_after, marked_steps}

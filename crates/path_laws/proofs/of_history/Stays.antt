@@ -10,27 +10,27 @@ use Rattle.std.proofs.lemmas.List.{map-append}
 use Rattle.std.proofs.lemmas.List.Elements.{filter_map-append}
 use Rattle.std.proofs.lemmas.List.Sums.{fold-append}
 use Rattle.std.proofs.lemmas.Option.{none-some, same_Some}
-use Rattle.run_log.specs.Logs.{Log}
-use Rattle.tc_base.specs.Paths.{Path, path_under}
-use Rattle.tc_base.specs.Names.{Name, ByName, child, by_name}
-use Rattle.tc_base.specs.States.{Local}
-use Rattle.tc_base.specs.declared.request.Request.{Request}
-use Rattle.tc_base.specs.declared.request.Request.TheVariants.{Silent, Start, Fail}
-use Rattle.tc_base.proofs.Names.{same_refl}
-use Rattle.tc_code.specs.Code.{Code}
-use Rattle.tc_code.specs.Step.{request, instr_of, arguments_of, local_after, step_by_branch, is_nonzero, value_in}
-use Rattle.tc_code.specs.declared.instr.Instr.{Instr}
-use Rattle.tc_code.specs.declared.instr.Instr.TheVariants.{Branch, Exit}
-use Rattle.run_laws.proofs.Names.{get_put_cases}
-use Rattle.run_history.specs.History.{Deed, Did, Drained}
-use Rattle.run_history.specs.Locals.{born_local, after_step, with_child, after_deed, locals_in}
-use Rattle.run_history.specs.Told.{steps_in, fails, failed_in}
-use Rattle.run_history.proofs.Lists.{last_of-push}
-use Rattle.run_history.proofs.Threads.{steps_by}
+use Rattle.path_walk.specs.run_log.Logs.{Log}
+use Rattle.path_walk.specs.tc_base.Paths.{Path, path_under}
+use Rattle.path_walk.specs.tc_base.Names.{Name, ByName, child, by_name}
+use Rattle.path_walk.specs.tc_base.States.{Local}
+use Rattle.path_walk.specs.tc_base.declared.request.Request.{Request}
+use Rattle.path_walk.specs.tc_base.declared.request.Request.TheVariants.{Silent, Start, Fail}
+use Rattle.path_walk.proofs.tc_base.Names.{same_refl}
+use Rattle.path_walk.specs.tc_code.Code.{Code}
+use Rattle.path_walk.specs.tc_code.Step.{request, instr_of, arguments_of, local_after, step_by_branch, is_nonzero, value_in}
+use Rattle.path_walk.specs.tc_code.declared.instr.Instr.{Instr}
+use Rattle.path_walk.specs.tc_code.declared.instr.Instr.TheVariants.{Branch, Exit}
+use Rattle.run_follows.proofs.run_laws.Names.{get_put_cases}
+use Rattle.run_follows.specs.run_history.History.{Deed, Did, Drained}
+use Rattle.run_follows.specs.run_history.Locals.{born_local, after_step, with_child, after_deed, locals_in}
+use Rattle.run_follows.specs.run_history.Told.{steps_in, fails, failed_in}
+use Rattle.run_follows.proofs.run_history.Lists.{last_of-push}
+use Rattle.run_follows.proofs.run_history.Threads.{steps_by}
 use Rattle.run_follows.specs.Machine.{Machine}
 use Rattle.run_follows.specs.Follow.{MayFollow}
 use Rattle.run_follows.proofs.Follows.{nothing_follows, follow_push}
-use Rattle.list_laws.proofs.Lists.{split_at, get_seam}
+use Rattle.path_walk.proofs.list_laws.Lists.{split_at, get_seam}
 use Rattle.path_walk.specs.Fits.{starts, started, ending_of, fails_in, child_function, function_of, Fits}
 use Rattle.path_walk.specs.Paths.{Walk}
 use Rattle.path_walk.specs.Steps.{Step, is_failing, places_if_well_ended, places_from, places_of, step_at, steps_at}

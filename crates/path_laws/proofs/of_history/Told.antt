@@ -4,18 +4,18 @@ use Rattle.std.specs.Prelude.{option_map, option_and_then}
 use Rattle.std.specs.FinMap as fin
 use Rattle.std.proofs.lemmas.List.{map-append}
 use Rattle.std.proofs.lemmas.Option.{none-some, same_Some}
-use Rattle.run_log.specs.Logs.{Log}
-use Rattle.tc_base.specs.Names.{Name}
-use Rattle.tc_base.specs.States.{Local, Thread, State}
-use Rattle.tc_base.specs.declared.moves.Move.{Move}
-use Rattle.tc_code.specs.Run.{run, run_from, IsReached, Reproduces}
-use Rattle.tc_code.specs.Step.{opening}
-use Rattle.tc_code.proofs.Facts.{run_from-append}
-use Rattle.run_laws.proofs.Basics.{some_value}
-use Rattle.run_history.specs.History.{Deed, history}
-use Rattle.run_history.specs.Locals.{locals_in}
-use Rattle.run_history.specs.Told.{is_thread_in, steps_in, failed_in}
-use Rattle.run_history.proofs.Threads.{number_is}
+use Rattle.path_walk.specs.run_log.Logs.{Log}
+use Rattle.path_walk.specs.tc_base.Names.{Name}
+use Rattle.path_walk.specs.tc_base.States.{Local, Thread, State}
+use Rattle.path_walk.specs.tc_base.declared.moves.Move.{Move}
+use Rattle.path_walk.specs.tc_code.Run.{run, run_from, IsReached, Reproduces}
+use Rattle.path_walk.specs.tc_code.Step.{opening}
+use Rattle.path_walk.proofs.tc_code.Facts.{run_from-append}
+use Rattle.run_follows.proofs.run_laws.Basics.{some_value}
+use Rattle.run_follows.specs.run_history.History.{Deed, history}
+use Rattle.run_follows.specs.run_history.Locals.{locals_in}
+use Rattle.run_follows.specs.run_history.Told.{is_thread_in, steps_in, failed_in}
+use Rattle.run_follows.proofs.run_history.Threads.{number_is}
 use Rattle.run_follows.specs.Machine.{Machine}
 use Rattle.run_follows.specs.Follow.{move_for, moves_for}
 use Rattle.run_follows.proofs.Enabled.{Tells}

@@ -8,14 +8,14 @@ use Rattle.std.specs.Result.{result_unwrap_or}
 use Rattle.std.proofs.lemmas.Bool.{false_from_ne_true}
 use Rattle.std.proofs.lemmas.List.Folds.{list_any_at}
 use Rattle.std.proofs.lemmas.Option.{none-some, same_Some, slice_get-map, slice_get_within, get_or_from_slice_get}
-use Rattle.run_log.specs.Logs.{Log}
-use Rattle.tc_base.specs.Paths.{Path, ThreadPath, path_under}
-use Rattle.tc_base.specs.Names.{Name}
-use Rattle.tc_base.specs.States.{Thread}
-use Rattle.tc_code.specs.Code.{Code}
-use Rattle.run_history.specs.Told.{is_thread_in, steps_in}
-use Rattle.run_history.proofs.Threads.{none_done}
-use Rattle.run_log.specs.Logs.{is_log}
+use Rattle.path_walk.specs.run_log.Logs.{Log}
+use Rattle.path_walk.specs.tc_base.Paths.{Path, ThreadPath, path_under}
+use Rattle.path_walk.specs.tc_base.Names.{Name}
+use Rattle.path_walk.specs.tc_base.States.{Thread}
+use Rattle.path_walk.specs.tc_code.Code.{Code}
+use Rattle.run_follows.specs.run_history.Told.{is_thread_in, steps_in}
+use Rattle.run_follows.proofs.run_history.Threads.{none_done}
+use Rattle.path_walk.specs.run_log.Logs.{is_log}
 use Rattle.path_walk.specs.Events.{events_of, regions_of, sleeps_of, is_impossible}
 use Rattle.path_walk.specs.Fits.{ending_of, fails_in, places_in, function_of, Fits}
 use Rattle.path_walk.specs.Marks.{marks_at_start, marks_after, marked_steps}

@@ -2,8 +2,8 @@
 use Rattle.std.proofs.Common.{◌≡◌, ◌∙◌, ◌++◌, Some, Ok, sym, ap, ap₂, subst, arith, append-nil, length, take}
 use Rattle.std.specs.FinMap as fin
 use Rattle.std.proofs.lemmas.List.{take_all}
-use Rattle.tc_base.specs.Paths.{Path}
-use Rattle.tc_base.specs.States.{Thread}
+use Rattle.path_walk.specs.tc_base.Paths.{Path}
+use Rattle.path_walk.specs.tc_base.States.{Thread}
 use Rattle.run_follows.specs.Logged.{path_by}
 use Rattle.path_walk.specs.Steps.{places_from}
 use Rattle.path_laws.specs.Setting.{Setting}

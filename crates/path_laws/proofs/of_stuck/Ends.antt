@@ -6,15 +6,15 @@ use Rattle.std.specs.List.{cons_option}
 use Rattle.std.specs.Option.{option_map_or}
 use Rattle.std.proofs.lemmas.List.{length-map, map-append}
 use Rattle.std.proofs.lemmas.Option.{none-some, same_Some}
-use Rattle.run_log.specs.Logs.{Log}
-use Rattle.tc_code.specs.Code.{Code, instr_at, line_at}
-use Rattle.tc_code.specs.Lawful.{IsLawful, is_bound, target}
-use Rattle.tc_code.specs.declared.code.Func.{Func}
-use Rattle.tc_code.specs.declared.instr.Instr.{Instr}
-use Rattle.tc_code.specs.declared.instr.Instr.TheVariants.{Branch, Goto, Sleep, Wake, Exit}
-use Rattle.tc_code.proofs.Facts.{placed}
-use Rattle.run_history.proofs.Lists.{filter_map-push}
-use Rattle.list_laws.proofs.Lists.{get_seam}
+use Rattle.path_walk.specs.run_log.Logs.{Log}
+use Rattle.path_walk.specs.tc_code.Code.{Code, instr_at, line_at}
+use Rattle.path_walk.specs.tc_code.Lawful.{IsLawful, is_bound, target}
+use Rattle.path_walk.specs.tc_code.declared.code.Func.{Func}
+use Rattle.path_walk.specs.tc_code.declared.instr.Instr.{Instr}
+use Rattle.path_walk.specs.tc_code.declared.instr.Instr.TheVariants.{Branch, Goto, Sleep, Wake, Exit}
+use Rattle.path_walk.proofs.tc_code.Facts.{placed}
+use Rattle.run_follows.proofs.run_history.Lists.{filter_map-push}
+use Rattle.path_walk.proofs.list_laws.Lists.{get_seam}
 use Rattle.path_walk.specs.Events.{asks, event_of, events_of, sleep_by, sleeps_of, last_sleep, blocked_at}
 use Rattle.path_walk.specs.Fits.{ending_of}
 use Rattle.path_walk.specs.Marks.{Marks, Marked, marks_at_start, marks_after, marked_from, marked_steps}

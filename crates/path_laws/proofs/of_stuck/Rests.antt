@@ -6,22 +6,22 @@ use Rattle.std.specs.Option.{option_map_or}
 use Rattle.std.specs.FinMap as fin
 use Rattle.std.proofs.lemmas.Bool.{cases_Bool}
 use Rattle.std.proofs.lemmas.Option.{none-some, same_Some}
-use Rattle.run_log.specs.Logs.{Log}
-use Rattle.tc_base.specs.Paths.{Path, ThreadPath, place_in}
-use Rattle.tc_base.specs.Names.{Name}
-use Rattle.tc_base.specs.States.{Local, Thread}
-use Rattle.tc_base.specs.declared.failing.Failing.TheVariants.{Deadlock}
-use Rattle.tc_base.specs.declared.handle.Handle.TheVariants.{Unset}
-use Rattle.tc_base.specs.declared.request.Request.TheVariants.{Await}
-use Rattle.tc_code.specs.Code.{Code, instr_at}
-use Rattle.tc_code.specs.Step.{request, child_number, instr_of}
-use Rattle.tc_code.specs.declared.instr.Instr.{Instr}
-use Rattle.tc_code.specs.declared.instr.Instr.TheVariants.{Lock, Wake, Join}
-use Rattle.tc_code.proofs.Facts.{at_its_place}
-use Rattle.run_laws.proofs.Basics.{unless, some_is, some_value}
-use Rattle.run_laws.proofs.Exits.{exited_past_exit, has_next}
-use Rattle.run_history.specs.Locals.{asks_next}
-use Rattle.run_history.specs.Told.{has_exited_in, is_thread_in}
+use Rattle.path_walk.specs.run_log.Logs.{Log}
+use Rattle.path_walk.specs.tc_base.Paths.{Path, ThreadPath, place_in}
+use Rattle.path_walk.specs.tc_base.Names.{Name}
+use Rattle.path_walk.specs.tc_base.States.{Local, Thread}
+use Rattle.path_walk.specs.tc_base.declared.failing.Failing.TheVariants.{Deadlock}
+use Rattle.path_walk.specs.tc_base.declared.handle.Handle.TheVariants.{Unset}
+use Rattle.path_walk.specs.tc_base.declared.request.Request.TheVariants.{Await}
+use Rattle.path_walk.specs.tc_code.Code.{Code, instr_at}
+use Rattle.path_walk.specs.tc_code.Step.{request, child_number, instr_of}
+use Rattle.path_walk.specs.tc_code.declared.instr.Instr.{Instr}
+use Rattle.path_walk.specs.tc_code.declared.instr.Instr.TheVariants.{Lock, Wake, Join}
+use Rattle.path_walk.proofs.tc_code.Facts.{at_its_place}
+use Rattle.run_follows.proofs.run_laws.Basics.{unless, some_is, some_value}
+use Rattle.run_follows.proofs.run_laws.Exits.{exited_past_exit, has_next}
+use Rattle.run_follows.specs.run_history.Locals.{asks_next}
+use Rattle.run_follows.specs.run_history.Told.{has_exited_in, is_thread_in}
 use Rattle.run_follows.specs.Logged.{path_by}
 use Rattle.path_walk.specs.Events.{blocked_at}
 use Rattle.path_walk.specs.Fits.{ending_by, ending_of}

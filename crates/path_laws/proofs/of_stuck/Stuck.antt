@@ -3,12 +3,12 @@ use Rattle.std.proofs.Common.{◌≡◌, ◌∙◌, true, List, Some, sym, ap, s
 use Rattle.std.specs.Prelude.{option_map}
 use Rattle.std.specs.FinMap as fin
 use Rattle.std.proofs.lemmas.Option.{same_Some}
-use Rattle.tc_base.specs.declared.failing.Failing.TheVariants.{Deadlock}
-use Rattle.tc_base.specs.declared.moves.Move.{Move}
-use Rattle.tc_code.specs.Run.{EndsAs, Reproduces}
-use Rattle.run_laws.proofs.Basics.{some_is}
-use Rattle.run_history.specs.History.{Deed, history}
-use Rattle.run_history.specs.Locals.{asks_next}
+use Rattle.path_walk.specs.tc_base.declared.failing.Failing.TheVariants.{Deadlock}
+use Rattle.path_walk.specs.tc_base.declared.moves.Move.{Move}
+use Rattle.path_walk.specs.tc_code.Run.{EndsAs, Reproduces}
+use Rattle.run_follows.proofs.run_laws.Basics.{some_is}
+use Rattle.run_follows.specs.run_history.History.{Deed, history}
+use Rattle.run_follows.specs.run_history.Locals.{asks_next}
 use Rattle.run_follows.specs.Follow.{IsLeftIn}
 use Rattle.run_follows.specs.blocked.Stuck.{IsBlockedIn, IsDeadlockIn}
 use Rattle.run_follows.proofs.of_blocked.Stuck.{deadlock_told}
@@ -18,7 +18,7 @@ use Rattle.path_laws.specs.history.Along.{HasDoneAll, PathThread}
 use Rattle.path_laws.proofs.of_history.Logged.{is_there, has_done, history_again}
 use Rattle.path_laws.specs.stuck.Blocked.{asked_at, IsBlockedAt}
 use Rattle.path_laws.proofs.of_stuck.Rests.{mapped_from, asks_blocked, left_blocked}
-use Rattle.run_history.specs.Told.{is_thread_in}
+use Rattle.run_follows.specs.run_history.Told.{is_thread_in}
 
 module _ {B : Type 0} (setting : Setting B) (dead : setting.log.failing ≡ Deadlock) (moves : List Move)
     (again : Reproduces setting.ops setting.code setting.log moves) where

@@ -1,11 +1,11 @@
 -- The events, regions and sleeps of paths in a history.
 use Rattle.std.specs.Prelude.{◌≡◌, ℕ, ◌<◌, ◌≤◌, ℤ, Option, Some, List, [], ◌∷◌, ◌++◌}
 use Rattle.std.specs.List.{filter_map}
-use Rattle.tc_base.specs.Names.{Name}
-use Rattle.tc_base.specs.declared.request.Request.{Request}
-use Rattle.tc_base.specs.declared.request.Request.TheVariants.{BeginWait}
-use Rattle.run_history.specs.History.{Deed, Did}
-use Rattle.run_history.specs.Last.{waits_by}
+use Rattle.path_walk.specs.tc_base.Names.{Name}
+use Rattle.path_walk.specs.tc_base.declared.request.Request.{Request}
+use Rattle.path_walk.specs.tc_base.declared.request.Request.TheVariants.{BeginWait}
+use Rattle.run_follows.specs.run_history.History.{Deed, Did}
+use Rattle.run_follows.specs.run_history.Last.{waits_by}
 use Rattle.path_walk.specs.declared.event.EventKind.{EventKind}
 use Rattle.path_walk.specs.declared.event.Region.{Region}
 use Rattle.path_walk.specs.declared.event.Sleep.{Sleep}

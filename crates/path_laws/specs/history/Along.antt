@@ -1,13 +1,13 @@
 -- Histories along the paths of a log.
 use Rattle.std.specs.Prelude.{◌≡◌, ℕ, true, Some, List, length, slice_get}
 use Rattle.std.specs.FinMap as fin
-use Rattle.run_log.specs.Logs.{Log}
-use Rattle.tc_base.specs.Names.{Name}
-use Rattle.tc_base.specs.States.{Local}
-use Rattle.tc_code.specs.Code.{Code}
-use Rattle.run_history.specs.History.{Deed}
-use Rattle.run_history.specs.Locals.{locals_in}
-use Rattle.run_history.specs.Told.{is_thread_in, steps_in, failed_in}
+use Rattle.path_walk.specs.run_log.Logs.{Log}
+use Rattle.path_walk.specs.tc_base.Names.{Name}
+use Rattle.path_walk.specs.tc_base.States.{Local}
+use Rattle.path_walk.specs.tc_code.Code.{Code}
+use Rattle.run_follows.specs.run_history.History.{Deed}
+use Rattle.run_follows.specs.run_history.Locals.{locals_in}
+use Rattle.run_follows.specs.run_history.Told.{is_thread_in, steps_in, failed_in}
 use Rattle.run_follows.specs.Machine.{Machine}
 use Rattle.run_follows.specs.Follow.{AllFollow}
 use Rattle.path_walk.specs.Fits.{Fits}
@@ -17,7 +17,8 @@ use Rattle.path_laws.specs.Setting.{Setting}
 
 -- every thread of a history has followed a prefix of its path in a log
 abbrev pub AreOnPathsIn : Code → Log → List Deed → Type 0
-AreOnPathsIn code log h = (n : Name) (t : Local) → fin.get (locals_in code h) n ≡ Some t → IsOnPath log (failed_in h) n t
+AreOnPathsIn code log h =
+    (n : Name) (t : Local) → fin.get (locals_in code h) n ≡ Some t → IsOnPath log (failed_in h) n t
 
 -- a history along the paths: each deed may follow those before it, and no thread leaves its path
 pub record IsAlongPaths {B : Type 0} (m : Machine B) (log : Log) (h : List Deed) : Type 0 where
@@ -42,7 +43,8 @@ pub record PathThread (code : Code) (log : Log) : Type 0 where
   pub there : IsThread code log index walk
 
 -- the thread with this walk at an index of the paths
-abbrev pub path_thread : {code : Code} {log : Log} (j : ℕ) (w : Walk) → IsThread code log j w → PathThread code log
+abbrev pub path_thread : {code : Code} {log : Log} (j : ℕ) (w : Walk) → IsThread code log j w
+    → PathThread code log
 path_thread j w there = record { index = j; walk = w; there = there }
 
 -- the name belongs to a thread of the paths

@@ -1,17 +1,17 @@
 -- The next step of a thread on its path.
 use Rattle.std.specs.Prelude.{◌≡◌, ℕ, ◌+◌, ◌==◌, Bool, false, not, ◌&&◌, List, ◌++◌, length, Option, Some, None, slice_get, if◌then◌else◌}
 use Rattle.std.specs.FinMap as fin
-use Rattle.run_log.specs.Logs.{Log}
-use Rattle.tc_base.specs.Names.{Name}
-use Rattle.tc_base.specs.States.{Local}
-use Rattle.tc_code.specs.Code.{Code, instr_at}
-use Rattle.tc_code.specs.Expr.{Expr}
-use Rattle.tc_code.specs.Step.{holds, handle_of, can_be_joined, instr_of, is_nonzero, value_in}
-use Rattle.tc_code.specs.declared.instr.Instr.{Instr}
-use Rattle.tc_code.specs.declared.instr.Instr.TheVariants.{Branch, Holds, Lock, Ready}
-use Rattle.run_history.specs.History.{Deed}
-use Rattle.run_history.specs.Locals.{locals_in}
-use Rattle.run_history.specs.Told.{steps_in}
+use Rattle.path_walk.specs.run_log.Logs.{Log}
+use Rattle.path_walk.specs.tc_base.Names.{Name}
+use Rattle.path_walk.specs.tc_base.States.{Local}
+use Rattle.path_walk.specs.tc_code.Code.{Code, instr_at}
+use Rattle.path_walk.specs.tc_code.Expr.{Expr}
+use Rattle.path_walk.specs.tc_code.Step.{holds, handle_of, can_be_joined, instr_of, is_nonzero, value_in}
+use Rattle.path_walk.specs.tc_code.declared.instr.Instr.{Instr}
+use Rattle.path_walk.specs.tc_code.declared.instr.Instr.TheVariants.{Branch, Holds, Lock, Ready}
+use Rattle.run_follows.specs.run_history.History.{Deed}
+use Rattle.run_follows.specs.run_history.Locals.{locals_in}
+use Rattle.run_follows.specs.run_history.Told.{steps_in}
 use Rattle.path_walk.specs.Fits.{fails_in}
 use Rattle.path_walk.specs.Paths.{Walk}
 
@@ -46,4 +46,6 @@ IsAsWanted fails t _ = Unit {0}
 
 -- a branch takes the next outcome of the path
 abbrev pub BranchesAlong : Walk → Local → Instr → Type 0
-BranchesAlong w t i = (e : Expr) (to : ℕ) → i ≡ Branch e to → slice_get w.outcomes (length t.outcomes) ≡ Some (is_nonzero (value_in t e))
+BranchesAlong w t i =
+    (e : Expr) (to : ℕ) → i ≡ Branch e to
+    → slice_get w.outcomes (length t.outcomes) ≡ Some (is_nonzero (value_in t e))

@@ -1,10 +1,10 @@
 -- What blocks a thread in a deadlock, by its path.
 use Rattle.std.specs.Prelude.{◌≡◌, ℕ, ◌+◌, ◌-◌, List, length, Some, None, slice_get}
-use Rattle.tc_base.specs.declared.request.Request.{Request}
-use Rattle.tc_base.specs.declared.request.Request.TheVariants.{Acquire, EndWait, Await}
-use Rattle.tc_code.specs.Code.{Code}
-use Rattle.run_history.specs.History.{Deed}
-use Rattle.run_history.specs.Locals.{asks_next}
+use Rattle.path_walk.specs.tc_base.declared.request.Request.{Request}
+use Rattle.path_walk.specs.tc_base.declared.request.Request.TheVariants.{Acquire, EndWait, Await}
+use Rattle.path_walk.specs.tc_code.Code.{Code}
+use Rattle.run_follows.specs.run_history.History.{Deed}
+use Rattle.run_follows.specs.run_history.Locals.{asks_next}
 use Rattle.run_follows.specs.blocked.Stuck.{IsBlockedIn}
 use Rattle.path_walk.specs.Paths.{Walk}
 use Rattle.path_walk.specs.declared.event.Blocked.{Blocked}

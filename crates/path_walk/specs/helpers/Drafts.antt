@@ -46,7 +46,8 @@ added d c found = record {
 }
 
 abbrev pub no_draft : Draft
-no_draft = record { threads = []; started = []; events = 0; operators = 0; dead = false; missing = None }
+no_draft =
+    record { threads = []; started = []; events = 0; operators = 0; dead = false; missing = None }
 
 -- the option has a name, and n isn't less than it
 abbrev pub IsAtLeast : Option Name → Name → Type 0
@@ -61,9 +62,11 @@ pub record IsAbsentChild (log : Log) (parent : Name) (count : ℕ) (n : Name) : 
   pub absent : path_under n log.threads ≡ None
 
 -- the first of the parent's first `count` children that isn't in the log, if any
-pub record IsFirstAbsent (log : Log) (parent : Name) (count : ℕ) (found : Option Name) : Type 0 where
+pub record IsFirstAbsent (log : Log) (parent : Name) (count : ℕ)
+    (found : Option Name) : Type 0 where
   pub absent : IfSome found (IsAbsentChild log parent count)
-  pub first : (j : ℕ) → j < count → path_under (child parent (j + 1)) log.threads ≡ None → IsAtLeast found (child parent (j + 1))
+  pub first : (j : ℕ) → j < count → path_under (child parent (j + 1)) log.threads ≡ None
+      → IsAtLeast found (child parent (j + 1))
 
 -- the fault of a thread, unless a missing child has a lesser name: then that fault
 abbrev pub first_fault : Option Name → Name → Misfit → WalkFault
@@ -89,19 +92,25 @@ pub record IsDraft (code : Code) (log : Log) (d : Draft) : Type 0 where
   pub rises : rises_from None log.threads ≡ true
   pub main : IsSome (path_under [] log.threads)
   pub threads : d.threads ≡ map (walk_of code log) (take (length d.threads) log.threads)
-  pub started : d.started ≡ map (λ t. started (steps_in code log t)) (take (length d.threads) log.threads)
-  pub events : d.events ≡ sum (map (λ t. length (walk_of code log t).events) (take (length d.threads) log.threads))
+  pub started : d.started ≡ map (λ t. started (steps_in code log t))
+      (take (length d.threads) log.threads)
+  pub events : d.events ≡ sum
+      (map (λ t. length (walk_of code log t).events) (take (length d.threads) log.threads))
   pub few : d.events ≤ 65536 * length d.threads
-  pub operators : d.operators ≡ saturated_count (sum (map (operators_in code log) (take (length d.threads) log.threads)))
+  pub operators : d.operators ≡ saturated_count
+      (sum (map (operators_in code log) (take (length d.threads) log.threads)))
   pub dead : d.dead ≡ list_any (is_dead code log) (take (length d.threads) log.threads)
-  pub fit : (n : Name) → IsSome (path_under n (take (length d.threads) log.threads)) → misfit_of code log n ≡ None
+  pub fit : (n : Name) → IsSome (path_under n (take (length d.threads) log.threads))
+      → misfit_of code log n ≡ None
   pub missing : IfSome d.missing (IsMissing code log (take (length d.threads) log.threads))
-  pub least : (n : Name) → IsMissing code log (take (length d.threads) log.threads) n → IsAtLeast d.missing n
+  pub least : (n : Name) → IsMissing code log (take (length d.threads) log.threads) n
+      → IsAtLeast d.missing n
 
 -- the function of a child, counted from 1, of the thread at an index
 abbrev pub started_at : List (List ℕ) → ℕ → ℕ → Option ℕ
 started_at started place zero = None
-started_at started place (suc k) = option_and_then (λ functions. slice_get functions k) (slice_get started place)
+started_at started place (suc k) =
+    option_and_then (λ functions. slice_get functions k) (slice_get started place)
 
 -- the paths that a complete draft gives
 abbrev pub paths_by : Draft → Failing → Paths

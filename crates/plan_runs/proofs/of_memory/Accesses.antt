@@ -5,35 +5,35 @@ use Rattle.std.specs.Prelude.{slice_get}
 use Rattle.std.specs.List.{Contains}
 use Rattle.std.specs.Option.{option_eq}
 use Rattle.std.proofs.lemmas.Bool.{and_from, or_right}
-use Rattle.tc_base.specs.Names.{Name}
-use Rattle.tc_base.specs.declared.request.Request.TheVariants.{Write}
-use Rattle.run_history.specs.History.{Deed}
-use Rattle.run_history.specs.pending.Deeds.{IsIssuedIn}
-use Rattle.path_walk.specs.Paths.{Walk, paths_of}
-use Rattle.path_walk.specs.declared.event.Event.{Event}
-use Rattle.path_walk.specs.declared.event.EventKind.TheVariants as kind
-use Rattle.path_laws.specs.Setting.{Setting}
-use Rattle.path_laws.specs.history.Along.{IsThread, PathThread}
-use Rattle.path_laws.proofs.of_history.Walks.{thread_path_at}
-use Rattle.path_laws.proofs.of_events.Lists.{contains_in}
-use Rattle.path_laws.proofs.of_events.Steps.{step_is}
-use Rattle.sym_terms.specs.declared.node.Node.{Node}
-use Rattle.sym_exec.specs.Alone.{Asked, asked_in, cell_by}
-use Rattle.sym_exec.specs.Executed.{Course}
-use Rattle.sym_exec.specs.declared.symbolic.Access.{Access}
-use Rattle.sym_laws.specs.Valued.{found}
-use Rattle.sym_laws.proofs.Follows.{found_at_log}
+use Rattle.condition_order.specs.tc_base.Names.{Name}
+use Rattle.condition_order.specs.tc_base.declared.request.Request.TheVariants.{Write}
+use Rattle.sym_steps.specs.run_history.History.{Deed}
+use Rattle.sym_steps.specs.run_history.pending.Deeds.{IsIssuedIn}
+use Rattle.condition_order.specs.path_walk.Paths.{Walk, paths_of}
+use Rattle.condition_order.specs.path_walk.declared.event.Event.{Event}
+use Rattle.condition_order.specs.path_walk.declared.event.EventKind.TheVariants as kind
+use Rattle.sym_steps.specs.path_laws.Setting.{Setting}
+use Rattle.sym_steps.specs.path_laws.history.Along.{IsThread, PathThread}
+use Rattle.sym_steps.proofs.path_laws.of_history.Walks.{thread_path_at}
+use Rattle.sym_steps.proofs.path_laws.of_events.Lists.{contains_in}
+use Rattle.sym_steps.proofs.path_laws.of_events.Steps.{step_is}
+use Rattle.condition_order.specs.sym_terms.declared.node.Node.{Node}
+use Rattle.condition_order.specs.sym_exec.Alone.{Asked, asked_in, cell_by}
+use Rattle.condition_order.specs.sym_exec.Executed.{Course}
+use Rattle.condition_order.specs.sym_exec.declared.symbolic.Access.{Access}
+use Rattle.sym_steps.specs.sym_laws.Valued.{found}
+use Rattle.sym_steps.proofs.sym_laws.Follows.{found_at_log}
 use Rattle.sym_events.proofs.Whole.{is_executed}
 use Rattle.sym_steps.specs.accesses.Asked.{IsAskedIn, IsReachedIn}
 use Rattle.sym_steps.proofs.of_accesses.Asked.{asked_access}
 use Rattle.sym_steps.proofs.of_accesses.Found.{cell_found}
 use Rattle.sym_steps.proofs.of_accesses.Reached.{same_cells}
-use Rattle.order_formula.specs.Worlds.{World}
-use Rattle.lawful_order.specs.Cells.{is_same_cell}
-use Rattle.lawful_order.specs.Events.{IsBefore}
-use Rattle.lawful_order.specs.Memory.{cell_of, is_store, may_overtake, same_cell}
-use Rattle.lawful_order.specs.Reads.{HasAccess}
-use Rattle.lawful_order.specs.Whole.{IsExecutedBy}
+use Rattle.condition_order.specs.order_formula.Worlds.{World}
+use Rattle.condition_order.specs.lawful_order.Cells.{is_same_cell}
+use Rattle.condition_order.specs.lawful_order.Events.{IsBefore}
+use Rattle.condition_order.specs.lawful_order.Memory.{cell_of, is_store, may_overtake, same_cell}
+use Rattle.condition_order.specs.lawful_order.Reads.{HasAccess}
+use Rattle.condition_order.specs.lawful_order.Whole.{IsExecutedBy}
 use Rattle.world_plan.specs.Going.{IsLawfulWorld}
 use Rattle.plan_runs.proofs.of_memory.Empty.{own_rule}
 use Rattle.sym_steps.specs.Valued.{ValuedHistory}

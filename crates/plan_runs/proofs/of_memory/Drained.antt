@@ -7,19 +7,19 @@ use Rattle.std.proofs.Math.Bool.{or-false}
 use Rattle.std.proofs.lemmas.Bool.{true≢false, and_parts, and_from, eqb-true, eq-eqb, or_left, or_right, cases_lt}
 use Rattle.std.proofs.lemmas.List.Folds.{list_any-append}
 use Rattle.std.proofs.lemmas.Option.{same_Some}
-use Rattle.tc_base.specs.Names.{Name}
-use Rattle.tc_base.specs.declared.request.Request.{Request}
-use Rattle.run_laws.proofs.Names.{is_same, same_self}
-use Rattle.run_history.specs.History.{Deed, Did, Drained, drains, has_drained, same}
-use Rattle.path_walk.specs.Paths.{Walk, paths_of}
-use Rattle.path_walk.specs.declared.event.Event.{Event}
-use Rattle.path_laws.specs.Setting.{Setting}
-use Rattle.path_laws.specs.history.Along.{IsThread}
-use Rattle.sym_terms.specs.declared.node.Node.{Node}
-use Rattle.order_formula.specs.Worlds.{World}
-use Rattle.lawful_order.specs.Events.{place_of}
-use Rattle.lawful_order.specs.Whole.{AreWhole}
-use Rattle.order_events.proofs.Whole.{whole as are_whole}
+use Rattle.condition_order.specs.tc_base.Names.{Name}
+use Rattle.condition_order.specs.tc_base.declared.request.Request.{Request}
+use Rattle.condition_order.proofs.run_laws.Names.{is_same, same_self}
+use Rattle.sym_steps.specs.run_history.History.{Deed, Did, Drained, drains, has_drained, same}
+use Rattle.condition_order.specs.path_walk.Paths.{Walk, paths_of}
+use Rattle.condition_order.specs.path_walk.declared.event.Event.{Event}
+use Rattle.sym_steps.specs.path_laws.Setting.{Setting}
+use Rattle.sym_steps.specs.path_laws.history.Along.{IsThread}
+use Rattle.condition_order.specs.sym_terms.declared.node.Node.{Node}
+use Rattle.condition_order.specs.order_formula.Worlds.{World}
+use Rattle.condition_order.specs.lawful_order.Events.{place_of}
+use Rattle.condition_order.specs.lawful_order.Whole.{AreWhole}
+use Rattle.condition_order.proofs.order_events.Whole.{whole as are_whole}
 use Rattle.world_plan.specs.Going.{IsLawfulWorld, HasGone, HaveDrained, is_pending, place}
 use Rattle.world_plan.proofs.Places.{same_event}
 use Rattle.world_plan.proofs.Threads.{one_thread}

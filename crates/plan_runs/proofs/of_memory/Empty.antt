@@ -2,22 +2,22 @@
 use Rattle.std.proofs.Common.{◌≡◌, ◌∙◌, ℕ, ◌<◌, ◌==◌, ◌&&◌, ◌||◌, Bool, true, false, not, List, refl, ap, ap₂, sym, subst, arith}
 use Rattle.std.specs.List.{Contains}
 use Rattle.std.proofs.lemmas.Bool.{true≢false}
-use Rattle.run_history.specs.History.{Deed, has_drained}
-use Rattle.run_history.specs.pending.Deeds.{IsIssuedIn}
-use Rattle.run_history.proofs.of_pending.In.{In}
-use Rattle.run_history.proofs.of_pending.Own.{stores_have_drained}
-use Rattle.run_follows.specs.blocked.Stuck.{HasDrained, AllDrained}
-use Rattle.path_walk.specs.Paths.{Walk, paths_of}
-use Rattle.path_walk.specs.declared.event.Event.{Event}
-use Rattle.path_walk.specs.declared.event.EventKind.TheVariants as kind
-use Rattle.path_laws.specs.Setting.{Setting}
-use Rattle.path_laws.specs.history.Along.{IsThread}
-use Rattle.path_laws.proofs.of_events.Lists.{contains_in}
-use Rattle.sym_terms.specs.declared.node.Node.{Node}
-use Rattle.sym_laws.specs.Valued.{found}
-use Rattle.order_formula.specs.Worlds.{World}
-use Rattle.order_formula.specs.declared.group.Group.TheVariants.{Own}
-use Rattle.lawful_order.specs.Memory.{OwnRule, is_kept, is_store, may_overtake, same_cell}
+use Rattle.sym_steps.specs.run_history.History.{Deed, has_drained}
+use Rattle.sym_steps.specs.run_history.pending.Deeds.{IsIssuedIn}
+use Rattle.sym_steps.proofs.run_history.of_pending.In.{In}
+use Rattle.sym_steps.proofs.run_history.of_pending.Own.{stores_have_drained}
+use Rattle.sym_steps.specs.run_follows.blocked.Stuck.{HasDrained, AllDrained}
+use Rattle.condition_order.specs.path_walk.Paths.{Walk, paths_of}
+use Rattle.condition_order.specs.path_walk.declared.event.Event.{Event}
+use Rattle.condition_order.specs.path_walk.declared.event.EventKind.TheVariants as kind
+use Rattle.sym_steps.specs.path_laws.Setting.{Setting}
+use Rattle.sym_steps.specs.path_laws.history.Along.{IsThread}
+use Rattle.sym_steps.proofs.path_laws.of_events.Lists.{contains_in}
+use Rattle.condition_order.specs.sym_terms.declared.node.Node.{Node}
+use Rattle.sym_steps.specs.sym_laws.Valued.{found}
+use Rattle.condition_order.specs.order_formula.Worlds.{World}
+use Rattle.condition_order.specs.order_formula.declared.group.Group.TheVariants.{Own}
+use Rattle.condition_order.specs.lawful_order.Memory.{OwnRule, is_kept, is_store, may_overtake, same_cell}
 use Rattle.world_plan.specs.Going.{IsLawfulWorld, HasGone, NextEvent, place}
 use Rattle.plan_runs.proofs.of_memory.Issued.{issuer_named, issue_event}
 use Rattle.plan_runs.proofs.Histories.{history_of}

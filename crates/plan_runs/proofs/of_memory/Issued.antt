@@ -4,25 +4,25 @@ use Rattle.std.proofs.Common.{Option, Some, None, refl, ap, ap₂, sym, subst, a
 use Rattle.std.specs.Prelude.{option_map}
 use Rattle.std.proofs.lemmas.Bool.{false≢true, and_parts, and_from, eqb-true, eq-eqb}
 use Rattle.std.proofs.lemmas.Option.{none-some}
-use Rattle.tc_base.specs.Names.{Name}
-use Rattle.tc_base.specs.declared.request.Request.{Request}
-use Rattle.tc_base.specs.declared.request.Request.TheVariants.{Write, Start}
-use Rattle.run_laws.proofs.Names.{is_same, same_self}
-use Rattle.run_history.specs.History.{Deed, Did, Drained, drains, has_drained, same}
-use Rattle.run_history.specs.Told.{steps_in}
-use Rattle.run_history.specs.pending.Deeds.{IsIssuedIn}
-use Rattle.run_history.proofs.of_pending.Apart.{Named}
-use Rattle.run_history.proofs.of_pending.In.{In, in_at, in_split, any_in, in_any, one_of_name}
-use Rattle.path_walk.specs.declared.event.Event.{Event}
-use Rattle.path_walk.specs.declared.event.EventKind.TheVariants as kind
-use Rattle.path_laws.specs.Setting.{Setting}
-use Rattle.path_laws.specs.Deeds.{kind_of}
-use Rattle.path_laws.specs.history.Along.{IsNameOfThread, HistoryAlong, PathThread}
-use Rattle.path_laws.proofs.of_history.Told.{RunOf, its_run, up_to}
-use Rattle.path_laws.proofs.of_history.Walks.{thread_named}
-use Rattle.path_laws.specs.events.Done.{IsDoneIn}
-use Rattle.path_laws.proofs.of_events.Events.{event_done, done_event}
-use Rattle.path_laws.proofs.of_events.Steps.{steps_both, steps_first}
+use Rattle.condition_order.specs.tc_base.Names.{Name}
+use Rattle.condition_order.specs.tc_base.declared.request.Request.{Request}
+use Rattle.condition_order.specs.tc_base.declared.request.Request.TheVariants.{Write, Start}
+use Rattle.condition_order.proofs.run_laws.Names.{is_same, same_self}
+use Rattle.sym_steps.specs.run_history.History.{Deed, Did, Drained, drains, has_drained, same}
+use Rattle.sym_steps.specs.run_history.Told.{steps_in}
+use Rattle.sym_steps.specs.run_history.pending.Deeds.{IsIssuedIn}
+use Rattle.sym_steps.proofs.run_history.of_pending.Apart.{Named}
+use Rattle.sym_steps.proofs.run_history.of_pending.In.{In, in_at, in_split, any_in, in_any, one_of_name}
+use Rattle.condition_order.specs.path_walk.declared.event.Event.{Event}
+use Rattle.condition_order.specs.path_walk.declared.event.EventKind.TheVariants as kind
+use Rattle.sym_steps.specs.path_laws.Setting.{Setting}
+use Rattle.sym_steps.specs.path_laws.Deeds.{kind_of}
+use Rattle.sym_steps.specs.path_laws.history.Along.{IsNameOfThread, HistoryAlong, PathThread}
+use Rattle.sym_steps.proofs.path_laws.of_history.Told.{RunOf, its_run, up_to}
+use Rattle.sym_steps.proofs.path_laws.of_history.Walks.{thread_named}
+use Rattle.sym_steps.specs.path_laws.events.Done.{IsDoneIn}
+use Rattle.sym_steps.proofs.path_laws.of_events.Events.{event_done, done_event}
+use Rattle.sym_steps.proofs.path_laws.of_events.Steps.{steps_both, steps_first}
 
 -- a request that is a store writes a value to a cell
 no_create : (o : Option ℕ) → option_map kind.Create o ≡ Some kind.Store → ⊥

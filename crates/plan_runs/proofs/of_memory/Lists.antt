@@ -1,10 +1,10 @@
 -- The last deed that gives something.
 use Rattle.std.proofs.Common.{◌≡◌, ◌∙◌, ◌⊎◌, inl, inr, List, [], ◌∷◌, ◌++◌, Option, Some, None, refl, ap, ap₂, sym, subst}
 use Rattle.std.specs.List.{filter_map, last_or}
-use Rattle.run_history.specs.History.{Deed}
-use Rattle.run_history.specs.Last.{IsLast}
-use Rattle.run_history.proofs.Last.{is_last}
-use Rattle.run_history.proofs.of_pending.In.{In, in_at, in_mapped}
+use Rattle.sym_steps.specs.run_history.History.{Deed}
+use Rattle.sym_steps.specs.run_history.Last.{IsLast}
+use Rattle.sym_steps.proofs.run_history.Last.{is_last}
+use Rattle.sym_steps.proofs.run_history.of_pending.In.{In, in_at, in_mapped}
 
 module _ {X : Type 0} (f : Deed → Option X) where
   -- some deed is the last that gives something, or none gives anything

@@ -6,33 +6,33 @@ use Rattle.std.specs.Prelude.{is_some, unwrap_or, IsSome}
 use Rattle.std.specs.List.{Contains, filter_map}
 use Rattle.std.proofs.lemmas.Bool.{true≢false, eq-eqb, eqb-true, cases_lt}
 use Rattle.std.proofs.lemmas.Option.{same_Some}
-use Rattle.tc_base.specs.Names.{Name}
-use Rattle.tc_base.specs.declared.request.Request.TheVariants.{Write}
-use Rattle.run_history.specs.History.{Deed, Did, has_drained}
-use Rattle.run_history.specs.Last.{IsLast, brings}
-use Rattle.run_history.specs.Told.{steps_in, value_in}
-use Rattle.run_history.proofs.Last.{cells_have_last, cells_begin}
-use Rattle.run_history.specs.pending.Deeds.{name_of, IsIssuedIn, own_value}
-use Rattle.run_history.proofs.of_pending.In.{In, in_at}
-use Rattle.run_history.proofs.of_pending.Own.{own_has_last, own_has_none}
-use Rattle.run_follows.specs.Follow.{seen_in}
-use Rattle.path_walk.specs.Paths.{Walk, paths_of}
-use Rattle.path_walk.specs.declared.event.Event.{Event}
-use Rattle.path_walk.specs.declared.event.EventKind.TheVariants as kind
-use Rattle.path_laws.specs.Setting.{Setting}
-use Rattle.path_laws.specs.history.Along.{IsThread, path_thread}
-use Rattle.path_laws.proofs.of_events.Lists.{in_contains, contains_in}
-use Rattle.sym_terms.specs.declared.node.Node.{Node}
-use Rattle.sym_exec.specs.Alone.{Asked, asked_in}
-use Rattle.sym_exec.specs.declared.symbolic.Access.{Access}
-use Rattle.sym_laws.specs.Valued.{found}
+use Rattle.condition_order.specs.tc_base.Names.{Name}
+use Rattle.condition_order.specs.tc_base.declared.request.Request.TheVariants.{Write}
+use Rattle.sym_steps.specs.run_history.History.{Deed, Did, has_drained}
+use Rattle.sym_steps.specs.run_history.Last.{IsLast, brings}
+use Rattle.sym_steps.specs.run_history.Told.{steps_in, value_in}
+use Rattle.sym_steps.proofs.run_history.Last.{cells_have_last, cells_begin}
+use Rattle.sym_steps.specs.run_history.pending.Deeds.{name_of, IsIssuedIn, own_value}
+use Rattle.sym_steps.proofs.run_history.of_pending.In.{In, in_at}
+use Rattle.sym_steps.proofs.run_history.of_pending.Own.{own_has_last, own_has_none}
+use Rattle.sym_steps.specs.run_follows.Follow.{seen_in}
+use Rattle.condition_order.specs.path_walk.Paths.{Walk, paths_of}
+use Rattle.condition_order.specs.path_walk.declared.event.Event.{Event}
+use Rattle.condition_order.specs.path_walk.declared.event.EventKind.TheVariants as kind
+use Rattle.sym_steps.specs.path_laws.Setting.{Setting}
+use Rattle.sym_steps.specs.path_laws.history.Along.{IsThread, path_thread}
+use Rattle.sym_steps.proofs.path_laws.of_events.Lists.{in_contains, contains_in}
+use Rattle.condition_order.specs.sym_terms.declared.node.Node.{Node}
+use Rattle.condition_order.specs.sym_exec.Alone.{Asked, asked_in}
+use Rattle.condition_order.specs.sym_exec.declared.symbolic.Access.{Access}
+use Rattle.sym_steps.specs.sym_laws.Valued.{found}
 use Rattle.sym_steps.specs.accesses.Asked.{IsAskedIn, IsReachedIn}
 use Rattle.sym_steps.proofs.of_accesses.Asked.{access_asked}
 use Rattle.sym_steps.proofs.of_accesses.Reached.{cell_begins}
-use Rattle.order_formula.specs.Worlds.{World}
-use Rattle.lawful_order.specs.Cells.{value_at_start}
-use Rattle.lawful_order.specs.Events.{IsBefore, place_of}
-use Rattle.lawful_order.specs.Reads.{HasAccess, Sees, TakesFrom, TakesFirst}
+use Rattle.condition_order.specs.order_formula.Worlds.{World}
+use Rattle.condition_order.specs.lawful_order.Cells.{value_at_start}
+use Rattle.condition_order.specs.lawful_order.Events.{IsBefore, place_of}
+use Rattle.condition_order.specs.lawful_order.Reads.{HasAccess, Sees, TakesFrom, TakesFirst}
 use Rattle.world_plan.specs.Going.{IsLawfulWorld, NextEvent}
 use Rattle.world_plan.specs.Sights.{Sight, sight_of}
 use Rattle.world_plan.proofs.Threads.{one_thread}

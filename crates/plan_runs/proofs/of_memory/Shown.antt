@@ -4,22 +4,22 @@ use Rattle.std.proofs.Common.{Option, Some, None, refl, ap, ap₂, sym, subst, a
 use Rattle.std.specs.Prelude.{option_and_then}
 use Rattle.std.proofs.lemmas.Bool.{true≢false}
 use Rattle.std.proofs.lemmas.Option.{none-some, same_Some}
-use Rattle.tc_base.specs.Names.{Name}
-use Rattle.tc_base.specs.declared.request.Request.{Request}
-use Rattle.run_history.specs.History.{Deed, Did, Drained, has_drained}
-use Rattle.run_history.proofs.of_pending.Apart.{last_or_before}
-use Rattle.path_walk.specs.Paths.{Walk, paths_of}
-use Rattle.path_walk.specs.declared.event.EventKind.{EventKind}
-use Rattle.path_laws.specs.Setting.{Setting}
-use Rattle.path_laws.specs.Deeds.{kind_of}
-use Rattle.path_laws.specs.history.Along.{IsThread, path_thread}
-use Rattle.path_laws.specs.events.Done.{IsDoneIn}
-use Rattle.path_laws.proofs.of_events.Events.{done_event}
-use Rattle.path_laws.proofs.of_events.Lists.{contains_in}
-use Rattle.sym_terms.specs.declared.node.Node.{Node}
-use Rattle.order_formula.specs.Worlds.{World}
-use Rattle.lawful_order.specs.Events.{place_of}
-use Rattle.lawful_order.specs.Memory.{is_store}
+use Rattle.condition_order.specs.tc_base.Names.{Name}
+use Rattle.condition_order.specs.tc_base.declared.request.Request.{Request}
+use Rattle.sym_steps.specs.run_history.History.{Deed, Did, Drained, has_drained}
+use Rattle.sym_steps.proofs.run_history.of_pending.Apart.{last_or_before}
+use Rattle.condition_order.specs.path_walk.Paths.{Walk, paths_of}
+use Rattle.condition_order.specs.path_walk.declared.event.EventKind.{EventKind}
+use Rattle.sym_steps.specs.path_laws.Setting.{Setting}
+use Rattle.sym_steps.specs.path_laws.Deeds.{kind_of}
+use Rattle.sym_steps.specs.path_laws.history.Along.{IsThread, path_thread}
+use Rattle.sym_steps.specs.path_laws.events.Done.{IsDoneIn}
+use Rattle.sym_steps.proofs.path_laws.of_events.Events.{done_event}
+use Rattle.sym_steps.proofs.path_laws.of_events.Lists.{contains_in}
+use Rattle.condition_order.specs.sym_terms.declared.node.Node.{Node}
+use Rattle.condition_order.specs.order_formula.Worlds.{World}
+use Rattle.condition_order.specs.lawful_order.Events.{place_of}
+use Rattle.condition_order.specs.lawful_order.Memory.{is_store}
 use Rattle.world_plan.specs.Going.{IsLawfulWorld, HasGone}
 use Rattle.world_plan.specs.Sights.{Sight, sight_of, Shows, AreInOrder}
 use Rattle.world_plan.proofs.Threads.{one_thread}

@@ -4,45 +4,45 @@ use Rattle.std.specs.Prelude.{slice_get, is_some, option_map, unwrap_or}
 use Rattle.std.specs.List.{Contains}
 use Rattle.std.proofs.lemmas.Bool.{false≢true, eq-eqb, eqb-true}
 use Rattle.std.proofs.lemmas.Option.{same_Some}
-use Rattle.tc_base.specs.Buffers.{Entry}
-use Rattle.store_buffers.specs.Buffers.{newest}
-use Rattle.list_laws.specs.Lists.{is_nil}
-use Rattle.tc_base.specs.Names.{Name}
-use Rattle.tc_base.specs.declared.request.Request.{Request}
-use Rattle.tc_base.specs.declared.request.Request.TheVariants.{Silent, Read, Write, Exchange, CompareExchange}
-use Rattle.tc_code.specs.Code.{Code}
-use Rattle.store_buffers.specs.Pending.{stores}
-use Rattle.run_history.specs.History.{Deed, pending}
-use Rattle.run_history.specs.Locals.{asks_next}
-use Rattle.run_history.specs.Told.{steps_in, is_thread_in, value_in}
-use Rattle.run_follows.specs.Follow.{seen_in, taken_in, OtherIs}
-use Rattle.run_follows.proofs.Plays.{asker}
-use Rattle.path_walk.specs.Paths.{Walk, paths_of}
-use Rattle.path_walk.specs.declared.event.Event.{Event}
-use Rattle.path_walk.specs.declared.event.EventKind.{EventKind}
-use Rattle.path_walk.specs.declared.event.EventKind.TheVariants as kind
-use Rattle.path_laws.specs.Setting.{Setting}
-use Rattle.path_laws.specs.Deeds.{kind_of}
-use Rattle.path_laws.specs.history.Next.{IsNextOnPath}
-use Rattle.path_laws.proofs.of_history.Told.{RunOf, its_run}
-use Rattle.path_laws.proofs.of_history.Walks.{walk_is}
-use Rattle.path_laws.proofs.of_history.Next.{next_on_path}
-use Rattle.path_laws.proofs.of_events.Events.{event_within}
-use Rattle.path_laws.proofs.of_events.Lists.{in_contains}
-use Rattle.sym_terms.specs.declared.node.Node.{Node}
-use Rattle.sym_exec.specs.Alone.{Asked, asked_by, cell_by}
-use Rattle.sym_exec.specs.Executed.{Course}
-use Rattle.sym_exec.specs.declared.symbolic.Access.{Access}
-use Rattle.sym_laws.specs.Valued.{found}
+use Rattle.condition_order.specs.tc_base.Buffers.{Entry}
+use Rattle.condition_order.specs.store_buffers.Buffers.{newest}
+use Rattle.condition_order.specs.list_laws.Lists.{is_nil}
+use Rattle.condition_order.specs.tc_base.Names.{Name}
+use Rattle.condition_order.specs.tc_base.declared.request.Request.{Request}
+use Rattle.condition_order.specs.tc_base.declared.request.Request.TheVariants.{Silent, Read, Write, Exchange, CompareExchange}
+use Rattle.condition_order.specs.tc_code.Code.{Code}
+use Rattle.condition_order.specs.store_buffers.Pending.{stores}
+use Rattle.sym_steps.specs.run_history.History.{Deed, pending}
+use Rattle.sym_steps.specs.run_history.Locals.{asks_next}
+use Rattle.sym_steps.specs.run_history.Told.{steps_in, is_thread_in, value_in}
+use Rattle.sym_steps.specs.run_follows.Follow.{seen_in, taken_in, OtherIs}
+use Rattle.sym_steps.proofs.run_follows.Plays.{asker}
+use Rattle.condition_order.specs.path_walk.Paths.{Walk, paths_of}
+use Rattle.condition_order.specs.path_walk.declared.event.Event.{Event}
+use Rattle.condition_order.specs.path_walk.declared.event.EventKind.{EventKind}
+use Rattle.condition_order.specs.path_walk.declared.event.EventKind.TheVariants as kind
+use Rattle.sym_steps.specs.path_laws.Setting.{Setting}
+use Rattle.sym_steps.specs.path_laws.Deeds.{kind_of}
+use Rattle.sym_steps.specs.path_laws.history.Next.{IsNextOnPath}
+use Rattle.sym_steps.proofs.path_laws.of_history.Told.{RunOf, its_run}
+use Rattle.sym_steps.proofs.path_laws.of_history.Walks.{walk_is}
+use Rattle.sym_steps.proofs.path_laws.of_history.Next.{next_on_path}
+use Rattle.sym_steps.proofs.path_laws.of_events.Events.{event_within}
+use Rattle.sym_steps.proofs.path_laws.of_events.Lists.{in_contains}
+use Rattle.condition_order.specs.sym_terms.declared.node.Node.{Node}
+use Rattle.condition_order.specs.sym_exec.Alone.{Asked, asked_by, cell_by}
+use Rattle.condition_order.specs.sym_exec.Executed.{Course}
+use Rattle.condition_order.specs.sym_exec.declared.symbolic.Access.{Access}
+use Rattle.sym_steps.specs.sym_laws.Valued.{found}
 use Rattle.sym_steps.specs.Next.{kind_at, accesses_at, TestsAreMet, IsToldNext}
 use Rattle.sym_steps.proofs.Told.{next_told}
 use Rattle.sym_steps.specs.accesses.Asked.{IsReachedIn}
 use Rattle.sym_steps.proofs.of_accesses.Asked.{asks_one}
-use Rattle.order_formula.specs.Worlds.{World}
-use Rattle.order_formula.specs.declared.group.Group.TheVariants as group
-use Rattle.lawful_order.specs.Memory.{may_overtake}
-use Rattle.lawful_order.specs.Whole as whole
-use Rattle.order_events.proofs.Lists.{in_filter, in_map, of_map}
+use Rattle.condition_order.specs.order_formula.Worlds.{World}
+use Rattle.condition_order.specs.order_formula.declared.group.Group.TheVariants as group
+use Rattle.condition_order.specs.lawful_order.Memory.{may_overtake}
+use Rattle.condition_order.specs.lawful_order.Whole as whole
+use Rattle.condition_order.proofs.order_events.Lists.{in_filter, in_map, of_map}
 use Rattle.world_plan.specs.Going.{IsLawfulWorld, NextEvent}
 use Rattle.world_plan.proofs.Numbers.{of_find, in_find, one_event}
 use Rattle.plan_runs.proofs.of_memory.Accesses.{executed}

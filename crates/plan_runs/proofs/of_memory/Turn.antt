@@ -4,31 +4,31 @@ use Rattle.std.proofs.Common.{Some, refl, ap, ap₂, sym, subst, arith}
 use Rattle.std.specs.List.{Contains, find}
 use Rattle.std.specs.Option.{option_map_or}
 use Rattle.std.proofs.lemmas.Bool.{true≢false, and_parts, false_from_ne_true, eq-eqb, ne_eqb}
-use Rattle.run_history.specs.History.{Deed, Drained, Issue, has_drained, pending_issues}
-use Rattle.run_history.specs.Told.{steps_in}
-use Rattle.run_history.specs.pending.Deeds.{IsIssuedIn, has_bar_between}
-use Rattle.run_history.proofs.of_pending.Apart.{a_store}
-use Rattle.run_history.proofs.of_pending.In.{In, all_in}
-use Rattle.run_history.proofs.of_pending.Issues.{Rises}
-use Rattle.run_history.proofs.of_pending.Turns.{store_pending}
-use Rattle.run_follows.specs.Follow.{IsNextDrain}
-use Rattle.path_walk.specs.Paths.{Walk}
-use Rattle.path_walk.specs.declared.event.Event.{Event}
-use Rattle.path_walk.specs.declared.event.EventKind.{EventKind}
-use Rattle.path_walk.specs.declared.event.EventKind.TheVariants as kind
-use Rattle.path_laws.specs.Setting.{Setting}
-use Rattle.path_laws.specs.history.Along.{IsThread, path_thread}
-use Rattle.path_laws.proofs.of_events.Bars.{told}
-use Rattle.path_laws.proofs.of_events.Lists.{in_contains, contains_in}
-use Rattle.sym_terms.specs.declared.node.Node.{Node}
-use Rattle.order_formula.specs.Worlds.{World}
-use Rattle.lawful_order.specs.Memory.{is_store}
+use Rattle.sym_steps.specs.run_history.History.{Deed, Drained, Issue, has_drained, pending_issues}
+use Rattle.sym_steps.specs.run_history.Told.{steps_in}
+use Rattle.sym_steps.specs.run_history.pending.Deeds.{IsIssuedIn, has_bar_between}
+use Rattle.sym_steps.proofs.run_history.of_pending.Apart.{a_store}
+use Rattle.sym_steps.proofs.run_history.of_pending.In.{In, all_in}
+use Rattle.sym_steps.proofs.run_history.of_pending.Issues.{Rises}
+use Rattle.sym_steps.proofs.run_history.of_pending.Turns.{store_pending}
+use Rattle.sym_steps.specs.run_follows.Follow.{IsNextDrain}
+use Rattle.condition_order.specs.path_walk.Paths.{Walk}
+use Rattle.condition_order.specs.path_walk.declared.event.Event.{Event}
+use Rattle.condition_order.specs.path_walk.declared.event.EventKind.{EventKind}
+use Rattle.condition_order.specs.path_walk.declared.event.EventKind.TheVariants as kind
+use Rattle.sym_steps.specs.path_laws.Setting.{Setting}
+use Rattle.sym_steps.specs.path_laws.history.Along.{IsThread, path_thread}
+use Rattle.sym_steps.proofs.path_laws.of_events.Bars.{told}
+use Rattle.sym_steps.proofs.path_laws.of_events.Lists.{in_contains, contains_in}
+use Rattle.condition_order.specs.sym_terms.declared.node.Node.{Node}
+use Rattle.condition_order.specs.order_formula.Worlds.{World}
+use Rattle.condition_order.specs.lawful_order.Memory.{is_store}
 use Rattle.world_plan.specs.Going.{IsLawfulWorld, HasGone, is_pending, place}
 use Rattle.world_plan.specs.Plan.{drain_of, drains_next}
 use Rattle.plan_runs.proofs.of_memory.Accesses.{written, issue_asks, access_of, cells_of_steps, bound_before}
 use Rattle.plan_runs.proofs.of_memory.Empty.{passed_has_drained}
 use Rattle.plan_runs.proofs.of_memory.Issued.{issue_event, event_issued}
-use Rattle.path_laws.proofs.of_history.Told.{its_run}
+use Rattle.sym_steps.proofs.path_laws.of_history.Told.{its_run}
 use Rattle.plan_runs.proofs.Histories.{history_of, valued_of}
 
 -- with rising numbers, each issue is found by its number

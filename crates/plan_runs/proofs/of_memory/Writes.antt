@@ -4,20 +4,20 @@ use Rattle.std.proofs.Common.{Option, Some, None, refl, ap, ap₂, sym, subst}
 use Rattle.std.specs.Prelude.{option_and_then}
 use Rattle.std.proofs.lemmas.Bool.{and_parts, and_from, eqb-true, eq-eqb, not_from_false, cases_Bool}
 use Rattle.std.proofs.lemmas.Option.{none-some, same_Some, cond_some}
-use Rattle.tc_base.specs.Buffers.{Entry}
-use Rattle.tc_base.specs.Names.{Name}
-use Rattle.tc_base.specs.declared.request.Request.{Request}
-use Rattle.tc_base.specs.declared.request.Request.TheVariants.{Silent, Read, Write, Exchange, CompareExchange}
-use Rattle.tc_code.specs.Step.{replaced}
-use Rattle.run_laws.proofs.Names.{is_same, same_self}
-use Rattle.run_history.specs.History.{Deed, Did, Drained, has_drained, same}
-use Rattle.run_history.specs.Last.{brings}
-use Rattle.run_history.specs.Told.{reaches}
-use Rattle.run_history.specs.pending.Deeds.{IsIssuedIn, own_value}
-use Rattle.path_walk.specs.Paths.{Walk, paths_of}
-use Rattle.path_laws.specs.Setting.{Setting}
-use Rattle.path_laws.specs.history.Along.{IsThread, IsNameOfThread, HistoryAlong}
-use Rattle.sym_exec.specs.Alone.{Asked, asked_by}
+use Rattle.condition_order.specs.tc_base.Buffers.{Entry}
+use Rattle.condition_order.specs.tc_base.Names.{Name}
+use Rattle.condition_order.specs.tc_base.declared.request.Request.{Request}
+use Rattle.condition_order.specs.tc_base.declared.request.Request.TheVariants.{Silent, Read, Write, Exchange, CompareExchange}
+use Rattle.condition_order.specs.tc_code.Step.{replaced}
+use Rattle.condition_order.proofs.run_laws.Names.{is_same, same_self}
+use Rattle.sym_steps.specs.run_history.History.{Deed, Did, Drained, has_drained, same}
+use Rattle.sym_steps.specs.run_history.Last.{brings}
+use Rattle.sym_steps.specs.run_history.Told.{reaches}
+use Rattle.sym_steps.specs.run_history.pending.Deeds.{IsIssuedIn, own_value}
+use Rattle.condition_order.specs.path_walk.Paths.{Walk, paths_of}
+use Rattle.sym_steps.specs.path_laws.Setting.{Setting}
+use Rattle.sym_steps.specs.path_laws.history.Along.{IsThread, IsNameOfThread, HistoryAlong}
+use Rattle.condition_order.specs.sym_exec.Alone.{Asked, asked_by}
 use Rattle.sym_steps.specs.accesses.Asked.{IsAskedIn}
 use Rattle.world_plan.specs.Sights.{Sight, sight_of, Shows}
 use Rattle.plan_runs.proofs.of_memory.Accesses.{written, issue_asks}

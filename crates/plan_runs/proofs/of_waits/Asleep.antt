@@ -6,34 +6,34 @@ use Rattle.std.specs.FinSet as set
 use Rattle.std.specs.List.{Contains, filter_map, cons_option, last_or}
 use Rattle.std.proofs.lemmas.Bool.{false≢true, true≢false, cases_lt, and_parts, eqb-true, eq-eqb}
 use Rattle.std.proofs.lemmas.Option.{none-some, same_Some}
-use Rattle.tc_base.specs.Names.{Name}
-use Rattle.tc_base.specs.declared.request.Request.{Request}
-use Rattle.tc_base.specs.declared.request.Request.TheVariants.{Silent, BeginWait, WakeOne, WakeAll, Start}
-use Rattle.run_laws.proofs.Names.{is_same, same_self}
-use Rattle.run_history.specs.History.{Deed, Did, Drained, same}
-use Rattle.run_history.specs.Last.{waits_by}
-use Rattle.run_history.specs.Told.{waiting_in, is_step_of, steps_in}
-use Rattle.run_history.proofs.Lists.{filter_map-push, count-push}
-use Rattle.run_follows.specs.Follow.{MayFollow}
-use Rattle.run_history.proofs.of_pending.Apart.{last_or_before}
-use Rattle.run_history.proofs.of_pending.In.{In}
-use Rattle.path_walk.specs.Paths.{Walk, Paths, paths_of}
-use Rattle.path_walk.specs.declared.event.Event.{Event}
-use Rattle.path_walk.specs.declared.event.EventKind.{EventKind}
-use Rattle.path_walk.specs.declared.event.EventKind.TheVariants as kind
-use Rattle.path_walk.specs.declared.event.Sleep.{Sleep}
-use Rattle.path_laws.specs.Setting.{Setting}
-use Rattle.path_laws.specs.Deeds.{kind_of}
-use Rattle.path_laws.specs.history.Along.{IsAlongPaths, IsThread, path_thread}
-use Rattle.path_laws.specs.events.Done.{IsDoneIn, IsAsleepIn}
-use Rattle.path_laws.proofs.of_events.Events.{event_done, done_event}
-use Rattle.path_laws.proofs.of_events.Lists.{in_contains, contains_in}
-use Rattle.sym_terms.specs.declared.node.Node.{Node}
-use Rattle.order_formula.specs.Worlds.{World, position}
-use Rattle.order_formula.specs.declared.group.Group.TheVariants.{Condition}
-use Rattle.lawful_order.specs.Events.{Of, all_events, all_sleeps, number_of, place_of, ender_of}
-use Rattle.lawful_order.specs.Conditions.{is_signal, is_broadcast}
-use Rattle.lawful_order.specs.Memory.{is_store}
+use Rattle.condition_order.specs.tc_base.Names.{Name}
+use Rattle.condition_order.specs.tc_base.declared.request.Request.{Request}
+use Rattle.condition_order.specs.tc_base.declared.request.Request.TheVariants.{Silent, BeginWait, WakeOne, WakeAll, Start}
+use Rattle.condition_order.proofs.run_laws.Names.{is_same, same_self}
+use Rattle.sym_steps.specs.run_history.History.{Deed, Did, Drained, same}
+use Rattle.sym_steps.specs.run_history.Last.{waits_by}
+use Rattle.sym_steps.specs.run_history.Told.{waiting_in, is_step_of, steps_in}
+use Rattle.sym_steps.proofs.run_history.Lists.{filter_map-push, count-push}
+use Rattle.sym_steps.specs.run_follows.Follow.{MayFollow}
+use Rattle.sym_steps.proofs.run_history.of_pending.Apart.{last_or_before}
+use Rattle.sym_steps.proofs.run_history.of_pending.In.{In}
+use Rattle.condition_order.specs.path_walk.Paths.{Walk, Paths, paths_of}
+use Rattle.condition_order.specs.path_walk.declared.event.Event.{Event}
+use Rattle.condition_order.specs.path_walk.declared.event.EventKind.{EventKind}
+use Rattle.condition_order.specs.path_walk.declared.event.EventKind.TheVariants as kind
+use Rattle.condition_order.specs.path_walk.declared.event.Sleep.{Sleep}
+use Rattle.sym_steps.specs.path_laws.Setting.{Setting}
+use Rattle.sym_steps.specs.path_laws.Deeds.{kind_of}
+use Rattle.sym_steps.specs.path_laws.history.Along.{IsAlongPaths, IsThread, path_thread}
+use Rattle.sym_steps.specs.path_laws.events.Done.{IsDoneIn, IsAsleepIn}
+use Rattle.sym_steps.proofs.path_laws.of_events.Events.{event_done, done_event}
+use Rattle.sym_steps.proofs.path_laws.of_events.Lists.{in_contains, contains_in}
+use Rattle.condition_order.specs.sym_terms.declared.node.Node.{Node}
+use Rattle.condition_order.specs.order_formula.Worlds.{World, position}
+use Rattle.condition_order.specs.order_formula.declared.group.Group.TheVariants.{Condition}
+use Rattle.condition_order.specs.lawful_order.Events.{Of, all_events, all_sleeps, number_of, place_of, ender_of}
+use Rattle.condition_order.specs.lawful_order.Conditions.{is_signal, is_broadcast}
+use Rattle.condition_order.specs.lawful_order.Memory.{is_store}
 use Rattle.world_plan.specs.Going.{IsLawfulWorld, HasGone, NextEvent, SleepUntilEnded, is_pending, place}
 use Rattle.world_plan.specs.Plan.{woken_by, other_of}
 use Rattle.world_plan.proofs.Numbers.{event_numbered, number_is}

@@ -5,15 +5,15 @@ use Rattle.std.specs.Prelude.{slice_get, option_map}
 use Rattle.std.specs.List.{AllByRecursion as Each, cons_option}
 use Rattle.std.specs.Option.{option_map_or}
 use Rattle.std.proofs.lemmas.Option.{none-some, same_Some}
-use Rattle.run_history.proofs.of_pending.In.{In, in_mapped}
-use Rattle.path_walk.specs.Events.{acquired_mutex, released_mutex, release_step, regions_of, sleep_by, sleeps_of, create_by, creates_of, join_by, joins_of}
-use Rattle.path_walk.specs.declared.event.Event.{Event}
-use Rattle.path_walk.specs.declared.event.EventKind.{EventKind}
-use Rattle.path_walk.specs.declared.event.EventKind.TheVariants as kind
-use Rattle.path_walk.specs.declared.event.Region.{Region}
-use Rattle.path_walk.specs.declared.event.Sleep.{Sleep}
-use Rattle.path_laws.proofs.of_events.Lists.{in_place, each_in, each_of}
-use Rattle.path_laws.proofs.of_events.Marked.{Rising}
+use Rattle.sym_steps.proofs.run_history.of_pending.In.{In, in_mapped}
+use Rattle.condition_order.specs.path_walk.Events.{acquired_mutex, released_mutex, release_step, regions_of, sleep_by, sleeps_of, create_by, creates_of, join_by, joins_of}
+use Rattle.condition_order.specs.path_walk.declared.event.Event.{Event}
+use Rattle.condition_order.specs.path_walk.declared.event.EventKind.{EventKind}
+use Rattle.condition_order.specs.path_walk.declared.event.EventKind.TheVariants as kind
+use Rattle.condition_order.specs.path_walk.declared.event.Region.{Region}
+use Rattle.condition_order.specs.path_walk.declared.event.Sleep.{Sleep}
+use Rattle.sym_steps.proofs.path_laws.of_events.Lists.{in_place, each_in, each_of}
+use Rattle.sym_steps.proofs.path_laws.of_events.Marked.{Rising}
 
 behind : {X : Type 0} (o : Option X) (x : X) (xs : List X) → In x xs → In x (cons_option o xs)
 behind None x xs i = i

@@ -5,33 +5,33 @@ use Rattle.std.specs.FinMap as fin
 use Rattle.std.specs.List.{Contains}
 use Rattle.std.proofs.lemmas.Bool.{false_from_ne_true}
 use Rattle.std.proofs.lemmas.Option.{none-some}
-use Rattle.tc_base.specs.Names.{Name, child}
-use Rattle.tc_base.specs.States.{Thread}
-use Rattle.tc_base.specs.declared.failing.Failing.TheVariants.{Deadlock}
-use Rattle.run_laws.proofs.Basics.{found, some_is, some_value}
-use Rattle.run_history.specs.History.{Deed}
-use Rattle.run_history.specs.Told.{owner_in, is_thread_in, steps_in, has_exited_in}
-use Rattle.run_history.proofs.of_pending.In.{In}
-use Rattle.run_follows.specs.blocked.Stuck.{IsBlockedIn, IsBlockedNext, AllAreBlocked}
-use Rattle.path_walk.specs.Paths.{Walk, Paths, paths_of}
-use Rattle.path_walk.specs.declared.event.Blocked.{Blocked}
-use Rattle.path_walk.specs.declared.event.Blocked.TheVariants as blocked
-use Rattle.path_laws.specs.Setting.{Setting}
-use Rattle.path_laws.specs.history.Along.{IsThread, AllHaveDone, PathThread, path_thread}
-use Rattle.path_laws.proofs.of_history.Told.{RunOf, its_run}
-use Rattle.path_laws.proofs.of_history.Walks.{thread_named}
-use Rattle.path_laws.proofs.of_events.Events.{event_within}
-use Rattle.path_laws.proofs.of_events.Lists.{in_contains}
-use Rattle.path_laws.proofs.of_events.Owners.{region_owned}
-use Rattle.path_laws.proofs.of_events.Waiters.{exits_told}
-use Rattle.path_laws.specs.stuck.Blocked.{asked_at}
-use Rattle.path_laws.proofs.of_stuck.Ends.{at_last_sleep}
-use Rattle.path_laws.proofs.of_stuck.Rests.{asks_blocked, left_blocked}
-use Rattle.sym_terms.specs.declared.node.Node.{Node}
-use Rattle.order_formula.specs.Worlds.{World}
-use Rattle.order_formula.specs.declared.group.Group.TheVariants.{Stuck}
-use Rattle.lawful_order.specs.Stuck.{IsHeld}
-use Rattle.order_events.proofs.Lists.{at_in}
+use Rattle.condition_order.specs.tc_base.Names.{Name, child}
+use Rattle.condition_order.specs.tc_base.States.{Thread}
+use Rattle.condition_order.specs.tc_base.declared.failing.Failing.TheVariants.{Deadlock}
+use Rattle.condition_order.proofs.run_laws.Basics.{found, some_is, some_value}
+use Rattle.sym_steps.specs.run_history.History.{Deed}
+use Rattle.sym_steps.specs.run_history.Told.{owner_in, is_thread_in, steps_in, has_exited_in}
+use Rattle.sym_steps.proofs.run_history.of_pending.In.{In}
+use Rattle.sym_steps.specs.run_follows.blocked.Stuck.{IsBlockedIn, IsBlockedNext, AllAreBlocked}
+use Rattle.condition_order.specs.path_walk.Paths.{Walk, Paths, paths_of}
+use Rattle.condition_order.specs.path_walk.declared.event.Blocked.{Blocked}
+use Rattle.condition_order.specs.path_walk.declared.event.Blocked.TheVariants as blocked
+use Rattle.sym_steps.specs.path_laws.Setting.{Setting}
+use Rattle.sym_steps.specs.path_laws.history.Along.{IsThread, AllHaveDone, PathThread, path_thread}
+use Rattle.sym_steps.proofs.path_laws.of_history.Told.{RunOf, its_run}
+use Rattle.sym_steps.proofs.path_laws.of_history.Walks.{thread_named}
+use Rattle.sym_steps.proofs.path_laws.of_events.Events.{event_within}
+use Rattle.sym_steps.proofs.path_laws.of_events.Lists.{in_contains}
+use Rattle.sym_steps.proofs.path_laws.of_events.Owners.{region_owned}
+use Rattle.sym_steps.proofs.path_laws.of_events.Waiters.{exits_told}
+use Rattle.sym_steps.specs.path_laws.stuck.Blocked.{asked_at}
+use Rattle.sym_steps.proofs.path_laws.of_stuck.Ends.{at_last_sleep}
+use Rattle.sym_steps.proofs.path_laws.of_stuck.Rests.{asks_blocked, left_blocked}
+use Rattle.condition_order.specs.sym_terms.declared.node.Node.{Node}
+use Rattle.condition_order.specs.order_formula.Worlds.{World}
+use Rattle.condition_order.specs.order_formula.declared.group.Group.TheVariants.{Stuck}
+use Rattle.condition_order.specs.lawful_order.Stuck.{IsHeld}
+use Rattle.condition_order.proofs.order_events.Lists.{at_in}
 use Rattle.world_plan.specs.Going.{IsLawfulWorld, HasGone}
 use Rattle.plan_runs.proofs.of_waits.Begun.{region_event}
 use Rattle.plan_runs.proofs.of_waits.Sleepers.{sleep_number}

@@ -3,25 +3,25 @@ use Rattle.std.proofs.Common.{◌≡◌, ◌≢◌, ◌⊎◌, ◌∙◌, inl, i
 use Rattle.std.specs.List.{Contains}
 use Rattle.std.proofs.lemmas.Bool.{true≢false, eqb-true, eq-eqb}
 use Rattle.std.proofs.lemmas.Option.{none-some, same_Some}
-use Rattle.tc_base.specs.Names.{Name}
-use Rattle.run_history.specs.Told.{owner_in, steps_in}
-use Rattle.run_history.proofs.of_pending.In.{In}
-use Rattle.path_walk.specs.Events.{acquired_mutex}
-use Rattle.path_walk.specs.Paths.{Walk, paths_of}
-use Rattle.path_walk.specs.declared.event.EventKind.{EventKind}
-use Rattle.path_walk.specs.declared.event.EventKind.TheVariants as kind
-use Rattle.path_walk.specs.declared.event.Region.{Region}
-use Rattle.path_laws.specs.Setting.{Setting}
-use Rattle.path_laws.specs.history.Along.{IsThread}
-use Rattle.path_laws.specs.events.Done.{IsOpenAfter}
-use Rattle.path_laws.proofs.of_events.Lists.{in_contains, contains_in}
-use Rattle.path_laws.proofs.of_events.Owners.{took_it, region_owned}
-use Rattle.sym_terms.specs.declared.node.Node.{Node}
-use Rattle.order_formula.specs.Worlds.{World}
-use Rattle.order_formula.specs.declared.group.Group.TheVariants.{Mutex}
-use Rattle.lawful_order.specs.Events.{HasRegion, place_of}
-use Rattle.lawful_order.specs.Memory.{is_store}
-use Rattle.lawful_order.specs.Mutexes.{IsLeftBefore}
+use Rattle.condition_order.specs.tc_base.Names.{Name}
+use Rattle.sym_steps.specs.run_history.Told.{owner_in, steps_in}
+use Rattle.sym_steps.proofs.run_history.of_pending.In.{In}
+use Rattle.condition_order.specs.path_walk.Events.{acquired_mutex}
+use Rattle.condition_order.specs.path_walk.Paths.{Walk, paths_of}
+use Rattle.condition_order.specs.path_walk.declared.event.EventKind.{EventKind}
+use Rattle.condition_order.specs.path_walk.declared.event.EventKind.TheVariants as kind
+use Rattle.condition_order.specs.path_walk.declared.event.Region.{Region}
+use Rattle.sym_steps.specs.path_laws.Setting.{Setting}
+use Rattle.sym_steps.specs.path_laws.history.Along.{IsThread}
+use Rattle.sym_steps.specs.path_laws.events.Done.{IsOpenAfter}
+use Rattle.sym_steps.proofs.path_laws.of_events.Lists.{in_contains, contains_in}
+use Rattle.sym_steps.proofs.path_laws.of_events.Owners.{took_it, region_owned}
+use Rattle.condition_order.specs.sym_terms.declared.node.Node.{Node}
+use Rattle.condition_order.specs.order_formula.Worlds.{World}
+use Rattle.condition_order.specs.order_formula.declared.group.Group.TheVariants.{Mutex}
+use Rattle.condition_order.specs.lawful_order.Events.{HasRegion, place_of}
+use Rattle.condition_order.specs.lawful_order.Memory.{is_store}
+use Rattle.condition_order.specs.lawful_order.Mutexes.{IsLeftBefore}
 use Rattle.world_plan.specs.Going.{IsLawfulWorld, NextEvent, place}
 use Rattle.plan_runs.proofs.of_waits.Begun.{BeginsRegion, taken_region, region_event}
 use Rattle.plan_runs.proofs.of_waits.Worlds.{are_whole, walk, rising, in_turn, went_before}

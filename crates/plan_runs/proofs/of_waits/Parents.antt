@@ -6,29 +6,29 @@ use Rattle.std.specs.List.{cons_option}
 use Rattle.std.proofs.lemmas.Bool.{false≢true, false_from_ne_true}
 use Rattle.std.proofs.lemmas.List.{length-map}
 use Rattle.std.proofs.lemmas.Option.{none-some, same_Some, slice_get-map, slice_get_within, option_and_then_some}
-use Rattle.run_log.specs.Logs.{Log}
-use Rattle.tc_base.specs.Paths.{path_under}
-use Rattle.tc_base.specs.Names.{Name, main, child}
-use Rattle.tc_base.proofs.Names.{parent_of}
-use Rattle.tc_code.specs.Code.{Code, instr_at}
-use Rattle.tc_code.specs.declared.instr.Instr.{Instr}
-use Rattle.tc_code.specs.declared.instr.Instr.TheVariants.{Create, Exit}
-use Rattle.run_history.proofs.of_pending.In.{In}
-use Rattle.run_log.specs.Logs.{is_log}
-use Rattle.path_walk.specs.Events.{asks, kind_with}
-use Rattle.path_walk.specs.Fits.{starts, started, fails_in, places_in, child_function, function_of, Fits}
-use Rattle.path_walk.specs.Marks.{Marks, marks_at_start, marks_after_instr, marks_after}
-use Rattle.path_walk.specs.Paths.{Walk}
-use Rattle.path_walk.specs.Steps.{Step, is_site, step_at, steps_at}
-use Rattle.path_walk.specs.declared.event.Event.{Event}
-use Rattle.path_walk.specs.declared.event.EventKind.TheVariants as kind
-use Rattle.path_walk.proofs.Faults.{option_is, function_of_child, no_child}
-use Rattle.path_laws.specs.history.Along.{IsThread, IsNameOfThread, path_thread}
-use Rattle.path_laws.proofs.of_history.Next.{last_step}
-use Rattle.path_laws.proofs.of_history.Walks.{IsWalk, walk_is, named}
-use Rattle.path_laws.proofs.of_events.Marked.{event_at, event_there}
-use Rattle.path_laws.proofs.of_events.Sites.{last_is_site}
-use Rattle.path_laws.proofs.of_stuck.Rests.{mapped_from}
+use Rattle.condition_order.specs.run_log.Logs.{Log}
+use Rattle.condition_order.specs.tc_base.Paths.{path_under}
+use Rattle.condition_order.specs.tc_base.Names.{Name, main, child}
+use Rattle.condition_order.proofs.tc_base.Names.{parent_of}
+use Rattle.condition_order.specs.tc_code.Code.{Code, instr_at}
+use Rattle.condition_order.specs.tc_code.declared.instr.Instr.{Instr}
+use Rattle.condition_order.specs.tc_code.declared.instr.Instr.TheVariants.{Create, Exit}
+use Rattle.sym_steps.proofs.run_history.of_pending.In.{In}
+use Rattle.condition_order.specs.run_log.Logs.{is_log}
+use Rattle.condition_order.specs.path_walk.Events.{asks, kind_with}
+use Rattle.condition_order.specs.path_walk.Fits.{starts, started, fails_in, places_in, child_function, function_of, Fits}
+use Rattle.condition_order.specs.path_walk.Marks.{Marks, marks_at_start, marks_after_instr, marks_after}
+use Rattle.condition_order.specs.path_walk.Paths.{Walk}
+use Rattle.condition_order.specs.path_walk.Steps.{Step, is_site, step_at, steps_at}
+use Rattle.condition_order.specs.path_walk.declared.event.Event.{Event}
+use Rattle.condition_order.specs.path_walk.declared.event.EventKind.TheVariants as kind
+use Rattle.condition_order.proofs.path_walk.Faults.{option_is, function_of_child, no_child}
+use Rattle.sym_steps.specs.path_laws.history.Along.{IsThread, IsNameOfThread, path_thread}
+use Rattle.sym_steps.proofs.path_laws.of_history.Next.{last_step}
+use Rattle.sym_steps.proofs.path_laws.of_history.Walks.{IsWalk, walk_is, named}
+use Rattle.sym_steps.proofs.path_laws.of_events.Marked.{event_at, event_there}
+use Rattle.sym_steps.proofs.path_laws.of_events.Sites.{last_is_site}
+use Rattle.sym_steps.proofs.path_laws.of_stuck.Rests.{mapped_from}
 
 -- a create isn't a site, and its request is for the next child
 no_site : (i : Instr) (f : ℕ) → starts i ≡ Some f → is_site i ≡ true → ⊥

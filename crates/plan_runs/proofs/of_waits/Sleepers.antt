@@ -4,25 +4,25 @@ use Rattle.std.specs.Prelude.{slice_get, option_map, option_and_then}
 use Rattle.std.specs.List.{Contains, enumerate_from, find}
 use Rattle.std.proofs.lemmas.Bool.{eq-eqb, cases_order}
 use Rattle.std.proofs.lemmas.Option.{none-some, same_Some}
-use Rattle.tc_base.specs.Names.{Name}
-use Rattle.run_history.specs.History.{Deed}
-use Rattle.run_history.specs.Told.{steps_in}
-use Rattle.run_history.proofs.of_pending.In.{In}
-use Rattle.path_walk.specs.Paths.{Walk, Paths, paths_of}
-use Rattle.path_walk.specs.declared.event.Event.{Event}
-use Rattle.path_walk.specs.declared.event.EventKind.TheVariants as kind
-use Rattle.path_walk.specs.declared.event.Sleep.{Sleep}
-use Rattle.path_laws.specs.Setting.{Setting}
-use Rattle.path_laws.specs.history.Along.{IsThread}
-use Rattle.path_laws.proofs.of_events.Lists.{in_contains, contains_in}
-use Rattle.sym_terms.specs.declared.node.Node.{Node}
-use Rattle.order_formula.specs.Worlds.{World, is_ended}
-use Rattle.lawful_order.specs.Events.{Of, all_events, all_sleeps, number_of, place_of, ender_of}
-use Rattle.lawful_order.specs.Conditions.{is_signal, is_broadcast, IsSignal, IsBroadcast}
-use Rattle.lawful_order.specs.Memory.{is_store}
-use Rattle.lawful_order.specs.Whole.{AreWhole}
-use Rattle.order_events.proofs.Lists.{at_in, in_at, in_enumerated, of_enumerated}
-use Rattle.order_events.proofs.Numbers.{in_all_from, of_all_from}
+use Rattle.condition_order.specs.tc_base.Names.{Name}
+use Rattle.sym_steps.specs.run_history.History.{Deed}
+use Rattle.sym_steps.specs.run_history.Told.{steps_in}
+use Rattle.sym_steps.proofs.run_history.of_pending.In.{In}
+use Rattle.condition_order.specs.path_walk.Paths.{Walk, Paths, paths_of}
+use Rattle.condition_order.specs.path_walk.declared.event.Event.{Event}
+use Rattle.condition_order.specs.path_walk.declared.event.EventKind.TheVariants as kind
+use Rattle.condition_order.specs.path_walk.declared.event.Sleep.{Sleep}
+use Rattle.sym_steps.specs.path_laws.Setting.{Setting}
+use Rattle.sym_steps.specs.path_laws.history.Along.{IsThread}
+use Rattle.sym_steps.proofs.path_laws.of_events.Lists.{in_contains, contains_in}
+use Rattle.condition_order.specs.sym_terms.declared.node.Node.{Node}
+use Rattle.condition_order.specs.order_formula.Worlds.{World, is_ended}
+use Rattle.condition_order.specs.lawful_order.Events.{Of, all_events, all_sleeps, number_of, place_of, ender_of}
+use Rattle.condition_order.specs.lawful_order.Conditions.{is_signal, is_broadcast, IsSignal, IsBroadcast}
+use Rattle.condition_order.specs.lawful_order.Memory.{is_store}
+use Rattle.condition_order.specs.lawful_order.Whole.{AreWhole}
+use Rattle.condition_order.proofs.order_events.Lists.{at_in, in_at, in_enumerated, of_enumerated}
+use Rattle.condition_order.proofs.order_events.Numbers.{in_all_from, of_all_from}
 use Rattle.condition_order.proofs.Truth.{ended_to, ended_from}
 use Rattle.world_plan.specs.Going.{IsLawfulWorld, HasGone}
 use Rattle.world_plan.specs.Plan.{woken_by}

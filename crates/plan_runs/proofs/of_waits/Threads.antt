@@ -6,48 +6,48 @@ use Rattle.std.specs.List.{Contains, filter_map, list_any, last_or}
 use Rattle.std.proofs.Math.Bool.{and-false, or-true}
 use Rattle.std.proofs.lemmas.Bool.{false≢true}
 use Rattle.std.proofs.lemmas.Option.{none-some, same_Some}
-use Rattle.tc_base.specs.Names.{Name, main, child}
-use Rattle.tc_base.specs.States.{Local}
-use Rattle.tc_base.specs.declared.handle.Handle.{Handle}
-use Rattle.tc_base.specs.declared.handle.Handle.TheVariants.{Unset, Child, Joined}
-use Rattle.tc_base.specs.declared.request.Request.{Request}
-use Rattle.tc_base.specs.declared.request.Request.TheVariants.{Silent, Start}
-use Rattle.tc_code.specs.Step.{instr_of, child_number, can_be_joined, handle_of}
-use Rattle.tc_code.specs.declared.instr.Instr.{Instr}
-use Rattle.tc_code.specs.declared.instr.Instr.TheVariants.{Join}
-use Rattle.run_laws.specs.Laws.{IsChildOf, HoldsChild}
-use Rattle.run_laws.proofs.Bound.{reached_has_tested}
-use Rattle.run_laws.proofs.Created.{reached_is_created}
-use Rattle.run_laws.proofs.Handles.{handles_are_children}
-use Rattle.run_laws.proofs.Names.{same_self}
-use Rattle.run_history.specs.History.{Deed, Did, same}
-use Rattle.run_history.specs.Told.{creates, is_thread_in, steps_in, children_in, has_exited_in}
-use Rattle.run_history.proofs.Lists.{last_or-push}
-use Rattle.run_history.proofs.of_pending.In.{In, in_at, in_mapped, in_any}
-use Rattle.path_walk.specs.Events.{kind_with}
-use Rattle.path_walk.specs.Marks.{Marks, marks_at_start, marks_after, handle_in}
-use Rattle.path_walk.specs.Paths.{Walk, Paths, paths_of}
-use Rattle.path_walk.specs.Steps.{Step, steps_at}
-use Rattle.path_walk.specs.Events as events
-use Rattle.path_walk.specs.declared.event.Event.{Event}
-use Rattle.path_walk.specs.declared.event.EventKind.TheVariants as kind
-use Rattle.path_walk.specs.declared.event.Link.{Link}
-use Rattle.path_laws.specs.Setting.{Setting}
-use Rattle.path_laws.specs.Deeds.{kind_of}
-use Rattle.path_laws.specs.history.Along.{IsThread, AllAreThere, HistoryAlong, path_thread}
-use Rattle.path_laws.specs.history.Next.{IsNextOnPath}
-use Rattle.path_laws.proofs.of_history.Next.{path_step, next_on_path, thread_next}
-use Rattle.path_laws.proofs.of_history.Told.{RunOf, reached, steps_of, its_run}
-use Rattle.path_laws.proofs.of_history.Walks.{walking, thread_path_at, thread_named}
-use Rattle.path_laws.proofs.of_events.Events.{at_step, event_within, event_done}
-use Rattle.path_laws.proofs.of_events.Held.{thread_marks}
-use Rattle.path_laws.proofs.of_events.Lists.{in_contains, contains_in}
-use Rattle.path_laws.proofs.of_events.Waiters.{exits_told}
-use Rattle.sym_terms.specs.declared.node.Node.{Node}
-use Rattle.order_formula.specs.Worlds.{World}
-use Rattle.order_formula.specs.declared.group.Group.TheVariants as group
-use Rattle.lawful_order.specs.Events.{Creates, Joins}
-use Rattle.lawful_order.specs.Memory.{is_store}
+use Rattle.condition_order.specs.tc_base.Names.{Name, main, child}
+use Rattle.condition_order.specs.tc_base.States.{Local}
+use Rattle.condition_order.specs.tc_base.declared.handle.Handle.{Handle}
+use Rattle.condition_order.specs.tc_base.declared.handle.Handle.TheVariants.{Unset, Child, Joined}
+use Rattle.condition_order.specs.tc_base.declared.request.Request.{Request}
+use Rattle.condition_order.specs.tc_base.declared.request.Request.TheVariants.{Silent, Start}
+use Rattle.condition_order.specs.tc_code.Step.{instr_of, child_number, can_be_joined, handle_of}
+use Rattle.condition_order.specs.tc_code.declared.instr.Instr.{Instr}
+use Rattle.condition_order.specs.tc_code.declared.instr.Instr.TheVariants.{Join}
+use Rattle.condition_order.specs.run_laws.Laws.{IsChildOf, HoldsChild}
+use Rattle.condition_order.proofs.run_laws.Bound.{reached_has_tested}
+use Rattle.condition_order.proofs.run_laws.Created.{reached_is_created}
+use Rattle.condition_order.proofs.run_laws.Handles.{handles_are_children}
+use Rattle.condition_order.proofs.run_laws.Names.{same_self}
+use Rattle.sym_steps.specs.run_history.History.{Deed, Did, same}
+use Rattle.sym_steps.specs.run_history.Told.{creates, is_thread_in, steps_in, children_in, has_exited_in}
+use Rattle.sym_steps.proofs.run_history.Lists.{last_or-push}
+use Rattle.sym_steps.proofs.run_history.of_pending.In.{In, in_at, in_mapped, in_any}
+use Rattle.condition_order.specs.path_walk.Events.{kind_with}
+use Rattle.condition_order.specs.path_walk.Marks.{Marks, marks_at_start, marks_after, handle_in}
+use Rattle.condition_order.specs.path_walk.Paths.{Walk, Paths, paths_of}
+use Rattle.condition_order.specs.path_walk.Steps.{Step, steps_at}
+use Rattle.condition_order.specs.path_walk.Events as events
+use Rattle.condition_order.specs.path_walk.declared.event.Event.{Event}
+use Rattle.condition_order.specs.path_walk.declared.event.EventKind.TheVariants as kind
+use Rattle.condition_order.specs.path_walk.declared.event.Link.{Link}
+use Rattle.sym_steps.specs.path_laws.Setting.{Setting}
+use Rattle.sym_steps.specs.path_laws.Deeds.{kind_of}
+use Rattle.sym_steps.specs.path_laws.history.Along.{IsThread, AllAreThere, HistoryAlong, path_thread}
+use Rattle.sym_steps.specs.path_laws.history.Next.{IsNextOnPath}
+use Rattle.sym_steps.proofs.path_laws.of_history.Next.{path_step, next_on_path, thread_next}
+use Rattle.sym_steps.proofs.path_laws.of_history.Told.{RunOf, reached, steps_of, its_run}
+use Rattle.sym_steps.proofs.path_laws.of_history.Walks.{walking, thread_path_at, thread_named}
+use Rattle.sym_steps.proofs.path_laws.of_events.Events.{at_step, event_within, event_done}
+use Rattle.sym_steps.proofs.path_laws.of_events.Held.{thread_marks}
+use Rattle.sym_steps.proofs.path_laws.of_events.Lists.{in_contains, contains_in}
+use Rattle.sym_steps.proofs.path_laws.of_events.Waiters.{exits_told}
+use Rattle.condition_order.specs.sym_terms.declared.node.Node.{Node}
+use Rattle.condition_order.specs.order_formula.Worlds.{World}
+use Rattle.condition_order.specs.order_formula.declared.group.Group.TheVariants as group
+use Rattle.condition_order.specs.lawful_order.Events.{Creates, Joins}
+use Rattle.condition_order.specs.lawful_order.Memory.{is_store}
 use Rattle.world_plan.specs.Going.{IsLawfulWorld, HasGone, NextEvent, is_pending, place}
 use Rattle.world_plan.specs.Plan.{is_failure}
 use Rattle.plan_runs.proofs.of_waits.Begun.{created_link, joined_link}

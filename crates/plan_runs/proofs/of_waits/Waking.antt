@@ -4,26 +4,26 @@ use Rattle.std.specs.Prelude.{slice_get}
 use Rattle.std.specs.FinSet as set
 use Rattle.std.specs.List.{Contains}
 use Rattle.std.proofs.lemmas.Option.{same_Some}
-use Rattle.tc_base.specs.Names.{Name}
-use Rattle.run_history.specs.History.{Deed}
-use Rattle.run_history.specs.Told.{waiting_in, steps_in}
-use Rattle.run_follows.proofs.of_deeds.Nobody.{nobody_waits}
-use Rattle.path_walk.specs.Paths.{Walk, Paths, paths_of}
-use Rattle.path_walk.specs.declared.event.EventKind.TheVariants as kind
-use Rattle.path_walk.specs.declared.event.Sleep.{Sleep}
-use Rattle.path_laws.specs.Setting.{Setting}
-use Rattle.path_laws.specs.history.Along.{IsThread, IsNameOfThread, path_thread}
-use Rattle.path_laws.specs.events.Done.{IsAsleepIn}
-use Rattle.path_laws.proofs.of_events.Events.{event_within}
-use Rattle.path_laws.proofs.of_events.Lists.{in_contains}
-use Rattle.path_laws.proofs.of_events.Sleeps.{WakesSo, walk_wakes}
-use Rattle.path_laws.proofs.of_events.Waiters.{sleeps_still, sleep_waits, waiter_named}
-use Rattle.sym_terms.specs.declared.node.Node.{Node}
-use Rattle.order_formula.specs.Worlds.{World, position}
-use Rattle.order_formula.specs.declared.group.Group.TheVariants.{Condition}
-use Rattle.lawful_order.specs.Events.{Of, all_sleeps, number_of, place_of, ender_of}
-use Rattle.lawful_order.specs.Conditions.{IsSleep, IsSignal}
-use Rattle.sym_laws.specs.Valued.{found}
+use Rattle.condition_order.specs.tc_base.Names.{Name}
+use Rattle.sym_steps.specs.run_history.History.{Deed}
+use Rattle.sym_steps.specs.run_history.Told.{waiting_in, steps_in}
+use Rattle.sym_steps.proofs.run_follows.of_deeds.Nobody.{nobody_waits}
+use Rattle.condition_order.specs.path_walk.Paths.{Walk, Paths, paths_of}
+use Rattle.condition_order.specs.path_walk.declared.event.EventKind.TheVariants as kind
+use Rattle.condition_order.specs.path_walk.declared.event.Sleep.{Sleep}
+use Rattle.sym_steps.specs.path_laws.Setting.{Setting}
+use Rattle.sym_steps.specs.path_laws.history.Along.{IsThread, IsNameOfThread, path_thread}
+use Rattle.sym_steps.specs.path_laws.events.Done.{IsAsleepIn}
+use Rattle.sym_steps.proofs.path_laws.of_events.Events.{event_within}
+use Rattle.sym_steps.proofs.path_laws.of_events.Lists.{in_contains}
+use Rattle.sym_steps.proofs.path_laws.of_events.Sleeps.{WakesSo, walk_wakes}
+use Rattle.sym_steps.proofs.path_laws.of_events.Waiters.{sleeps_still, sleep_waits, waiter_named}
+use Rattle.condition_order.specs.sym_terms.declared.node.Node.{Node}
+use Rattle.condition_order.specs.order_formula.Worlds.{World, position}
+use Rattle.condition_order.specs.order_formula.declared.group.Group.TheVariants.{Condition}
+use Rattle.condition_order.specs.lawful_order.Events.{Of, all_sleeps, number_of, place_of, ender_of}
+use Rattle.condition_order.specs.lawful_order.Conditions.{IsSleep, IsSignal}
+use Rattle.sym_steps.specs.sym_laws.Valued.{found}
 use Rattle.condition_order.proofs.Among.{sleep_of}
 use Rattle.world_plan.specs.Going.{IsLawfulWorld, HasGone, NextEvent}
 use Rattle.world_plan.specs.Plan.{woken_by}

@@ -3,23 +3,23 @@ use Rattle.std.proofs.Common.{◌≡◌, ◌∙◌, inl, inr, ℕ, ◌<◌, Bool
 use Rattle.std.specs.List.{Contains}
 use Rattle.std.proofs.Math.Bool.{and-false}
 use Rattle.std.proofs.lemmas.Bool.{false≢true}
-use Rattle.run_history.specs.History.{Deed}
-use Rattle.run_history.specs.Told.{steps_in}
-use Rattle.path_walk.specs.Fits.{fails_in}
-use Rattle.path_walk.specs.Marks.{marks_at_start}
-use Rattle.path_walk.specs.Paths.{Walk, paths_of}
-use Rattle.path_walk.specs.Steps.{steps_at}
-use Rattle.path_walk.specs.declared.event.Event.{Event}
-use Rattle.path_laws.specs.Setting.{Setting}
-use Rattle.path_laws.specs.history.Along.{IsThread, path_thread}
-use Rattle.path_laws.proofs.of_history.Walks.{IsWalk, walk_is}
-use Rattle.path_laws.proofs.of_events.Marked.{Rising, events_rise}
-use Rattle.sym_terms.specs.declared.node.Node.{Node}
-use Rattle.order_formula.specs.Worlds.{World}
-use Rattle.order_formula.specs.declared.group.Group.TheVariants.{Own}
-use Rattle.lawful_order.specs.Memory.{is_store}
-use Rattle.lawful_order.specs.Whole.{AreWhole}
-use Rattle.order_events.proofs.Whole.{whole}
+use Rattle.sym_steps.specs.run_history.History.{Deed}
+use Rattle.sym_steps.specs.run_history.Told.{steps_in}
+use Rattle.condition_order.specs.path_walk.Fits.{fails_in}
+use Rattle.condition_order.specs.path_walk.Marks.{marks_at_start}
+use Rattle.condition_order.specs.path_walk.Paths.{Walk, paths_of}
+use Rattle.condition_order.specs.path_walk.Steps.{steps_at}
+use Rattle.condition_order.specs.path_walk.declared.event.Event.{Event}
+use Rattle.sym_steps.specs.path_laws.Setting.{Setting}
+use Rattle.sym_steps.specs.path_laws.history.Along.{IsThread, path_thread}
+use Rattle.sym_steps.proofs.path_laws.of_history.Walks.{IsWalk, walk_is}
+use Rattle.sym_steps.proofs.path_laws.of_events.Marked.{Rising, events_rise}
+use Rattle.condition_order.specs.sym_terms.declared.node.Node.{Node}
+use Rattle.condition_order.specs.order_formula.Worlds.{World}
+use Rattle.condition_order.specs.order_formula.declared.group.Group.TheVariants.{Own}
+use Rattle.condition_order.specs.lawful_order.Memory.{is_store}
+use Rattle.condition_order.specs.lawful_order.Whole.{AreWhole}
+use Rattle.condition_order.proofs.order_events.Whole.{whole}
 use Rattle.world_plan.specs.Going.{IsLawfulWorld, HasGone, place}
 
 kept_by : (buffered store rest : Bool) → store ≡ false → (not (buffered && store) || rest) ≡ true

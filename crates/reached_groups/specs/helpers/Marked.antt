@@ -9,4 +9,5 @@ module _ (b : Blasted) (marks : List Bool) where
   abbrev pub marked_from : ℕ → List Conjunct → List Group
   marked_from number [] = []
   marked_from number (c ∷ cs) =
-      if get_or marks (root_of b number) false then c.group ∷ marked_from (number + 1) cs else marked_from (number + 1) cs
+      if get_or marks (root_of b number) false then c.group ∷ marked_from (number + 1) cs
+      else marked_from (number + 1) cs

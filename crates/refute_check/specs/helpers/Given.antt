@@ -22,7 +22,8 @@ assumed_of g = record { vars = g.vars; literals = g.literals.items }
 -- a literal is marked exactly if it is one of those taken as true
 pub record AreMarked (g : Inside) : Type 0 where
   pub room : length g.marks.items ≡ 2 * g.vars + 2
-  pub marked : (l : ℤ) → 0 < var_of l → var_of l ≤ g.vars → slice_index_or g.marks.items (place_of l) false ≡ is_among g.literals.items l
+  pub marked : (l : ℤ) → 0 < var_of l → var_of l ≤ g.vars
+      → slice_index_or g.marks.items (place_of l) false ≡ is_among g.literals.items l
   pub within : IsTrue (is_within g.vars g.literals.items)
 
 -- the literals that are left, if there is at most one

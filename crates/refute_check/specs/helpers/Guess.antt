@@ -56,7 +56,8 @@ abbrev pub read_byte : Reader → ℕ → Reader
 read_byte r b =
     if b == 32
     then record { done = numbers_of r; size = 0; negative = false }
-    else (if b == 45 then record r { negative = true } else record r { size = (r.size * 10 + b % 16) % 4294967296 })
+    else (if b == 45 then record r { negative = true }
+    else record r { size = (r.size * 10 + b % 16) % 4294967296 })
 
 -- the numbers in some bytes
 abbrev pub guessed : List ℕ → List ℤ
@@ -90,7 +91,10 @@ clause_numbers_in zs = front clause_number_of zs
 
 -- the line that adds a clause, from its numbers
 abbrev pub add_of : List ℤ → Option Line
-add_of zs = if is_clause (literals_in zs) then Some (Add (literals_in zs) (clause_numbers_in (drop (length (literals_in zs) + 1) zs))) else None
+add_of zs =
+    if is_clause (literals_in zs)
+    then Some (Add (literals_in zs) (clause_numbers_in (drop (length (literals_in zs) + 1) zs)))
+    else None
 
 -- the line that deletes clauses, from its numbers
 abbrev pub delete_of : List ℤ → Option Line
@@ -98,7 +102,8 @@ delete_of zs = if is_nil (clause_numbers_in zs) then None else Some (Delete (cla
 
 -- a line, from its letter and its numbers
 abbrev pub line_by : ℕ → List ℤ → Option Line
-line_by letter zs = if letter == 97 then add_of zs else (if letter == 100 then delete_of zs else None)
+line_by letter zs =
+    if letter == 97 then add_of zs else (if letter == 100 then delete_of zs else None)
 
 -- the line that some bytes may be
 abbrev pub line_guess : List ℕ → Option Line
@@ -124,7 +129,8 @@ head_by letter bytes =
     then Some (record { model = Sc; switches = switches_in (drop 2 bytes) })
     else (if letter == 116
     then Some (record { model = Tso; switches = switches_in (drop 3 bytes) })
-    else (if letter == 112 then Some (record { model = Pso; switches = switches_in (drop 3 bytes) }) else None))
+    else (if letter == 112
+    then Some (record { model = Pso; switches = switches_in (drop 3 bytes) }) else None))
 
 abbrev pub head_from : List ℕ → Option Head
 head_from [] = None

@@ -10,4 +10,5 @@ pushed s bytes = record s { unfinished = s.unfinished ++ bytes }
 
 -- reading these bytes extends the lines `ls` to `ms`, and no line breaks the form
 abbrev pub ReadsMore : Reading → List ℕ → List Line → List Line → Reading → Type 0
-ReadsMore s bytes ls ms t = (ts : List Taken) × Reads s bytes ts t × (bodies ms ≡ bodies ls ++ ts) × (t.fault ≡ None)
+ReadsMore s bytes ls ms t =
+    (ts : List Taken) × Reads s bytes ts t × (bodies ms ≡ bodies ls ++ ts) × (t.fault ≡ None)

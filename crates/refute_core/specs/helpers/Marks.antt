@@ -7,4 +7,5 @@ pub record AreMarked (old : List Bool) (numbers : List ℕ) (new : List Bool) : 
   pub all : length new ≡ length old
   pub before : (place : ℕ) → get_or old place false ≡ true → get_or new place false ≡ true
   pub these : (place : ℕ) → Contains numbers (place + 1) → get_or new place false ≡ true
-  pub only : (place : ℕ) → get_or new place false ≡ true → (get_or old place false ≡ true) ⊎ Contains numbers (place + 1)
+  pub only : (place : ℕ) → get_or new place false ≡ true
+      → (get_or old place false ≡ true) ⊎ Contains numbers (place + 1)

@@ -6,14 +6,14 @@ use Rattle.std.specs.FinSet as set
 use Rattle.std.proofs.Math.Bool.{or-true}
 use Rattle.std.proofs.lemmas.Bool.{true≢false, cases_Bool, and_parts, and_from, false_from_ne_true}
 use Rattle.std.proofs.lemmas.Option.{same_Some}
-use Rattle.tc_base.specs.Names.{Name, child}
-use Rattle.list_laws.specs.Lists.{is_nil}
-use Rattle.tc_base.specs.declared.request.Request.{Request}
-use Rattle.tc_base.specs.declared.request.Request.TheVariants.{Silent, Acquire, EndWait, WakeOne, Start, Await}
-use Rattle.tc_code.specs.Code.{Code}
-use Rattle.tc_code.specs.Step.{drains_first}
-use Rattle.store_buffers.specs.Pending.{stores, Binding}
-use Rattle.run_laws.proofs.Names.{some_in}
+use Rattle.run_history.specs.tc_base.Names.{Name, child}
+use Rattle.run_history.specs.list_laws.Lists.{is_nil}
+use Rattle.run_history.specs.tc_base.declared.request.Request.{Request}
+use Rattle.run_history.specs.tc_base.declared.request.Request.TheVariants.{Silent, Acquire, EndWait, WakeOne, Start, Await}
+use Rattle.run_history.specs.tc_code.Code.{Code}
+use Rattle.run_history.specs.tc_code.Step.{drains_first}
+use Rattle.run_history.specs.store_buffers.Pending.{stores, Binding}
+use Rattle.run_history.proofs.run_laws.Names.{some_in}
 use Rattle.run_history.specs.History.{Deed, Did, pending}
 use Rattle.run_history.specs.Locals.{asks_next}
 use Rattle.run_history.specs.Told.{owner_in, waiting_in, children_in, steps_in, has_exited_in}

@@ -1,17 +1,17 @@
 -- If no deed may follow a history, no store is pending.
 use Rattle.std.proofs.Common.{◌≡◌, ◌∙◌, inl, inr, Bool, true, false, List, ◌∷◌, ◌++◌, Some, refl, ap}
 use Rattle.std.proofs.lemmas.Bool.{false≢true}
-use Rattle.tc_base.specs.Names.{Name}
-use Rattle.tc_base.specs.Buffers.{BufferOps}
-use Rattle.list_laws.specs.Lists.{is_nil}
-use Rattle.tc_base.specs.States.{State}
-use Rattle.memory_models.specs.declared.model.Model.{Model}
-use Rattle.tc_base.specs.declared.moves.Move.{Move}
-use Rattle.tc_code.specs.Code.{Code}
-use Rattle.tc_code.specs.Run.{run}
-use Rattle.store_buffers.specs.Laws.{Laws}
-use Rattle.store_buffers.specs.Pending.{Store, Binding, waits}
-use Rattle.store_buffers.specs.helpers.Lists.{first_store, waits_for_none}
+use Rattle.run_history.specs.tc_base.Names.{Name}
+use Rattle.run_history.specs.tc_base.Buffers.{BufferOps}
+use Rattle.run_history.specs.list_laws.Lists.{is_nil}
+use Rattle.run_history.specs.tc_base.States.{State}
+use Rattle.run_history.specs.memory_models.declared.model.Model.{Model}
+use Rattle.run_history.specs.tc_base.declared.moves.Move.{Move}
+use Rattle.run_history.specs.tc_code.Code.{Code}
+use Rattle.run_history.specs.tc_code.Run.{run}
+use Rattle.run_history.specs.store_buffers.Laws.{Laws}
+use Rattle.run_history.specs.store_buffers.Pending.{Store, Binding, waits}
+use Rattle.run_history.specs.store_buffers.helpers.Lists.{first_store, waits_for_none}
 use Rattle.run_history.specs.History.{Deed, Drained, pending_issues, pending, history}
 use Rattle.run_history.proofs.of_pending.Apart.{Named, deeds_told}
 use Rattle.run_history.proofs.of_pending.Issues.{Rises, split_at}

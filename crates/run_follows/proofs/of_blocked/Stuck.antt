@@ -2,13 +2,13 @@
 use Rattle.std.proofs.Common.{◌≡◌, ◌↔◌, ◌∙◌, List, Some, sym, ap}
 use Rattle.std.specs.Prelude.{option_map, option_and_then}
 use Rattle.std.proofs.lemmas.Bool.{false≢true}
-use Rattle.tc_base.specs.Names.{Name}
-use Rattle.tc_base.specs.States.{Local, Thread, State}
-use Rattle.tc_base.specs.declared.moves.Move.{Move}
-use Rattle.tc_code.specs.Step.{request, instr_of}
-use Rattle.tc_code.specs.Run.{IsStuck, run}
-use Rattle.run_laws.proofs.Basics.{unless}
-use Rattle.run_laws.proofs.Exits.{has_next}
+use Rattle.run_history.specs.tc_base.Names.{Name}
+use Rattle.run_history.specs.tc_base.States.{Local, Thread, State}
+use Rattle.run_history.specs.tc_base.declared.moves.Move.{Move}
+use Rattle.run_history.specs.tc_code.Step.{request, instr_of}
+use Rattle.run_history.specs.tc_code.Run.{IsStuck, run}
+use Rattle.run_history.proofs.run_laws.Basics.{unless}
+use Rattle.run_history.proofs.run_laws.Exits.{has_next}
 use Rattle.run_history.specs.History.{Deed, Did, Drained, history}
 use Rattle.run_history.proofs.of_pending.Own.{stores_have_drained}
 use Rattle.run_follows.specs.Machine.{Machine}

@@ -1,11 +1,11 @@
 -- The cells of deeds are in memory.
 use Rattle.std.proofs.Common.{◌≡◌, ℕ, ◌<◌, ℤ, List, ◌∷◌, ◌++◌, length, Option, Some, refl, subst}
 use Rattle.std.proofs.lemmas.Option.{none-some, same_Some}
-use Rattle.tc_base.specs.Names.{Name}
-use Rattle.tc_base.specs.declared.request.Request.{Request}
-use Rattle.tc_base.specs.declared.request.Request.TheVariants.{Silent, Read, Write, Exchange, CompareExchange}
-use Rattle.tc_code.specs.Code.{Code}
-use Rattle.run_laws.proofs.Asks.{AsksOf, next_asks_within}
+use Rattle.run_history.specs.tc_base.Names.{Name}
+use Rattle.run_history.specs.tc_base.declared.request.Request.{Request}
+use Rattle.run_history.specs.tc_base.declared.request.Request.TheVariants.{Silent, Read, Write, Exchange, CompareExchange}
+use Rattle.run_history.specs.tc_code.Code.{Code}
+use Rattle.run_history.proofs.run_laws.Asks.{AsksOf, next_asks_within}
 use Rattle.run_history.specs.History.{Deed, Did, Drained}
 use Rattle.run_history.specs.Locals.{asks_next}
 use Rattle.run_follows.specs.Machine.{Machine}

@@ -1,7 +1,7 @@
 -- Any first part of deeds that follow follows too.
 use Rattle.std.proofs.Common.{◌∙◌, Bool, List, ◌∷◌, ◌++◌, ap, append_assoc}
-use Rattle.tc_code.specs.Code.{Code}
-use Rattle.store_buffers.specs.Pending.{Binding}
+use Rattle.run_history.specs.tc_code.Code.{Code}
+use Rattle.run_history.specs.store_buffers.Pending.{Binding}
 use Rattle.run_history.specs.History.{Deed}
 use Rattle.run_follows.specs.Follow.{AllFollow}
 

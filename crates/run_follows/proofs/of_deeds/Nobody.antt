@@ -3,8 +3,8 @@ use Rattle.std.proofs.Common.{◌≡◌, ◌↔◌, ◌∙◌, inl, inr, ℕ, �
 use Rattle.std.specs.FinSet as set
 use Rattle.std.proofs.lemmas.Bool.{true≢false, cases_Bool, eqb-true}
 use Rattle.std.proofs.lemmas.Option.{none-some}
-use Rattle.tc_base.specs.Names.{Name, by_name}
-use Rattle.run_laws.proofs.Names.{some_in}
+use Rattle.run_history.specs.tc_base.Names.{Name, by_name}
+use Rattle.run_history.proofs.run_laws.Names.{some_in}
 use Rattle.run_history.specs.History.{Deed}
 use Rattle.run_history.specs.Last.{IsLast}
 use Rattle.run_history.specs.Told.{owner_by, owner_in, waiting_in}

@@ -1,5 +1,5 @@
 use Rattle.run_history.specs.History.{history}
-use Rattle.run_laws.proofs.Asks.{next_asks_within}
+use Rattle.run_history.proofs.run_laws.Asks.{next_asks_within}
 use Rattle.run_follows.proofs.Enabled.{told, run_told}
 use Rattle.run_follows.proofs.runs_are_told.Goals as goal
 

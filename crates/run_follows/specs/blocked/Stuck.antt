@@ -1,12 +1,12 @@
 -- What blocks the threads when no deed may come after a history.
 use Rattle.std.specs.Prelude.{◌≡◌, ◌⊎◌, ℕ, ℤ, Bool, true, false, Option, Some, None, IsSome, IsTrue, List}
 use Rattle.std.specs.FinSet as set
-use Rattle.tc_base.specs.Names.{Name, child}
-use Rattle.list_laws.specs.Lists.{is_nil}
-use Rattle.tc_base.specs.declared.request.Request.{Request}
-use Rattle.tc_base.specs.declared.request.Request.TheVariants.{Acquire, EndWait, Await}
-use Rattle.tc_code.specs.Code.{Code}
-use Rattle.store_buffers.specs.Pending.{stores, Binding}
+use Rattle.run_history.specs.tc_base.Names.{Name, child}
+use Rattle.run_history.specs.list_laws.Lists.{is_nil}
+use Rattle.run_history.specs.tc_base.declared.request.Request.{Request}
+use Rattle.run_history.specs.tc_base.declared.request.Request.TheVariants.{Acquire, EndWait, Await}
+use Rattle.run_history.specs.tc_code.Code.{Code}
+use Rattle.run_history.specs.store_buffers.Pending.{stores, Binding}
 use Rattle.run_history.specs.History.{Deed, Did, pending}
 use Rattle.run_history.specs.Locals.{asks_next}
 use Rattle.run_history.specs.Told.{owner_in, waiting_in, has_exited_in, failed_in}
@@ -22,7 +22,9 @@ AllDrained buffered h = (n : Name) → HasDrained buffered h n
 
 -- no step of a thread may come after a history
 abbrev pub NoStepFollows : Bool → Binding → Code → List Deed → Name → Type 0
-NoStepFollows buffered bound code h n = (k : ℕ) (r : Request) (took : ℤ) (other : Option Name) → MayFollow buffered bound code h (Did n k r took other) → ⊥
+NoStepFollows buffered bound code h n =
+    (k : ℕ) (r : Request) (took : ℤ) (other : Option Name)
+    → MayFollow buffered bound code h (Did n k r took other) → ⊥
 
 -- a request is blocked: its mutex has an owner, its wait isn't over, or its child has not exited
 abbrev pub IsBlockedIn : List Deed → Name → Request → Type 0

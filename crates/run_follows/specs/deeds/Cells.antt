@@ -1,7 +1,7 @@
 -- The cells that requests access.
 use Rattle.std.specs.Prelude.{ℕ, Option, Some, None}
-use Rattle.tc_base.specs.declared.request.Request.{Request}
-use Rattle.tc_base.specs.declared.request.Request.TheVariants.{Read, Write, Exchange, CompareExchange}
+use Rattle.run_history.specs.tc_base.declared.request.Request.{Request}
+use Rattle.run_history.specs.tc_base.declared.request.Request.TheVariants.{Read, Write, Exchange, CompareExchange}
 
 -- the cell that a request accesses, if any
 abbrev pub cell_of : Request → Option ℕ

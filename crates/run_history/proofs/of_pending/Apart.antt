@@ -7,17 +7,17 @@ use Rattle.std.proofs.Math.Bool.{or-true}
 use Rattle.std.proofs.lemmas.Bool.{false≢true, and_parts, not-true, eq-eqb}
 use Rattle.std.proofs.lemmas.List.Folds.{list_any-append}
 use Rattle.std.proofs.lemmas.Option.{none-some, cond_some}
-use Rattle.tc_base.specs.Names.{Name}
-use Rattle.tc_base.specs.Buffers.{BufferOps, Entry}
-use Rattle.tc_base.specs.States.{Thread, State}
-use Rattle.memory_models.specs.declared.model.Model.{Model}
-use Rattle.tc_base.specs.declared.request.Request.{Request}
-use Rattle.tc_base.specs.declared.request.Request.TheVariants.{Silent, Write, Bar, WakeOne}
-use Rattle.tc_code.specs.Code.{Code}
-use Rattle.tc_base.specs.declared.moves.Move.{Move}
-use Rattle.tc_code.specs.Run.{run}
-use Rattle.tc_code.specs.Step.{opening}
-use Rattle.tc_code.specs.Step as machine
+use Rattle.store_buffers.specs.tc_base.Names.{Name}
+use Rattle.store_buffers.specs.tc_base.Buffers.{BufferOps, Entry}
+use Rattle.store_buffers.specs.tc_base.States.{Thread, State}
+use Rattle.store_buffers.specs.memory_models.declared.model.Model.{Model}
+use Rattle.store_buffers.specs.tc_base.declared.request.Request.{Request}
+use Rattle.store_buffers.specs.tc_base.declared.request.Request.TheVariants.{Silent, Write, Bar, WakeOne}
+use Rattle.run_laws.specs.tc_code.Code.{Code}
+use Rattle.store_buffers.specs.tc_base.declared.moves.Move.{Move}
+use Rattle.run_laws.specs.tc_code.Run.{run}
+use Rattle.run_laws.specs.tc_code.Step.{opening}
+use Rattle.run_laws.specs.tc_code.Step as machine
 use Rattle.run_laws.proofs.Names.{same_self, is_same}
 use Rattle.store_buffers.specs.Pending.{Store, Bar as barred, Binding}
 use Rattle.store_buffers.specs.Laws.{Laws}

@@ -9,18 +9,18 @@ use Rattle.std.proofs.lemmas.List.{map-append}
 use Rattle.std.proofs.lemmas.List.Elements.{filter-append, filter_agree, All-nil, All-push, All-filter}
 use Rattle.std.proofs.lemmas.List.Folds.{list_any-append}
 use Rattle.std.proofs.lemmas.Option.{none-some, same_Some}
-use Rattle.tc_base.specs.Names.{Name, main, by_name}
-use Rattle.tc_base.specs.Buffers.{BufferOps, Entry}
-use Rattle.tc_base.specs.States.{Thread, State}
-use Rattle.memory_models.specs.declared.model.Model.{Model}
-use Rattle.tc_base.specs.declared.request.Request.{Request}
-use Rattle.tc_base.specs.declared.request.Request.TheVariants.{Silent, Write, Bar, WakeOne}
-use Rattle.tc_code.specs.declared.instr.Instr.{Instr}
-use Rattle.tc_code.specs.declared.instr.Instr.TheVariants.{Signal}
-use Rattle.tc_code.specs.Code.{Code}
-use Rattle.tc_code.specs.Step.{perform, born, state_after_wake, opening}
-use Rattle.tc_code.specs.Step as machine
-use Rattle.tc_code.specs.Run.{IsReached}
+use Rattle.store_buffers.specs.tc_base.Names.{Name, main, by_name}
+use Rattle.store_buffers.specs.tc_base.Buffers.{BufferOps, Entry}
+use Rattle.store_buffers.specs.tc_base.States.{Thread, State}
+use Rattle.store_buffers.specs.memory_models.declared.model.Model.{Model}
+use Rattle.store_buffers.specs.tc_base.declared.request.Request.{Request}
+use Rattle.store_buffers.specs.tc_base.declared.request.Request.TheVariants.{Silent, Write, Bar, WakeOne}
+use Rattle.run_laws.specs.tc_code.declared.instr.Instr.{Instr}
+use Rattle.run_laws.specs.tc_code.declared.instr.Instr.TheVariants.{Signal}
+use Rattle.run_laws.specs.tc_code.Code.{Code}
+use Rattle.run_laws.specs.tc_code.Step.{perform, born, state_after_wake, opening}
+use Rattle.run_laws.specs.tc_code.Step as machine
+use Rattle.run_laws.specs.tc_code.Run.{IsReached}
 use Rattle.run_laws.proofs.Names.{same_self, same_other, is_same, same_or_apart, get_put_cases}
 use Rattle.store_buffers.specs.Pending.{Pending, Store, Bar as barred, Binding, waits, Stands}
 use Rattle.store_buffers.specs.Laws.{Laws, TakesOut}

@@ -5,7 +5,7 @@ use Rattle.std.specs.Prelude.{map}
 use Rattle.std.specs.List.{All, filter}
 use Rattle.std.proofs.lemmas.Bool.{false≢true, or_parts, eq-eqb, ne_eqb}
 use Rattle.std.proofs.lemmas.List.Elements.{All-nil, All-head, All-tail, All-push, All-weaker, All-filter}
-use Rattle.tc_base.specs.Buffers.{Entry}
+use Rattle.store_buffers.specs.tc_base.Buffers.{Entry}
 use Rattle.store_buffers.specs.Pending.{Pending, Store, Bar, Binding, waits, has_bar}
 use Rattle.store_buffers.specs.helpers.Lists.{not_nil}
 use Rattle.run_history.specs.History.{Issue, is_to, oldest_to}

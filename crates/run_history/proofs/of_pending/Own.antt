@@ -5,12 +5,12 @@ use Rattle.std.specs.Option.{option_or}
 use Rattle.std.specs.List.{filter, filter_map, cons_option, last_or}
 use Rattle.std.proofs.lemmas.Bool.{false≢true, and_parts, true_from_ne_false}
 use Rattle.std.proofs.lemmas.Option.{none-some, cond_some}
-use Rattle.tc_base.specs.Names.{Name}
-use Rattle.list_laws.proofs.Options.{or_none}
-use Rattle.tc_base.specs.Buffers.{Entry}
+use Rattle.store_buffers.specs.tc_base.Names.{Name}
+use Rattle.store_buffers.proofs.list_laws.Options.{or_none}
+use Rattle.store_buffers.specs.tc_base.Buffers.{Entry}
 use Rattle.store_buffers.specs.Buffers.{newest}
-use Rattle.list_laws.specs.Lists.{is_nil}
-use Rattle.tc_base.specs.declared.request.Request.TheVariants.{Silent, Write, Bar}
+use Rattle.store_buffers.specs.list_laws.Lists.{is_nil}
+use Rattle.store_buffers.specs.tc_base.declared.request.Request.TheVariants.{Silent, Write, Bar}
 use Rattle.store_buffers.specs.Pending.{Pending, Store, Bar as barred, stores}
 use Rattle.run_history.specs.History.{Deed, Did, Drained, Issue, same, issue_of, has_drained, pending_issues, pending}
 use Rattle.run_history.specs.Last.{IsLast}

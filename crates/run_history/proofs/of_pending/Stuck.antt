@@ -3,14 +3,14 @@ use Rattle.std.proofs.Common.{◌≡◌, ◌∙◌, true, Some, sym, ap}
 use Rattle.std.specs.FinMap as fin
 use Rattle.std.proofs.lemmas.Bool.{false_from_ne_true}
 use Rattle.std.proofs.lemmas.Option.{none-some}
-use Rattle.tc_base.specs.Names.{Name}
-use Rattle.tc_base.specs.Buffers.{BufferOps}
-use Rattle.list_laws.specs.Lists.{is_nil}
-use Rattle.tc_base.specs.States.{Thread, State}
-use Rattle.memory_models.specs.declared.model.Model.{Model}
-use Rattle.tc_base.specs.declared.moves.Move.TheVariants as move
-use Rattle.tc_code.specs.Code.{Code}
-use Rattle.tc_code.specs.Run.{IsReached, IsStuck}
+use Rattle.store_buffers.specs.tc_base.Names.{Name}
+use Rattle.store_buffers.specs.tc_base.Buffers.{BufferOps}
+use Rattle.store_buffers.specs.list_laws.Lists.{is_nil}
+use Rattle.store_buffers.specs.tc_base.States.{Thread, State}
+use Rattle.store_buffers.specs.memory_models.declared.model.Model.{Model}
+use Rattle.store_buffers.specs.tc_base.declared.moves.Move.TheVariants as move
+use Rattle.run_laws.specs.tc_code.Code.{Code}
+use Rattle.run_laws.specs.tc_code.Run.{IsReached, IsStuck}
 use Rattle.store_buffers.specs.Pending.{Binding}
 use Rattle.store_buffers.specs.Laws.{Laws}
 use Rattle.store_buffers.proofs.Oldest.{nothing_drains}

@@ -5,43 +5,43 @@ use Rattle.std.specs.Option.{option_eq}
 use Rattle.std.specs.List.{Contains}
 use Rattle.std.proofs.Math.Bool.{and-false}
 use Rattle.std.proofs.lemmas.Bool.{false≢true, true≢false, and_parts, eq-eqb}
-use Rattle.run_laws.proofs.Names.{same_self}
+use Rattle.sym_events.proofs.run_laws.Names.{same_self}
 use Rattle.std.proofs.lemmas.Option.{same_Some, slice_get_cases, slice_get_within}
-use Rattle.tc_base.specs.Names.{Name}
-use Rattle.tc_base.specs.declared.moves.Move.{Move}
-use Rattle.tc_base.specs.declared.request.Request.{Request}
-use Rattle.tc_base.specs.declared.request.Request.TheVariants.{Write, Fail}
-use Rattle.tc_code.specs.Run.{Reproduces}
-use Rattle.run_history.specs.History.{Deed, Did, Drained, has_drained, drains}
-use Rattle.run_history.specs.Told.{steps_in, fails}
-use Rattle.run_history.specs.pending.Deeds.{IsIssuedIn, DrainsAreOfStores, MayDrainNext, has_bar_between}
-use Rattle.run_history.proofs.of_pending.In.{In, in_at, in_left, in_any, in_mapped, one_of_name}
-use Rattle.run_history.proofs.of_pending.Own.{stores_have_drained}
-use Rattle.run_follows.specs.Follow.{AllFollow}
-use Rattle.path_walk.specs.Paths.{Walk, Paths, paths_of}
-use Rattle.path_walk.specs.declared.event.Event.{Event}
-use Rattle.path_walk.specs.declared.event.EventKind.{EventKind}
-use Rattle.path_walk.specs.declared.event.EventKind.TheVariants as kind
-use Rattle.path_laws.specs.Setting.{Setting}
-use Rattle.path_laws.specs.Deeds.{kind_of}
-use Rattle.path_laws.specs.history.Along.{IsThread, HistoryAlong, path_thread}
-use Rattle.path_laws.proofs.of_history.Walks.{walk_is}
-use Rattle.path_laws.specs.events.Done.{IsDoneIn}
-use Rattle.path_laws.proofs.of_events.Bars as bars
-use Rattle.path_laws.proofs.of_events.Events.{event_within}
-use Rattle.path_laws.proofs.of_events.Steps.{steps_both}
-use Rattle.path_laws.proofs.of_events.Lists.{in_contains, contains_in}
-use Rattle.sym_terms.specs.Terms.{AreTerms}
-use Rattle.sym_terms.specs.declared.node.Node.{Node}
-use Rattle.sym_exec.specs.Alone.{Asked, cell_by}
-use Rattle.sym_exec.specs.Executed.{Course, Executed}
-use Rattle.sym_exec.specs.declared.symbolic.Access.{Access}
-use Rattle.sym_laws.specs.Valued.{AgreesWith, found}
-use Rattle.order_formula.specs.Worlds.{World}
-use Rattle.lawful_order.specs.Cells.{is_same_cell}
-use Rattle.lawful_order.specs.Events.{IsBefore}
-use Rattle.lawful_order.specs.Memory.{is_store, may_overtake, is_kept, same_cell, cell_of, OwnRule}
-use Rattle.lawful_order.specs.Whole.{HasStep, IsExecutedBy}
+use Rattle.sym_events.specs.tc_base.Names.{Name}
+use Rattle.sym_events.specs.tc_base.declared.moves.Move.{Move}
+use Rattle.sym_events.specs.tc_base.declared.request.Request.{Request}
+use Rattle.sym_events.specs.tc_base.declared.request.Request.TheVariants.{Write, Fail}
+use Rattle.sym_events.specs.tc_code.Run.{Reproduces}
+use Rattle.sym_steps.specs.run_history.History.{Deed, Did, Drained, has_drained, drains}
+use Rattle.sym_steps.specs.run_history.Told.{steps_in, fails}
+use Rattle.sym_steps.specs.run_history.pending.Deeds.{IsIssuedIn, DrainsAreOfStores, MayDrainNext, has_bar_between}
+use Rattle.sym_steps.proofs.run_history.of_pending.In.{In, in_at, in_left, in_any, in_mapped, one_of_name}
+use Rattle.sym_steps.proofs.run_history.of_pending.Own.{stores_have_drained}
+use Rattle.sym_steps.specs.run_follows.Follow.{AllFollow}
+use Rattle.sym_events.specs.path_walk.Paths.{Walk, Paths, paths_of}
+use Rattle.sym_events.specs.path_walk.declared.event.Event.{Event}
+use Rattle.sym_events.specs.path_walk.declared.event.EventKind.{EventKind}
+use Rattle.sym_events.specs.path_walk.declared.event.EventKind.TheVariants as kind
+use Rattle.sym_steps.specs.path_laws.Setting.{Setting}
+use Rattle.sym_steps.specs.path_laws.Deeds.{kind_of}
+use Rattle.sym_steps.specs.path_laws.history.Along.{IsThread, HistoryAlong, path_thread}
+use Rattle.sym_steps.proofs.path_laws.of_history.Walks.{walk_is}
+use Rattle.sym_steps.specs.path_laws.events.Done.{IsDoneIn}
+use Rattle.sym_steps.proofs.path_laws.of_events.Bars as bars
+use Rattle.sym_steps.proofs.path_laws.of_events.Events.{event_within}
+use Rattle.sym_steps.proofs.path_laws.of_events.Steps.{steps_both}
+use Rattle.sym_steps.proofs.path_laws.of_events.Lists.{in_contains, contains_in}
+use Rattle.sym_events.specs.sym_terms.Terms.{AreTerms}
+use Rattle.sym_events.specs.sym_terms.declared.node.Node.{Node}
+use Rattle.sym_events.specs.sym_exec.Alone.{Asked, cell_by}
+use Rattle.sym_events.specs.sym_exec.Executed.{Course, Executed}
+use Rattle.sym_events.specs.sym_exec.declared.symbolic.Access.{Access}
+use Rattle.sym_steps.specs.sym_laws.Valued.{AgreesWith, found}
+use Rattle.sym_events.specs.order_formula.Worlds.{World}
+use Rattle.sym_events.specs.lawful_order.Cells.{is_same_cell}
+use Rattle.sym_events.specs.lawful_order.Events.{IsBefore}
+use Rattle.sym_events.specs.lawful_order.Memory.{is_store, may_overtake, is_kept, same_cell, cell_of, OwnRule}
+use Rattle.sym_events.specs.lawful_order.Whole.{HasStep, IsExecutedBy}
 use Rattle.sym_events.proofs.Whole.{is_executed}
 use Rattle.sym_steps.specs.accesses.Asked.{IsReachedIn}
 use Rattle.sym_steps.proofs.of_accesses.Asked.{asked_access}
@@ -59,8 +59,8 @@ use Rattle.run_lawful.proofs.of_world.Seen.{SeenBy, Done, Drain, shown_by, shows
 use Rattle.run_lawful.proofs.of_world.Splits.{TwoPlaces, Before, Same, After, two_places}
 use Rattle.run_lawful.proofs.of_world.Steps.{IsDrainedAt, drained_at, steps_after, steps_ordered, step_before_drain}
 use Rattle.run_lawful.proofs.of_own.Requests.{store_writes, failure_fails, no_store, finds_empty, none_fails}
-use Rattle.path_laws.proofs.of_history.Told.{up_to}
-use Rattle.path_laws.proofs.of_history.Logged.{history_again}
+use Rattle.sym_steps.proofs.path_laws.of_history.Told.{up_to}
+use Rattle.sym_steps.proofs.path_laws.of_history.Logged.{history_again}
 use Rattle.sym_steps.specs.Valued.{ValuedHistory}
 
 abbrev asked_of : Deed → Option EventKind

@@ -5,19 +5,19 @@ use Rattle.std.specs.FinSet as set
 use Rattle.std.specs.List.{filter_map, last_or}
 use Rattle.std.proofs.lemmas.Bool.{false≢true, true≢false, and_parts}
 use Rattle.std.proofs.lemmas.Option.{none-some}
-use Rattle.list_laws.specs.Lists.{is_nil}
-use Rattle.tc_base.specs.Names.{Name}
-use Rattle.tc_base.specs.declared.request.Request.{Request}
-use Rattle.tc_base.specs.declared.request.Request.TheVariants.{Silent, Read, Write, Bar, WakeOne, Start, Fail}
-use Rattle.store_buffers.specs.Pending.{stores}
-use Rattle.run_history.specs.History.{Deed, pending}
-use Rattle.run_history.specs.Told.{waiting_in, fails, failed_in}
-use Rattle.run_history.proofs.of_pending.In.{In}
-use Rattle.run_follows.specs.Follow.{is_let_in, may_do_in}
-use Rattle.path_walk.specs.declared.event.EventKind.{EventKind}
-use Rattle.path_walk.specs.declared.event.EventKind.TheVariants as kind
-use Rattle.path_laws.specs.Deeds.{kind_of}
-use Rattle.lawful_order.specs.Memory.{is_store, may_overtake}
+use Rattle.sym_events.specs.list_laws.Lists.{is_nil}
+use Rattle.sym_events.specs.tc_base.Names.{Name}
+use Rattle.sym_events.specs.tc_base.declared.request.Request.{Request}
+use Rattle.sym_events.specs.tc_base.declared.request.Request.TheVariants.{Silent, Read, Write, Bar, WakeOne, Start, Fail}
+use Rattle.sym_events.specs.store_buffers.Pending.{stores}
+use Rattle.sym_steps.specs.run_history.History.{Deed, pending}
+use Rattle.sym_steps.specs.run_history.Told.{waiting_in, fails, failed_in}
+use Rattle.sym_steps.proofs.run_history.of_pending.In.{In}
+use Rattle.sym_steps.specs.run_follows.Follow.{is_let_in, may_do_in}
+use Rattle.sym_events.specs.path_walk.declared.event.EventKind.{EventKind}
+use Rattle.sym_events.specs.path_walk.declared.event.EventKind.TheVariants as kind
+use Rattle.sym_steps.specs.path_laws.Deeds.{kind_of}
+use Rattle.sym_events.specs.lawful_order.Memory.{is_store, may_overtake}
 
 -- a property of the event of a request, if it is one
 abbrev if_asked : (EventKind → Bool) → Bool → Option EventKind → Bool

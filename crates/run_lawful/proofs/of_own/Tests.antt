@@ -1,18 +1,18 @@
 -- The tests of the paths in the world of a run.
 use Rattle.std.proofs.Common.{ℕ, List}
-use Rattle.tc_base.specs.declared.moves.Move.{Move}
-use Rattle.tc_code.specs.Run.{Reproduces}
-use Rattle.run_history.specs.History.{history}
-use Rattle.run_history.proofs.Ints.{models_pass_ints}
-use Rattle.path_walk.specs.Paths.{paths_of}
-use Rattle.path_laws.specs.Setting.{Setting}
-use Rattle.sym_terms.specs.Terms.{AreTerms}
-use Rattle.sym_terms.specs.declared.node.Node.{Node}
-use Rattle.sym_laws.specs.Loads.{loads_in}
-use Rattle.sym_laws.specs.Valued.{found}
-use Rattle.sym_laws.proofs.Whole.{are_met}
-use Rattle.lawful_order.specs.Tests.{TestRule}
-use Rattle.order_events.proofs.Lists.{in_at}
+use Rattle.sym_events.specs.tc_base.declared.moves.Move.{Move}
+use Rattle.sym_events.specs.tc_code.Run.{Reproduces}
+use Rattle.sym_steps.specs.run_history.History.{history}
+use Rattle.sym_steps.proofs.run_history.Ints.{models_pass_ints}
+use Rattle.sym_events.specs.path_walk.Paths.{paths_of}
+use Rattle.sym_steps.specs.path_laws.Setting.{Setting}
+use Rattle.sym_events.specs.sym_terms.Terms.{AreTerms}
+use Rattle.sym_events.specs.sym_terms.declared.node.Node.{Node}
+use Rattle.sym_steps.specs.sym_laws.Loads.{loads_in}
+use Rattle.sym_steps.specs.sym_laws.Valued.{found}
+use Rattle.sym_steps.proofs.sym_laws.Whole.{are_met}
+use Rattle.sym_events.specs.lawful_order.Tests.{TestRule}
+use Rattle.sym_events.proofs.order_events.Lists.{in_at}
 use Rattle.run_lawful.specs.world.WorldOf.{world_in}
 use Rattle.run_lawful.proofs.of_world.Loads.{agrees}
 use Rattle.run_lawful.proofs.of_world.Run.{fits}

@@ -4,38 +4,38 @@ use Rattle.std.specs.Prelude.{slice_get}
 use Rattle.std.specs.List.{Contains}
 use Rattle.std.proofs.lemmas.Bool.{cases_order}
 use Rattle.std.proofs.lemmas.Option.{same_Some}
-use Rattle.tc_base.specs.Names.{Name}
-use Rattle.tc_base.specs.declared.moves.Move.{Move}
-use Rattle.tc_base.specs.declared.request.Request.{Request}
-use Rattle.tc_code.specs.Run.{Reproduces}
-use Rattle.run_history.specs.History.{Deed, Did, history}
-use Rattle.run_history.specs.Told.{steps_in}
-use Rattle.run_history.proofs.of_pending.In.{In, in_split}
-use Rattle.path_walk.specs.Fits.{Fits}
-use Rattle.path_walk.specs.Paths.{Walk, Paths, paths_of}
-use Rattle.path_laws.specs.Setting.{Setting}
-use Rattle.path_laws.specs.history.Along.{IsThread, path_thread}
-use Rattle.path_laws.proofs.of_history.Walks.{walk_is, thread_path_at}
-use Rattle.path_laws.proofs.of_events.Events.{event_within}
-use Rattle.path_laws.proofs.of_events.Lists.{contains_in, in_contains}
-use Rattle.sym_terms.specs.Terms.{AreTerms}
-use Rattle.sym_terms.specs.declared.node.Node.{Node}
-use Rattle.sym_exec.specs.Alone.{Asked, asked_by, asked_in, cell_by}
-use Rattle.sym_exec.specs.Executed.{Course, Symbolic}
-use Rattle.sym_exec.specs.declared.symbolic.Access.{Access}
-use Rattle.sym_laws.specs.Valued.{AgreesWith, found}
-use Rattle.sym_laws.proofs.Follows.{found_at_log}
+use Rattle.sym_events.specs.tc_base.Names.{Name}
+use Rattle.sym_events.specs.tc_base.declared.moves.Move.{Move}
+use Rattle.sym_events.specs.tc_base.declared.request.Request.{Request}
+use Rattle.sym_events.specs.tc_code.Run.{Reproduces}
+use Rattle.sym_steps.specs.run_history.History.{Deed, Did, history}
+use Rattle.sym_steps.specs.run_history.Told.{steps_in}
+use Rattle.sym_steps.proofs.run_history.of_pending.In.{In, in_split}
+use Rattle.sym_events.specs.path_walk.Fits.{Fits}
+use Rattle.sym_events.specs.path_walk.Paths.{Walk, Paths, paths_of}
+use Rattle.sym_steps.specs.path_laws.Setting.{Setting}
+use Rattle.sym_steps.specs.path_laws.history.Along.{IsThread, path_thread}
+use Rattle.sym_steps.proofs.path_laws.of_history.Walks.{walk_is, thread_path_at}
+use Rattle.sym_steps.proofs.path_laws.of_events.Events.{event_within}
+use Rattle.sym_steps.proofs.path_laws.of_events.Lists.{contains_in, in_contains}
+use Rattle.sym_events.specs.sym_terms.Terms.{AreTerms}
+use Rattle.sym_events.specs.sym_terms.declared.node.Node.{Node}
+use Rattle.sym_events.specs.sym_exec.Alone.{Asked, asked_by, asked_in, cell_by}
+use Rattle.sym_events.specs.sym_exec.Executed.{Course, Symbolic}
+use Rattle.sym_events.specs.sym_exec.declared.symbolic.Access.{Access}
+use Rattle.sym_steps.specs.sym_laws.Valued.{AgreesWith, found}
+use Rattle.sym_steps.proofs.sym_laws.Follows.{found_at_log}
 use Rattle.sym_events.proofs.Whole.{is_executed}
-use Rattle.order_formula.specs.Worlds.{World}
-use Rattle.order_events.proofs.Lists.{in_at}
-use Rattle.lawful_order.specs.Cells.{is_same_cell, value_at_start}
-use Rattle.lawful_order.specs.Reads.{HasAccess}
-use Rattle.lawful_order.specs.Whole.{IsExecutedBy, HasStep}
+use Rattle.sym_events.specs.order_formula.Worlds.{World}
+use Rattle.sym_events.proofs.order_events.Lists.{in_at}
+use Rattle.sym_events.specs.lawful_order.Cells.{is_same_cell, value_at_start}
+use Rattle.sym_events.specs.lawful_order.Reads.{HasAccess}
+use Rattle.sym_events.specs.lawful_order.Whole.{IsExecutedBy, HasStep}
 use Rattle.sym_steps.specs.accesses.Asked.{IsAskedIn, IsReachedIn}
 use Rattle.sym_steps.proofs.of_accesses.Asked.{access_asked, asked_access}
 use Rattle.sym_steps.proofs.of_accesses.Reached.{same_cells, cell_begins}
 use Rattle.run_lawful.proofs.of_world.Run.{fits, all_steps}
-use Rattle.path_laws.proofs.of_history.Logged.{history_again}
+use Rattle.sym_steps.proofs.path_laws.of_history.Logged.{history_again}
 use Rattle.sym_steps.specs.Valued.{ValuedHistory}
 
 module _ {B : Type 0} (setting : Setting B) (nodes : List Node) (terms : AreTerms nodes) (moves : List Move)

@@ -2,23 +2,23 @@
 use Rattle.std.proofs.Common.{◌≡◌, ◌∙◌, ℕ, ◌&&◌, ℤ, Bool, true, false, List, [], ◌∷◌, Option, Some, None, refl, sym, ap}
 use Rattle.std.specs.Prelude.{is_some, unwrap_or}
 use Rattle.std.proofs.lemmas.Bool.{false≢true, and_parts}
-use Rattle.tc_base.specs.Buffers.{Entry}
-use Rattle.store_buffers.specs.Buffers.{newest}
-use Rattle.list_laws.specs.Lists.{is_nil}
-use Rattle.tc_base.specs.Names.{Name}
-use Rattle.tc_base.specs.declared.request.Request.{Request}
-use Rattle.tc_base.specs.declared.request.Request.TheVariants.{Read, Write, Exchange, CompareExchange}
-use Rattle.tc_code.specs.Code.{Code}
-use Rattle.tc_code.specs.Step.{replaced}
-use Rattle.store_buffers.specs.Pending.{stores}
-use Rattle.run_history.specs.History.{Deed, pending}
-use Rattle.run_history.specs.Told.{value_in}
-use Rattle.run_follows.specs.Follow.{IsNextStep, seen_in}
-use Rattle.path_walk.specs.declared.event.EventKind.{EventKind}
-use Rattle.path_walk.specs.declared.event.EventKind.TheVariants as kind
-use Rattle.path_laws.specs.Deeds.{kind_of}
-use Rattle.lawful_order.specs.Memory.{is_store}
-use Rattle.sym_exec.specs.Alone.{Asked, asked_by}
+use Rattle.sym_events.specs.tc_base.Buffers.{Entry}
+use Rattle.sym_events.specs.store_buffers.Buffers.{newest}
+use Rattle.sym_events.specs.list_laws.Lists.{is_nil}
+use Rattle.sym_events.specs.tc_base.Names.{Name}
+use Rattle.sym_events.specs.tc_base.declared.request.Request.{Request}
+use Rattle.sym_events.specs.tc_base.declared.request.Request.TheVariants.{Read, Write, Exchange, CompareExchange}
+use Rattle.sym_events.specs.tc_code.Code.{Code}
+use Rattle.sym_events.specs.tc_code.Step.{replaced}
+use Rattle.sym_events.specs.store_buffers.Pending.{stores}
+use Rattle.sym_steps.specs.run_history.History.{Deed, pending}
+use Rattle.sym_steps.specs.run_history.Told.{value_in}
+use Rattle.sym_steps.specs.run_follows.Follow.{IsNextStep, seen_in}
+use Rattle.sym_events.specs.path_walk.declared.event.EventKind.{EventKind}
+use Rattle.sym_events.specs.path_walk.declared.event.EventKind.TheVariants as kind
+use Rattle.sym_steps.specs.path_laws.Deeds.{kind_of}
+use Rattle.sym_events.specs.lawful_order.Memory.{is_store}
+use Rattle.sym_events.specs.sym_exec.Alone.{Asked, asked_by}
 use Rattle.run_lawful.proofs.of_reads.Writes.{asking, never_waits}
 
 -- a load takes place by its own step

@@ -2,12 +2,12 @@
 use Rattle.std.proofs.Common.{◌≡◌, ◌∙◌, ◌⊎◌, inl, inr, ℕ, Bool, true, false, List, ◌∷◌, ◌++◌, refl, sym, ap, subst}
 use Rattle.std.specs.List.{list_any}
 use Rattle.std.proofs.lemmas.Bool.{true≢false}
-use Rattle.run_history.specs.History.{Deed}
-use Rattle.run_history.proofs.of_pending.In.{In, in_at, in_split, any_in, in_any}
-use Rattle.path_walk.specs.Paths.{Paths}
-use Rattle.order_formula.specs.Worlds.{World}
-use Rattle.lawful_order.specs.Events.{IsBefore}
-use Rattle.lawful_order.specs.Whole.{HasStep}
+use Rattle.sym_steps.specs.run_history.History.{Deed}
+use Rattle.sym_steps.proofs.run_history.of_pending.In.{In, in_at, in_split, any_in, in_any}
+use Rattle.sym_events.specs.path_walk.Paths.{Paths}
+use Rattle.sym_events.specs.order_formula.Worlds.{World}
+use Rattle.sym_events.specs.lawful_order.Events.{IsBefore}
+use Rattle.sym_events.specs.lawful_order.Whole.{HasStep}
 use Rattle.world_plan.specs.Sights.{Shows}
 use Rattle.run_lawful.specs.world.Order.{TakesPlace, TakesPlaceBefore, IsOrderOf}
 use Rattle.run_lawful.proofs.of_world.Seen.{shown, shown_is, is_shown_by}

@@ -2,21 +2,21 @@
 use Rattle.std.proofs.Common.{◌≡◌, ◌∙◌, inl, inr, ℕ, ◌<◌, ℤ, true, List, ◌∷◌, ◌++◌, Option, Some, refl, sym, ap, subst}
 use Rattle.std.specs.Prelude.{slice_get}
 use Rattle.std.proofs.lemmas.Bool.{true≢false, true_from_ne_false, eq-eqb}
-use Rattle.tc_base.specs.Buffers.{BufferOps}
-use Rattle.tc_base.specs.Names.{Name}
-use Rattle.memory_models.specs.declared.model.Model.{Model}
-use Rattle.tc_base.specs.declared.request.Request.TheVariants.{Write}
-use Rattle.tc_code.specs.Code.{Code}
-use Rattle.store_buffers.specs.Laws.{Laws}
-use Rattle.store_buffers.specs.Pending.{Binding}
-use Rattle.run_history.specs.History.{Deed, Did, Drained, has_drained}
-use Rattle.run_history.specs.pending.Deeds.{IsIssuedIn, has_bar_between}
-use Rattle.run_history.proofs.of_pending.In.{In, in_at, in_split}
-use Rattle.run_follows.specs.Follow.{AllFollow}
-use Rattle.path_walk.specs.Paths.{Walk, Paths}
-use Rattle.order_formula.specs.Worlds.{World}
-use Rattle.lawful_order.specs.Events.{IsBefore}
-use Rattle.lawful_order.specs.Whole.{HasStep}
+use Rattle.sym_events.specs.tc_base.Buffers.{BufferOps}
+use Rattle.sym_events.specs.tc_base.Names.{Name}
+use Rattle.sym_events.specs.memory_models.declared.model.Model.{Model}
+use Rattle.sym_events.specs.tc_base.declared.request.Request.TheVariants.{Write}
+use Rattle.sym_events.specs.tc_code.Code.{Code}
+use Rattle.sym_events.specs.store_buffers.Laws.{Laws}
+use Rattle.sym_events.specs.store_buffers.Pending.{Binding}
+use Rattle.sym_steps.specs.run_history.History.{Deed, Did, Drained, has_drained}
+use Rattle.sym_steps.specs.run_history.pending.Deeds.{IsIssuedIn, has_bar_between}
+use Rattle.sym_steps.proofs.run_history.of_pending.In.{In, in_at, in_split}
+use Rattle.sym_steps.specs.run_follows.Follow.{AllFollow}
+use Rattle.sym_events.specs.path_walk.Paths.{Walk, Paths}
+use Rattle.sym_events.specs.order_formula.Worlds.{World}
+use Rattle.sym_events.specs.lawful_order.Events.{IsBefore}
+use Rattle.sym_events.specs.lawful_order.Whole.{HasStep}
 use Rattle.run_lawful.specs.world.Order.{IsOrderOf}
 use Rattle.run_lawful.proofs.of_world.Seen.{AreTold, shown_by, shows_drain}
 use Rattle.run_lawful.proofs.of_world.Steps.{IsDrainedAt, step_before_drain}

@@ -6,34 +6,34 @@ use Rattle.std.specs.List.{filter_map}
 use Rattle.std.proofs.lemmas.Bool.{true≢false, eq-eqb, eqb-true, cases_order}
 use Rattle.std.proofs.lemmas.List.{append_cancel_left}
 use Rattle.std.proofs.lemmas.Option.{same_Some}
-use Rattle.tc_base.specs.Names.{Name}
-use Rattle.tc_base.specs.declared.moves.Move.{Move}
-use Rattle.tc_base.specs.declared.request.Request.{Request}
-use Rattle.tc_base.specs.declared.request.Request.TheVariants.{Write}
-use Rattle.tc_code.specs.Run.{Reproduces}
-use Rattle.run_laws.proofs.Basics.{some_value}
-use Rattle.run_history.specs.History.{Deed, Did, Drained, has_drained, history}
-use Rattle.run_history.specs.Last.{IsLast, brings}
-use Rattle.run_history.specs.Told.{reaches, value_in}
-use Rattle.run_history.proofs.Last.{cells_have_last, cells_begin}
-use Rattle.run_history.specs.pending.Deeds.{own_value}
-use Rattle.run_history.proofs.of_pending.In.{In, in_append, in_at, in_left, in_split}
-use Rattle.run_history.proofs.of_pending.Own.{own_has_last, own_has_none}
-use Rattle.run_follows.specs.Follow.{IsNextStep, seen_in}
-use Rattle.path_walk.specs.Paths.{Walk, Paths, paths_of}
-use Rattle.path_laws.specs.Setting.{Setting}
-use Rattle.path_laws.specs.history.Along.{IsThread, IsNameOfThread, HistoryAlong}
-use Rattle.path_laws.proofs.of_history.Walks.{thread_named}
-use Rattle.sym_terms.specs.Terms.{AreTerms}
-use Rattle.sym_terms.specs.declared.node.Node.{Node}
-use Rattle.sym_exec.specs.Alone.{Asked, asked_by, asked_in, cell_by}
-use Rattle.sym_exec.specs.Executed.{Symbolic}
-use Rattle.sym_exec.specs.declared.symbolic.Access.{Access}
-use Rattle.sym_laws.specs.Valued.{AgreesWith, found}
-use Rattle.order_formula.specs.Worlds.{World}
-use Rattle.lawful_order.specs.Events.{IsBefore}
-use Rattle.lawful_order.specs.Reads.{HasAccess, Sees, TakesFrom, TakesFirst, ReadRule}
-use Rattle.lawful_order.specs.Whole.{HasStep}
+use Rattle.sym_events.specs.tc_base.Names.{Name}
+use Rattle.sym_events.specs.tc_base.declared.moves.Move.{Move}
+use Rattle.sym_events.specs.tc_base.declared.request.Request.{Request}
+use Rattle.sym_events.specs.tc_base.declared.request.Request.TheVariants.{Write}
+use Rattle.sym_events.specs.tc_code.Run.{Reproduces}
+use Rattle.sym_events.proofs.run_laws.Basics.{some_value}
+use Rattle.sym_steps.specs.run_history.History.{Deed, Did, Drained, has_drained, history}
+use Rattle.sym_steps.specs.run_history.Last.{IsLast, brings}
+use Rattle.sym_steps.specs.run_history.Told.{reaches, value_in}
+use Rattle.sym_steps.proofs.run_history.Last.{cells_have_last, cells_begin}
+use Rattle.sym_steps.specs.run_history.pending.Deeds.{own_value}
+use Rattle.sym_steps.proofs.run_history.of_pending.In.{In, in_append, in_at, in_left, in_split}
+use Rattle.sym_steps.proofs.run_history.of_pending.Own.{own_has_last, own_has_none}
+use Rattle.sym_steps.specs.run_follows.Follow.{IsNextStep, seen_in}
+use Rattle.sym_events.specs.path_walk.Paths.{Walk, Paths, paths_of}
+use Rattle.sym_steps.specs.path_laws.Setting.{Setting}
+use Rattle.sym_steps.specs.path_laws.history.Along.{IsThread, IsNameOfThread, HistoryAlong}
+use Rattle.sym_steps.proofs.path_laws.of_history.Walks.{thread_named}
+use Rattle.sym_events.specs.sym_terms.Terms.{AreTerms}
+use Rattle.sym_events.specs.sym_terms.declared.node.Node.{Node}
+use Rattle.sym_events.specs.sym_exec.Alone.{Asked, asked_by, asked_in, cell_by}
+use Rattle.sym_events.specs.sym_exec.Executed.{Symbolic}
+use Rattle.sym_events.specs.sym_exec.declared.symbolic.Access.{Access}
+use Rattle.sym_steps.specs.sym_laws.Valued.{AgreesWith, found}
+use Rattle.sym_events.specs.order_formula.Worlds.{World}
+use Rattle.sym_events.specs.lawful_order.Events.{IsBefore}
+use Rattle.sym_events.specs.lawful_order.Reads.{HasAccess, Sees, TakesFrom, TakesFirst, ReadRule}
+use Rattle.sym_events.specs.lawful_order.Whole.{HasStep}
 use Rattle.world_plan.specs.Sights.{Sight, sight_of, Shows}
 use Rattle.world_plan.proofs.Threads.{one_thread}
 use Rattle.run_lawful.specs.world.Order.{IsOrderOf}
@@ -46,8 +46,8 @@ use Rattle.run_lawful.proofs.of_reads.Order.{IsShownIn, first_before, shown_befo
 use Rattle.run_lawful.proofs.of_reads.Own.{own_in_order}
 use Rattle.run_lawful.proofs.of_reads.Writes.{last_or_none, none_gives, drain_in, in_drain, asking, entry, reached, brings_so, seen_or_waits, by_its_drain, shown_reaches}
 use Rattle.run_lawful.proofs.of_reads.Writes.{IsOfStep, of_step, writes_asked, asks_written, IsPendingStore, own_is, own_so}
-use Rattle.path_laws.proofs.of_history.Told.{its_run, up_to}
-use Rattle.path_laws.proofs.of_history.Logged.{history_again}
+use Rattle.sym_steps.proofs.path_laws.of_history.Told.{its_run, up_to}
+use Rattle.sym_steps.proofs.path_laws.of_history.Logged.{history_again}
 
 then_before : (i j k : ℕ) → i < j → j < k → i < k
 then_before i j k first second = omega (arith, first, second)

@@ -4,22 +4,22 @@ use Rattle.std.specs.Prelude.{option_and_then, if◌then◌else◌}
 use Rattle.std.specs.List.{filter_map, cons_option}
 use Rattle.std.proofs.lemmas.Bool.{true≢false, and_parts, eqb-true, eq-eqb, not-true}
 use Rattle.std.proofs.lemmas.Option.{none-some, same_Some, cond_some}
-use Rattle.tc_base.specs.Buffers.{Entry}
-use Rattle.tc_base.specs.Names.{Name}
-use Rattle.tc_base.specs.declared.request.Request.{Request}
-use Rattle.tc_base.specs.declared.request.Request.TheVariants.{Read, Write, Exchange, CompareExchange}
-use Rattle.tc_code.specs.Step.{replaced}
-use Rattle.run_laws.proofs.Names.{is_same, same_self}
-use Rattle.run_history.specs.History.{Deed, Did, Drained, same, drains, has_drained}
-use Rattle.run_history.specs.Last.{IsLast, brings}
-use Rattle.run_history.specs.Told.{reaches}
-use Rattle.run_history.specs.pending.Deeds.{name_of, own_value}
-use Rattle.run_history.proofs.of_pending.In.{In, in_any, in_at, in_mapped, one_of_name}
-use Rattle.path_walk.specs.declared.event.EventKind.{EventKind}
-use Rattle.path_walk.specs.declared.event.EventKind.TheVariants as kind
-use Rattle.path_laws.specs.Deeds.{kind_of}
-use Rattle.lawful_order.specs.Memory.{is_store}
-use Rattle.sym_exec.specs.Alone.{Asked, asked_by}
+use Rattle.sym_events.specs.tc_base.Buffers.{Entry}
+use Rattle.sym_events.specs.tc_base.Names.{Name}
+use Rattle.sym_events.specs.tc_base.declared.request.Request.{Request}
+use Rattle.sym_events.specs.tc_base.declared.request.Request.TheVariants.{Read, Write, Exchange, CompareExchange}
+use Rattle.sym_events.specs.tc_code.Step.{replaced}
+use Rattle.sym_events.proofs.run_laws.Names.{is_same, same_self}
+use Rattle.sym_steps.specs.run_history.History.{Deed, Did, Drained, same, drains, has_drained}
+use Rattle.sym_steps.specs.run_history.Last.{IsLast, brings}
+use Rattle.sym_steps.specs.run_history.Told.{reaches}
+use Rattle.sym_steps.specs.run_history.pending.Deeds.{name_of, own_value}
+use Rattle.sym_steps.proofs.run_history.of_pending.In.{In, in_any, in_at, in_mapped, one_of_name}
+use Rattle.sym_events.specs.path_walk.declared.event.EventKind.{EventKind}
+use Rattle.sym_events.specs.path_walk.declared.event.EventKind.TheVariants as kind
+use Rattle.sym_steps.specs.path_laws.Deeds.{kind_of}
+use Rattle.sym_events.specs.lawful_order.Memory.{is_store}
+use Rattle.sym_events.specs.sym_exec.Alone.{Asked, asked_by}
 use Rattle.run_lawful.proofs.of_world.Seen.{SeenBy, Done, Drain, AreTold, store_of}
 use Rattle.run_lawful.proofs.of_world.Steps.{drained_at}
 

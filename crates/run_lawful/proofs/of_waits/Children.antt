@@ -7,33 +7,33 @@ use Rattle.std.proofs.lemmas.Bool.{false≢true, and_parts}
 use Rattle.std.proofs.lemmas.List.Elements.{filter_map-append}
 use Rattle.std.proofs.lemmas.List.Folds.{list_any-append}
 use Rattle.std.proofs.lemmas.Option.{same_Some}
-use Rattle.list_laws.specs.Lists.{is_nil}
-use Rattle.tc_base.specs.Names.{Name, main, child}
-use Rattle.tc_base.specs.declared.moves.Move.{Move}
-use Rattle.tc_base.specs.declared.request.Request.{Request}
-use Rattle.tc_base.specs.declared.request.Request.TheVariants.{Await}
-use Rattle.tc_code.specs.Run.{Reproduces}
-use Rattle.tc_code.specs.Step.{drains_first}
-use Rattle.store_buffers.specs.Pending.{stores}
-use Rattle.run_laws.proofs.Created.{child_is_new}
-use Rattle.run_history.specs.History.{Deed, Did, same, pending}
-use Rattle.run_history.specs.Told.{creates, is_thread_in, children_in, has_exited_in}
-use Rattle.run_history.proofs.Lists.{last_or-push}
-use Rattle.run_history.proofs.Threads.{children_are}
-use Rattle.run_follows.specs.Follow.{OtherIs, may_do_in}
-use Rattle.path_walk.specs.Paths.{Walk, Paths}
-use Rattle.path_walk.specs.declared.event.Event.{Event}
-use Rattle.path_walk.specs.declared.event.Link.{Link}
-use Rattle.path_laws.specs.Setting.{Setting}
-use Rattle.path_laws.specs.history.Along.{IsThread, PathThread, path_thread}
-use Rattle.path_laws.proofs.of_history.Told.{reached, thread_of, its_run}
-use Rattle.path_laws.proofs.of_events.Events.{event_done}
-use Rattle.path_laws.proofs.of_events.Lists.{in_contains}
-use Rattle.path_laws.proofs.of_events.Waiters.{exits_told}
-use Rattle.sym_terms.specs.declared.node.Node.{Node}
-use Rattle.lawful_order.specs.Children.{ChildRule, HasExited}
-use Rattle.lawful_order.specs.Events.{IsBefore}
-use Rattle.lawful_order.specs.Memory.{is_store}
+use Rattle.sym_events.specs.list_laws.Lists.{is_nil}
+use Rattle.sym_events.specs.tc_base.Names.{Name, main, child}
+use Rattle.sym_events.specs.tc_base.declared.moves.Move.{Move}
+use Rattle.sym_events.specs.tc_base.declared.request.Request.{Request}
+use Rattle.sym_events.specs.tc_base.declared.request.Request.TheVariants.{Await}
+use Rattle.sym_events.specs.tc_code.Run.{Reproduces}
+use Rattle.sym_events.specs.tc_code.Step.{drains_first}
+use Rattle.sym_events.specs.store_buffers.Pending.{stores}
+use Rattle.sym_events.proofs.run_laws.Created.{child_is_new}
+use Rattle.sym_steps.specs.run_history.History.{Deed, Did, same, pending}
+use Rattle.sym_steps.specs.run_history.Told.{creates, is_thread_in, children_in, has_exited_in}
+use Rattle.sym_steps.proofs.run_history.Lists.{last_or-push}
+use Rattle.sym_steps.proofs.run_history.Threads.{children_are}
+use Rattle.sym_steps.specs.run_follows.Follow.{OtherIs, may_do_in}
+use Rattle.sym_events.specs.path_walk.Paths.{Walk, Paths}
+use Rattle.sym_events.specs.path_walk.declared.event.Event.{Event}
+use Rattle.sym_events.specs.path_walk.declared.event.Link.{Link}
+use Rattle.sym_steps.specs.path_laws.Setting.{Setting}
+use Rattle.sym_steps.specs.path_laws.history.Along.{IsThread, PathThread, path_thread}
+use Rattle.sym_steps.proofs.path_laws.of_history.Told.{reached, thread_of, its_run}
+use Rattle.sym_steps.proofs.path_laws.of_events.Events.{event_done}
+use Rattle.sym_steps.proofs.path_laws.of_events.Lists.{in_contains}
+use Rattle.sym_steps.proofs.path_laws.of_events.Waiters.{exits_told}
+use Rattle.sym_events.specs.sym_terms.declared.node.Node.{Node}
+use Rattle.sym_events.specs.lawful_order.Children.{ChildRule, HasExited}
+use Rattle.sym_events.specs.lawful_order.Events.{IsBefore}
+use Rattle.sym_events.specs.lawful_order.Memory.{is_store}
 use Rattle.world_plan.specs.Sights.{Shows}
 use Rattle.run_lawful.proofs.of_world.Seen.{shows_step}
 use Rattle.run_lawful.proofs.of_world.Splits.{TwoPlaces, Before, Same, After, two_places}

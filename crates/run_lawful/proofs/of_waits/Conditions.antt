@@ -8,40 +8,40 @@ use Rattle.std.specs.List.{Contains, filter_map, list_any}
 use Rattle.std.proofs.lemmas.Bool.{false≢true, true≢false, and_parts, cases_Bool, eq-eqb, eqb-true, false_from_ne_true}
 use Rattle.std.proofs.lemmas.List.{append_cancel_left}
 use Rattle.std.proofs.lemmas.Option.{none-some, same_Some, slice_get-map, slice_get_cases, unwrap_or-slice_get}
-use Rattle.list_laws.specs.Lists.{is_nil}
-use Rattle.tc_base.specs.Names.{Name}
-use Rattle.tc_base.specs.declared.moves.Move.{Move}
-use Rattle.tc_base.specs.declared.request.Request.TheVariants.{BeginWait, WakeOne, WakeAll}
-use Rattle.tc_code.specs.Run.{Reproduces}
-use Rattle.tc_code.specs.Step.{drains_first}
-use Rattle.store_buffers.specs.Pending.{stores}
-use Rattle.run_laws.proofs.Names.{same_self}
-use Rattle.run_history.specs.History.{Deed, Did, pending}
-use Rattle.run_history.specs.Last.{waits_by}
-use Rattle.run_history.specs.Told.{waiting_in}
-use Rattle.run_follows.proofs.of_deeds.Nobody.{nobody_waits}
-use Rattle.run_follows.specs.Follow.{may_do_in}
-use Rattle.run_history.specs.pending.Deeds.{DeedName, name_of}
-use Rattle.path_walk.specs.Fits.{Fits}
-use Rattle.path_walk.specs.Paths.{Walk, Paths}
-use Rattle.path_walk.specs.declared.event.Event.{Event}
-use Rattle.path_walk.specs.declared.event.EventKind.{EventKind}
-use Rattle.path_walk.specs.declared.event.EventKind.TheVariants as kind
-use Rattle.path_walk.specs.declared.event.Sleep.{Sleep}
-use Rattle.path_laws.specs.Setting.{Setting}
-use Rattle.path_laws.specs.history.Along.{IsThread, path_thread}
-use Rattle.path_laws.proofs.of_history.Walks.{walk_is}
-use Rattle.path_laws.proofs.of_events.Lists.{in_contains}
-use Rattle.path_laws.proofs.of_events.Sleeps.{walk_wakes}
-use Rattle.path_laws.proofs.of_events.Waiters.{sleep_waits, waiter_named}
-use Rattle.sym_laws.specs.Valued.{found}
-use Rattle.sym_terms.specs.declared.node.Node.{Node}
-use Rattle.order_formula.specs.Worlds.{World, position}
-use Rattle.lawful_order.specs.Conditions.{is_signal, is_broadcast, Waits, ConditionRule}
-use Rattle.lawful_order.specs.Events.{Of, all_events, all_sleeps, number_of, place_of, ender_of, IsBefore}
-use Rattle.lawful_order.specs.Memory.{is_store}
-use Rattle.order_events.proofs.Lists.{in_at as place_of_one}
-use Rattle.order_events.proofs.Numbers.{in_all_from, one_step}
+use Rattle.sym_events.specs.list_laws.Lists.{is_nil}
+use Rattle.sym_events.specs.tc_base.Names.{Name}
+use Rattle.sym_events.specs.tc_base.declared.moves.Move.{Move}
+use Rattle.sym_events.specs.tc_base.declared.request.Request.TheVariants.{BeginWait, WakeOne, WakeAll}
+use Rattle.sym_events.specs.tc_code.Run.{Reproduces}
+use Rattle.sym_events.specs.tc_code.Step.{drains_first}
+use Rattle.sym_events.specs.store_buffers.Pending.{stores}
+use Rattle.sym_events.proofs.run_laws.Names.{same_self}
+use Rattle.sym_steps.specs.run_history.History.{Deed, Did, pending}
+use Rattle.sym_steps.specs.run_history.Last.{waits_by}
+use Rattle.sym_steps.specs.run_history.Told.{waiting_in}
+use Rattle.sym_steps.proofs.run_follows.of_deeds.Nobody.{nobody_waits}
+use Rattle.sym_steps.specs.run_follows.Follow.{may_do_in}
+use Rattle.sym_steps.specs.run_history.pending.Deeds.{DeedName, name_of}
+use Rattle.sym_events.specs.path_walk.Fits.{Fits}
+use Rattle.sym_events.specs.path_walk.Paths.{Walk, Paths}
+use Rattle.sym_events.specs.path_walk.declared.event.Event.{Event}
+use Rattle.sym_events.specs.path_walk.declared.event.EventKind.{EventKind}
+use Rattle.sym_events.specs.path_walk.declared.event.EventKind.TheVariants as kind
+use Rattle.sym_events.specs.path_walk.declared.event.Sleep.{Sleep}
+use Rattle.sym_steps.specs.path_laws.Setting.{Setting}
+use Rattle.sym_steps.specs.path_laws.history.Along.{IsThread, path_thread}
+use Rattle.sym_steps.proofs.path_laws.of_history.Walks.{walk_is}
+use Rattle.sym_steps.proofs.path_laws.of_events.Lists.{in_contains}
+use Rattle.sym_steps.proofs.path_laws.of_events.Sleeps.{walk_wakes}
+use Rattle.sym_steps.proofs.path_laws.of_events.Waiters.{sleep_waits, waiter_named}
+use Rattle.sym_steps.specs.sym_laws.Valued.{found}
+use Rattle.sym_events.specs.sym_terms.declared.node.Node.{Node}
+use Rattle.sym_events.specs.order_formula.Worlds.{World, position}
+use Rattle.sym_events.specs.lawful_order.Conditions.{is_signal, is_broadcast, Waits, ConditionRule}
+use Rattle.sym_events.specs.lawful_order.Events.{Of, all_events, all_sleeps, number_of, place_of, ender_of, IsBefore}
+use Rattle.sym_events.specs.lawful_order.Memory.{is_store}
+use Rattle.sym_events.proofs.order_events.Lists.{in_at as place_of_one}
+use Rattle.sym_events.proofs.order_events.Numbers.{in_all_from, one_step}
 use Rattle.world_plan.specs.Sights.{Shows}
 use Rattle.world_plan.proofs.Numbers.{event_numbered, number_is}
 use Rattle.run_lawful.specs.world.Order.{TakesPlace}
@@ -56,7 +56,7 @@ use Rattle.run_lawful.proofs.of_waits.First.{comes_first}
 use Rattle.run_lawful.proofs.of_waits.Parts.{signal_is, broadcast_is}
 use Rattle.run_lawful.proofs.of_waits.Sleeping.{gives_none, none_ends, SleepDeed, sleep_deed, waits_while, none_between, EndsAt, ends_at, ended_by, waiter_rests}
 use Rattle.run_lawful.proofs.of_waits.Sleeps.{one_sleep}
-use Rattle.path_laws.proofs.of_history.Logged.{history_again}
+use Rattle.sym_steps.proofs.path_laws.of_history.Logged.{history_again}
 
 -- a signal that wakes a thread ends its wait, and a broadcast ends all waits on its condition
 wakes_it : (c : ℕ) (n q : Name) (k : ℕ) (took : ℤ) → ends_wait c n (Did q k (WakeOne c) took (Some n)) ≡ true

@@ -4,22 +4,22 @@ use Rattle.std.proofs.Common.{◌≡◌, ◌∙◌, ℕ, ℤ, Bool, true, false,
 use Rattle.std.specs.List.{Contains}
 use Rattle.std.proofs.lemmas.Bool.{true≢false, eq-eqb}
 use Rattle.std.proofs.lemmas.Option.{same_Some}
-use Rattle.tc_base.specs.Names.{Name}
-use Rattle.tc_base.specs.declared.moves.Move.{Move}
-use Rattle.tc_base.specs.declared.request.Request.TheVariants.{Write}
-use Rattle.tc_code.specs.Run.{Reproduces}
-use Rattle.run_laws.proofs.Names.{same_self}
-use Rattle.run_history.specs.History.{Deed, Did, Drained, drains, has_drained}
-use Rattle.run_history.proofs.of_pending.In.{In, in_at, in_any, one_of_name}
-use Rattle.path_walk.specs.Paths.{Walk, Paths}
-use Rattle.path_walk.specs.declared.event.Event.{Event}
-use Rattle.path_walk.specs.declared.event.EventKind.{EventKind}
-use Rattle.path_laws.specs.Setting.{Setting}
-use Rattle.path_laws.specs.Deeds.{kind_of}
-use Rattle.path_laws.specs.history.Along.{IsThread}
-use Rattle.sym_terms.specs.declared.node.Node.{Node}
-use Rattle.lawful_order.specs.Events.{IsBefore}
-use Rattle.lawful_order.specs.Memory.{is_store}
+use Rattle.sym_events.specs.tc_base.Names.{Name}
+use Rattle.sym_events.specs.tc_base.declared.moves.Move.{Move}
+use Rattle.sym_events.specs.tc_base.declared.request.Request.TheVariants.{Write}
+use Rattle.sym_events.specs.tc_code.Run.{Reproduces}
+use Rattle.sym_events.proofs.run_laws.Names.{same_self}
+use Rattle.sym_steps.specs.run_history.History.{Deed, Did, Drained, drains, has_drained}
+use Rattle.sym_steps.proofs.run_history.of_pending.In.{In, in_at, in_any, one_of_name}
+use Rattle.sym_events.specs.path_walk.Paths.{Walk, Paths}
+use Rattle.sym_events.specs.path_walk.declared.event.Event.{Event}
+use Rattle.sym_events.specs.path_walk.declared.event.EventKind.{EventKind}
+use Rattle.sym_steps.specs.path_laws.Setting.{Setting}
+use Rattle.sym_steps.specs.path_laws.Deeds.{kind_of}
+use Rattle.sym_steps.specs.path_laws.history.Along.{IsThread}
+use Rattle.sym_events.specs.sym_terms.declared.node.Node.{Node}
+use Rattle.sym_events.specs.lawful_order.Events.{IsBefore}
+use Rattle.sym_events.specs.lawful_order.Memory.{is_store}
 use Rattle.world_plan.specs.Sights.{Shows}
 use Rattle.run_lawful.specs.world.Order.{TakesPlace}
 use Rattle.run_lawful.proofs.of_world.Enders.{is_its_step}

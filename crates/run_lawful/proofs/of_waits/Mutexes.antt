@@ -6,34 +6,34 @@ use Rattle.std.specs.FinSet as set
 use Rattle.std.specs.List.{Contains}
 use Rattle.std.proofs.lemmas.Bool.{false≢true, and_parts, cases_lt}
 use Rattle.std.proofs.lemmas.Option.{none-some, same_Some}
-use Rattle.list_laws.specs.Lists.{is_nil}
-use Rattle.tc_base.specs.Names.{Name}
-use Rattle.tc_base.specs.declared.moves.Move.{Move}
-use Rattle.tc_base.specs.declared.request.Request.{Request}
-use Rattle.tc_base.specs.declared.request.Request.TheVariants.{Acquire, EndWait}
-use Rattle.tc_code.specs.Run.{Reproduces}
-use Rattle.tc_code.specs.Step.{drains_first}
-use Rattle.store_buffers.specs.Pending.{stores}
-use Rattle.run_history.specs.History.{Deed, Did, pending}
-use Rattle.run_history.specs.Told.{steps_in, owner_in, waiting_in}
-use Rattle.run_follows.specs.Follow.{may_do_in}
-use Rattle.run_history.specs.pending.Deeds.{DeedName, name_of}
-use Rattle.path_walk.specs.Events.{acquired_mutex, released_mutex}
-use Rattle.path_walk.specs.Paths.{Walk, Paths}
-use Rattle.path_walk.specs.declared.event.Event.{Event}
-use Rattle.path_walk.specs.declared.event.EventKind.{EventKind}
-use Rattle.path_walk.specs.declared.event.EventKind.TheVariants as kind
-use Rattle.path_walk.specs.declared.event.Region.{Region}
-use Rattle.path_laws.specs.Setting.{Setting}
-use Rattle.path_laws.specs.history.Along.{IsThread, HistoryAlong, PathThread, path_thread}
-use Rattle.path_laws.proofs.of_events.Events.{event_done}
-use Rattle.path_laws.proofs.of_events.Lists.{in_contains}
-use Rattle.path_laws.proofs.of_events.Owners.{region_owned}
-use Rattle.path_laws.proofs.of_events.Steps.{step_is}
-use Rattle.sym_terms.specs.declared.node.Node.{Node}
-use Rattle.lawful_order.specs.Events.{HasRegion, IsBefore}
-use Rattle.lawful_order.specs.Memory.{is_store}
-use Rattle.lawful_order.specs.Mutexes.{IsLeftBefore, MutexRule}
+use Rattle.sym_events.specs.list_laws.Lists.{is_nil}
+use Rattle.sym_events.specs.tc_base.Names.{Name}
+use Rattle.sym_events.specs.tc_base.declared.moves.Move.{Move}
+use Rattle.sym_events.specs.tc_base.declared.request.Request.{Request}
+use Rattle.sym_events.specs.tc_base.declared.request.Request.TheVariants.{Acquire, EndWait}
+use Rattle.sym_events.specs.tc_code.Run.{Reproduces}
+use Rattle.sym_events.specs.tc_code.Step.{drains_first}
+use Rattle.sym_events.specs.store_buffers.Pending.{stores}
+use Rattle.sym_steps.specs.run_history.History.{Deed, Did, pending}
+use Rattle.sym_steps.specs.run_history.Told.{steps_in, owner_in, waiting_in}
+use Rattle.sym_steps.specs.run_follows.Follow.{may_do_in}
+use Rattle.sym_steps.specs.run_history.pending.Deeds.{DeedName, name_of}
+use Rattle.sym_events.specs.path_walk.Events.{acquired_mutex, released_mutex}
+use Rattle.sym_events.specs.path_walk.Paths.{Walk, Paths}
+use Rattle.sym_events.specs.path_walk.declared.event.Event.{Event}
+use Rattle.sym_events.specs.path_walk.declared.event.EventKind.{EventKind}
+use Rattle.sym_events.specs.path_walk.declared.event.EventKind.TheVariants as kind
+use Rattle.sym_events.specs.path_walk.declared.event.Region.{Region}
+use Rattle.sym_steps.specs.path_laws.Setting.{Setting}
+use Rattle.sym_steps.specs.path_laws.history.Along.{IsThread, HistoryAlong, PathThread, path_thread}
+use Rattle.sym_steps.proofs.path_laws.of_events.Events.{event_done}
+use Rattle.sym_steps.proofs.path_laws.of_events.Lists.{in_contains}
+use Rattle.sym_steps.proofs.path_laws.of_events.Owners.{region_owned}
+use Rattle.sym_steps.proofs.path_laws.of_events.Steps.{step_is}
+use Rattle.sym_events.specs.sym_terms.declared.node.Node.{Node}
+use Rattle.sym_events.specs.lawful_order.Events.{HasRegion, IsBefore}
+use Rattle.sym_events.specs.lawful_order.Memory.{is_store}
+use Rattle.sym_events.specs.lawful_order.Mutexes.{IsLeftBefore, MutexRule}
 use Rattle.run_lawful.proofs.of_world.Run.{seen}
 use Rattle.run_lawful.proofs.of_world.Seen.{shows_step}
 use Rattle.run_lawful.proofs.of_world.Splits.{TwoPlaces, Before, Same, After, two_places}

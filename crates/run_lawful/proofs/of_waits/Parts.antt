@@ -5,19 +5,19 @@ use Rattle.std.specs.Option.{option_map_or}
 use Rattle.std.specs.List.{Contains, cons_option, last_or}
 use Rattle.std.proofs.lemmas.Bool.{eqb-true}
 use Rattle.std.proofs.lemmas.Option.{none-some, same_Some}
-use Rattle.tc_base.specs.Names.{Name}
-use Rattle.tc_base.specs.declared.request.Request.{Request}
-use Rattle.tc_base.specs.declared.request.Request.TheVariants.{Silent, Bar, Acquire, BeginWait, EndWait, WakeOne, WakeAll, Start, Await}
-use Rattle.path_walk.specs.Events.{acquired_mutex, released_mutex, release_step, regions_of, sleep_by, sleeps_of, create_by, creates_of, join_by, joins_of}
-use Rattle.path_walk.specs.declared.event.Event.{Event}
-use Rattle.path_walk.specs.declared.event.EventKind.{EventKind}
-use Rattle.path_walk.specs.declared.event.EventKind.TheVariants as kind
-use Rattle.path_walk.specs.declared.event.Link.{Link}
-use Rattle.path_walk.specs.declared.event.Region.{Region}
-use Rattle.path_walk.specs.declared.event.Sleep.{Sleep}
-use Rattle.path_laws.specs.Deeds.{kind_of}
-use Rattle.path_laws.proofs.of_stuck.Rests.{mapped_from}
-use Rattle.order_events.proofs.Lists.{of_nil, of_cons, in_front, in_back, of_filter_map}
+use Rattle.sym_events.specs.tc_base.Names.{Name}
+use Rattle.sym_events.specs.tc_base.declared.request.Request.{Request}
+use Rattle.sym_events.specs.tc_base.declared.request.Request.TheVariants.{Silent, Bar, Acquire, BeginWait, EndWait, WakeOne, WakeAll, Start, Await}
+use Rattle.sym_events.specs.path_walk.Events.{acquired_mutex, released_mutex, release_step, regions_of, sleep_by, sleeps_of, create_by, creates_of, join_by, joins_of}
+use Rattle.sym_events.specs.path_walk.declared.event.Event.{Event}
+use Rattle.sym_events.specs.path_walk.declared.event.EventKind.{EventKind}
+use Rattle.sym_events.specs.path_walk.declared.event.EventKind.TheVariants as kind
+use Rattle.sym_events.specs.path_walk.declared.event.Link.{Link}
+use Rattle.sym_events.specs.path_walk.declared.event.Region.{Region}
+use Rattle.sym_events.specs.path_walk.declared.event.Sleep.{Sleep}
+use Rattle.sym_steps.specs.path_laws.Deeds.{kind_of}
+use Rattle.sym_steps.proofs.path_laws.of_stuck.Rests.{mapped_from}
+use Rattle.sym_events.proofs.order_events.Lists.{of_nil, of_cons, in_front, in_back, of_filter_map}
 
 -- the event of a step, whose kind has this property
 pub record IsEventOf (es : List Event) (k : ℕ) (P : EventKind → Type 0) : Type 0 where

@@ -9,36 +9,36 @@ use Rattle.std.proofs.lemmas.Bool.{false≢true, true≢false, and_parts, or_par
 use Rattle.std.proofs.lemmas.List.Elements.{filter_map-append}
 use Rattle.std.proofs.lemmas.List.Folds.{list_any-append}
 use Rattle.std.proofs.lemmas.Option.{none-some, same_Some}
-use Rattle.list_laws.specs.Lists.{is_nil}
-use Rattle.tc_base.specs.Names.{Name}
-use Rattle.tc_base.specs.States.{Local, Thread}
-use Rattle.tc_base.specs.declared.moves.Move.{Move}
-use Rattle.tc_base.specs.declared.request.Request.{Request}
-use Rattle.tc_base.specs.declared.request.Request.TheVariants.{Silent, BeginWait, EndWait, WakeOne, WakeAll}
-use Rattle.tc_code.specs.Run.{Reproduces}
-use Rattle.tc_code.specs.Step.{request, instr_of, drains_first}
-use Rattle.store_buffers.specs.Pending.{stores}
-use Rattle.run_laws.proofs.Waiters.{waiters_are_at_wake}
-use Rattle.run_history.specs.History.{Deed, Did, same, pending}
-use Rattle.run_history.specs.Last.{waits_by}
-use Rattle.run_history.specs.Locals.{asks_next}
-use Rattle.run_history.specs.Told.{is_step_of, steps_in, waiting_in, owner_in}
-use Rattle.run_follows.proofs.of_deeds.Cells.{next_within}
-use Rattle.run_follows.specs.Follow.{MayFollow, may_do_in}
-use Rattle.path_walk.specs.Fits.{Fits}
-use Rattle.path_walk.specs.Paths.{Walk, Paths}
-use Rattle.path_walk.specs.declared.event.EventKind.TheVariants as kind
-use Rattle.path_walk.specs.declared.event.Sleep.{Sleep}
-use Rattle.path_laws.specs.Setting.{Setting}
-use Rattle.path_laws.specs.history.Along.{IsThread, HistoryAlong, path_thread}
-use Rattle.path_laws.proofs.of_history.Told.{reached, its_run, up_to}
-use Rattle.path_laws.specs.events.Done.{IsAsleepIn}
-use Rattle.path_laws.proofs.of_events.Steps.{steps_first, step_at}
-use Rattle.path_laws.proofs.of_events.Waiters.{sleep_waits}
-use Rattle.sym_laws.specs.Valued.{found}
-use Rattle.sym_terms.specs.declared.node.Node.{Node}
-use Rattle.lawful_order.specs.Events.{Of, all_sleeps, number_of, ender_of}
-use Rattle.lawful_order.specs.Memory.{is_store}
+use Rattle.sym_events.specs.list_laws.Lists.{is_nil}
+use Rattle.sym_events.specs.tc_base.Names.{Name}
+use Rattle.sym_events.specs.tc_base.States.{Local, Thread}
+use Rattle.sym_events.specs.tc_base.declared.moves.Move.{Move}
+use Rattle.sym_events.specs.tc_base.declared.request.Request.{Request}
+use Rattle.sym_events.specs.tc_base.declared.request.Request.TheVariants.{Silent, BeginWait, EndWait, WakeOne, WakeAll}
+use Rattle.sym_events.specs.tc_code.Run.{Reproduces}
+use Rattle.sym_events.specs.tc_code.Step.{request, instr_of, drains_first}
+use Rattle.sym_events.specs.store_buffers.Pending.{stores}
+use Rattle.sym_events.proofs.run_laws.Waiters.{waiters_are_at_wake}
+use Rattle.sym_steps.specs.run_history.History.{Deed, Did, same, pending}
+use Rattle.sym_steps.specs.run_history.Last.{waits_by}
+use Rattle.sym_steps.specs.run_history.Locals.{asks_next}
+use Rattle.sym_steps.specs.run_history.Told.{is_step_of, steps_in, waiting_in, owner_in}
+use Rattle.sym_steps.proofs.run_follows.of_deeds.Cells.{next_within}
+use Rattle.sym_steps.specs.run_follows.Follow.{MayFollow, may_do_in}
+use Rattle.sym_events.specs.path_walk.Fits.{Fits}
+use Rattle.sym_events.specs.path_walk.Paths.{Walk, Paths}
+use Rattle.sym_events.specs.path_walk.declared.event.EventKind.TheVariants as kind
+use Rattle.sym_events.specs.path_walk.declared.event.Sleep.{Sleep}
+use Rattle.sym_steps.specs.path_laws.Setting.{Setting}
+use Rattle.sym_steps.specs.path_laws.history.Along.{IsThread, HistoryAlong, path_thread}
+use Rattle.sym_steps.proofs.path_laws.of_history.Told.{reached, its_run, up_to}
+use Rattle.sym_steps.specs.path_laws.events.Done.{IsAsleepIn}
+use Rattle.sym_steps.proofs.path_laws.of_events.Steps.{steps_first, step_at}
+use Rattle.sym_steps.proofs.path_laws.of_events.Waiters.{sleep_waits}
+use Rattle.sym_steps.specs.sym_laws.Valued.{found}
+use Rattle.sym_events.specs.sym_terms.declared.node.Node.{Node}
+use Rattle.sym_events.specs.lawful_order.Events.{Of, all_sleeps, number_of, ender_of}
+use Rattle.sym_events.specs.lawful_order.Memory.{is_store}
 use Rattle.world_plan.specs.Sights.{Shows}
 use Rattle.world_plan.proofs.Numbers.{one_event}
 use Rattle.run_lawful.specs.world.Order.{IsEndedBy}
@@ -47,7 +47,7 @@ use Rattle.run_lawful.proofs.of_world.Enders.{is_its_step, sleeper, ended_told, 
 use Rattle.run_lawful.proofs.of_world.Run.{seen}
 use Rattle.run_lawful.proofs.of_waits.Deeds.{none_pending, sleeps_are, h, paths, w, fit, step_once, event_deed, before_deed}
 use Rattle.run_lawful.proofs.of_waits.Parts.{slept_by, begin_is}
-use Rattle.path_laws.proofs.of_history.Logged.{history_again}
+use Rattle.sym_steps.proofs.path_laws.of_history.Logged.{history_again}
 
 -- Deeds that don't concern a thread's wait.
 

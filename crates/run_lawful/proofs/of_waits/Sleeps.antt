@@ -4,15 +4,15 @@ use Rattle.std.specs.Prelude.{slice_get}
 use Rattle.std.specs.List.{cons_option}
 use Rattle.std.proofs.lemmas.Bool.{cases_order}
 use Rattle.std.proofs.lemmas.Option.{none-some, same_Some}
-use Rattle.path_walk.specs.Events.{sleep_by, sleeps_of}
-use Rattle.path_walk.specs.Paths.{Walk, Paths}
-use Rattle.path_walk.specs.declared.event.Event.{Event}
-use Rattle.path_walk.specs.declared.event.EventKind.{EventKind}
-use Rattle.path_walk.specs.declared.event.EventKind.TheVariants as kind
-use Rattle.path_walk.specs.declared.event.Sleep.{Sleep}
-use Rattle.lawful_order.specs.Events.{Of, all_sleeps}
-use Rattle.lawful_order.specs.Whole.{AreWhole}
-use Rattle.order_events.proofs.Lists.{at_in, in_at}
+use Rattle.sym_events.specs.path_walk.Events.{sleep_by, sleeps_of}
+use Rattle.sym_events.specs.path_walk.Paths.{Walk, Paths}
+use Rattle.sym_events.specs.path_walk.declared.event.Event.{Event}
+use Rattle.sym_events.specs.path_walk.declared.event.EventKind.{EventKind}
+use Rattle.sym_events.specs.path_walk.declared.event.EventKind.TheVariants as kind
+use Rattle.sym_events.specs.path_walk.declared.event.Sleep.{Sleep}
+use Rattle.sym_events.specs.lawful_order.Events.{Of, all_sleeps}
+use Rattle.sym_events.specs.lawful_order.Whole.{AreWhole}
+use Rattle.sym_events.proofs.order_events.Lists.{at_in, in_at}
 use Rattle.world_plan.proofs.Numbers.{Rise, of_rise}
 use Rattle.run_lawful.proofs.of_waits.Parts.{slept_by}
 

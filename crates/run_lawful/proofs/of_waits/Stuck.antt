@@ -6,50 +6,50 @@ use Rattle.std.specs.FinSet as set
 use Rattle.std.specs.List.{Contains}
 use Rattle.std.proofs.lemmas.Bool.{true≢false, and_parts, ltb-true}
 use Rattle.std.proofs.lemmas.Option.{none-some, same_Some, slice_get_cases}
-use Rattle.run_log.specs.Logs.{Log}
-use Rattle.tc_base.specs.Paths.{ThreadPath, place_in}
-use Rattle.tc_base.specs.Names.{Name, child}
-use Rattle.tc_base.specs.declared.failing.Failing.{Failing}
-use Rattle.tc_base.specs.declared.failing.Failing.TheVariants.{Thread, Deadlock}
-use Rattle.tc_base.specs.declared.moves.Move.{Move}
-use Rattle.tc_code.specs.Code.{Code}
-use Rattle.tc_code.specs.Run.{Reproduces}
-use Rattle.tc_code.specs.declared.instr.Instr.{Instr}
-use Rattle.run_laws.proofs.Basics.{some_value}
-use Rattle.run_history.specs.History.{Deed}
-use Rattle.run_history.specs.Told.{owner_in, waiting_in, has_exited_in, steps_in}
-use Rattle.run_follows.specs.blocked.Stuck.{IsBlockedIn}
-use Rattle.run_log.specs.Logs.{rises_from, is_there, is_log}
-use Rattle.path_walk.specs.Fits.{Fits, ending_by}
-use Rattle.path_walk.specs.Marks.{Marks, marks_at_start, marks_after}
-use Rattle.path_walk.specs.Paths.{Walk, Paths, blocked_after}
-use Rattle.path_walk.specs.Steps.{steps_at, standing}
-use Rattle.path_walk.specs.declared.ending.Ending.{Ending}
-use Rattle.path_walk.specs.declared.ending.Ending.TheVariants.{Fails, Open}
-use Rattle.path_walk.specs.declared.event.Blocked.{Blocked}
-use Rattle.path_walk.specs.declared.event.Blocked.TheVariants.{Lock, Wake, Join}
-use Rattle.path_walk.specs.declared.event.Region.{Region}
-use Rattle.path_walk.specs.declared.event.Sleep.{Sleep}
-use Rattle.path_laws.specs.Setting.{Setting}
-use Rattle.path_laws.specs.history.Along.{IsThread, HistoryAlong, path_thread}
-use Rattle.path_laws.proofs.of_history.Walks.{IsWalk, walk_is}
-use Rattle.path_laws.proofs.of_events.Events.{event_within}
-use Rattle.path_laws.proofs.of_events.Lists.{in_contains}
-use Rattle.path_laws.proofs.of_events.Owners.{took_it, region_owned}
-use Rattle.path_laws.proofs.of_events.Waiters.{sleep_waits, sleeps_still, exits_told}
-use Rattle.path_laws.specs.stuck.Blocked.{asked_at}
-use Rattle.path_laws.proofs.of_stuck.Ends.{at_last_sleep}
-use Rattle.path_laws.proofs.of_stuck.Stuck.{blocked_is_left}
-use Rattle.sym_laws.specs.Valued.{found}
-use Rattle.sym_terms.specs.declared.node.Node.{Node}
-use Rattle.lawful_order.specs.Events.{ender_of}
-use Rattle.lawful_order.specs.Stuck.{IsHeld, SleepsOn, RunsOn, CannotGoOn, StuckRule}
+use Rattle.sym_events.specs.run_log.Logs.{Log}
+use Rattle.sym_events.specs.tc_base.Paths.{ThreadPath, place_in}
+use Rattle.sym_events.specs.tc_base.Names.{Name, child}
+use Rattle.sym_events.specs.tc_base.declared.failing.Failing.{Failing}
+use Rattle.sym_events.specs.tc_base.declared.failing.Failing.TheVariants.{Thread, Deadlock}
+use Rattle.sym_events.specs.tc_base.declared.moves.Move.{Move}
+use Rattle.sym_events.specs.tc_code.Code.{Code}
+use Rattle.sym_events.specs.tc_code.Run.{Reproduces}
+use Rattle.sym_events.specs.tc_code.declared.instr.Instr.{Instr}
+use Rattle.sym_events.proofs.run_laws.Basics.{some_value}
+use Rattle.sym_steps.specs.run_history.History.{Deed}
+use Rattle.sym_steps.specs.run_history.Told.{owner_in, waiting_in, has_exited_in, steps_in}
+use Rattle.sym_steps.specs.run_follows.blocked.Stuck.{IsBlockedIn}
+use Rattle.sym_events.specs.run_log.Logs.{rises_from, is_there, is_log}
+use Rattle.sym_events.specs.path_walk.Fits.{Fits, ending_by}
+use Rattle.sym_events.specs.path_walk.Marks.{Marks, marks_at_start, marks_after}
+use Rattle.sym_events.specs.path_walk.Paths.{Walk, Paths, blocked_after}
+use Rattle.sym_events.specs.path_walk.Steps.{steps_at, standing}
+use Rattle.sym_events.specs.path_walk.declared.ending.Ending.{Ending}
+use Rattle.sym_events.specs.path_walk.declared.ending.Ending.TheVariants.{Fails, Open}
+use Rattle.sym_events.specs.path_walk.declared.event.Blocked.{Blocked}
+use Rattle.sym_events.specs.path_walk.declared.event.Blocked.TheVariants.{Lock, Wake, Join}
+use Rattle.sym_events.specs.path_walk.declared.event.Region.{Region}
+use Rattle.sym_events.specs.path_walk.declared.event.Sleep.{Sleep}
+use Rattle.sym_steps.specs.path_laws.Setting.{Setting}
+use Rattle.sym_steps.specs.path_laws.history.Along.{IsThread, HistoryAlong, path_thread}
+use Rattle.sym_steps.proofs.path_laws.of_history.Walks.{IsWalk, walk_is}
+use Rattle.sym_steps.proofs.path_laws.of_events.Events.{event_within}
+use Rattle.sym_steps.proofs.path_laws.of_events.Lists.{in_contains}
+use Rattle.sym_steps.proofs.path_laws.of_events.Owners.{took_it, region_owned}
+use Rattle.sym_steps.proofs.path_laws.of_events.Waiters.{sleep_waits, sleeps_still, exits_told}
+use Rattle.sym_steps.specs.path_laws.stuck.Blocked.{asked_at}
+use Rattle.sym_steps.proofs.path_laws.of_stuck.Ends.{at_last_sleep}
+use Rattle.sym_steps.proofs.path_laws.of_stuck.Stuck.{blocked_is_left}
+use Rattle.sym_steps.specs.sym_laws.Valued.{found}
+use Rattle.sym_events.specs.sym_terms.declared.node.Node.{Node}
+use Rattle.sym_events.specs.lawful_order.Events.{ender_of}
+use Rattle.sym_events.specs.lawful_order.Stuck.{IsHeld, SleepsOn, RunsOn, CannotGoOn, StuckRule}
 use Rattle.run_lawful.proofs.of_world.Enders.{ended_told}
 use Rattle.run_lawful.proofs.of_world.Run.{all_steps}
 use Rattle.run_lawful.proofs.of_waits.Deeds.{regions_are, h, paths, w, fit}
 use Rattle.run_lawful.proofs.of_waits.Parts.{region_of_events}
 use Rattle.run_lawful.proofs.of_waits.Sleeping.{ended_is_awake}
-use Rattle.path_laws.proofs.of_history.Logged.{history_again}
+use Rattle.sym_steps.proofs.path_laws.of_history.Logged.{history_again}
 
 -- only a path that rests has something that blocks its thread
 unblocked : (m n : Name) (t : Marks) (ss : List Sleep) (at : Option Instr) (b : Blocked) → blocked_after (ending_by (Some m) n) t ss at ≡ Some b → ⊥

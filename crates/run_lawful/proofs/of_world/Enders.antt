@@ -7,33 +7,33 @@ use Rattle.std.specs.List.{Contains, find, list_any, position_or_len}
 use Rattle.std.proofs.Math.Bool.{and-false}
 use Rattle.std.proofs.lemmas.Bool.{cases_Bool, false≢true, true≢false, and_parts, eqb-true, eq-eqb, false_from_ne_true}
 use Rattle.std.proofs.lemmas.Option.{none-some, same_Some, slice_get-map, get_or_from_slice_get}
-use Rattle.tc_base.specs.Names.{Name}
-use Rattle.tc_base.specs.declared.moves.Move.{Move}
-use Rattle.tc_base.specs.declared.request.Request.{Request}
-use Rattle.tc_base.specs.declared.request.Request.TheVariants.{Silent, BeginWait, WakeOne, WakeAll}
-use Rattle.tc_code.specs.Run.{Reproduces}
-use Rattle.run_laws.proofs.Names.{is_same, same_self}
-use Rattle.run_history.specs.History.{Deed, Did, Drained, history, same}
-use Rattle.run_history.specs.pending.Deeds.{name_of}
-use Rattle.run_history.proofs.of_pending.In.{any_in, in_split}
-use Rattle.path_walk.specs.Paths.{Walk, Paths, paths_of}
-use Rattle.path_walk.specs.declared.event.Event.{Event}
-use Rattle.path_walk.specs.declared.event.EventKind.{EventKind}
-use Rattle.path_walk.specs.declared.event.EventKind.TheVariants as kind
-use Rattle.path_walk.specs.declared.event.Sleep.{Sleep}
-use Rattle.path_laws.specs.Setting.{Setting}
-use Rattle.path_laws.specs.Deeds.{kind_of}
-use Rattle.path_laws.specs.history.Along.{IsThread, path_thread}
-use Rattle.path_laws.proofs.of_history.Walks.{walk_is, thread_named}
-use Rattle.path_laws.specs.events.Done.{IsDoneIn}
-use Rattle.path_laws.proofs.of_events.Events.{done_event, event_within}
-use Rattle.path_laws.proofs.of_events.Lists.{in_contains, contains_in}
-use Rattle.path_laws.proofs.of_events.Steps.{DeedOf, deed_of}
-use Rattle.sym_exec.specs.Executed.{Symbolic}
-use Rattle.lawful_order.specs.Events.{Of, all_events, all_sleeps, number_of, ender_of}
-use Rattle.lawful_order.specs.Memory.{is_store}
-use Rattle.order_events.proofs.Lists.{at_in}
-use Rattle.order_events.proofs.Numbers.{of_all_from, is_step as is_event}
+use Rattle.sym_events.specs.tc_base.Names.{Name}
+use Rattle.sym_events.specs.tc_base.declared.moves.Move.{Move}
+use Rattle.sym_events.specs.tc_base.declared.request.Request.{Request}
+use Rattle.sym_events.specs.tc_base.declared.request.Request.TheVariants.{Silent, BeginWait, WakeOne, WakeAll}
+use Rattle.sym_events.specs.tc_code.Run.{Reproduces}
+use Rattle.sym_events.proofs.run_laws.Names.{is_same, same_self}
+use Rattle.sym_steps.specs.run_history.History.{Deed, Did, Drained, history, same}
+use Rattle.sym_steps.specs.run_history.pending.Deeds.{name_of}
+use Rattle.sym_steps.proofs.run_history.of_pending.In.{any_in, in_split}
+use Rattle.sym_events.specs.path_walk.Paths.{Walk, Paths, paths_of}
+use Rattle.sym_events.specs.path_walk.declared.event.Event.{Event}
+use Rattle.sym_events.specs.path_walk.declared.event.EventKind.{EventKind}
+use Rattle.sym_events.specs.path_walk.declared.event.EventKind.TheVariants as kind
+use Rattle.sym_events.specs.path_walk.declared.event.Sleep.{Sleep}
+use Rattle.sym_steps.specs.path_laws.Setting.{Setting}
+use Rattle.sym_steps.specs.path_laws.Deeds.{kind_of}
+use Rattle.sym_steps.specs.path_laws.history.Along.{IsThread, path_thread}
+use Rattle.sym_steps.proofs.path_laws.of_history.Walks.{walk_is, thread_named}
+use Rattle.sym_steps.specs.path_laws.events.Done.{IsDoneIn}
+use Rattle.sym_steps.proofs.path_laws.of_events.Events.{done_event, event_within}
+use Rattle.sym_steps.proofs.path_laws.of_events.Lists.{in_contains, contains_in}
+use Rattle.sym_steps.proofs.path_laws.of_events.Steps.{DeedOf, deed_of}
+use Rattle.sym_events.specs.sym_exec.Executed.{Symbolic}
+use Rattle.sym_events.specs.lawful_order.Events.{Of, all_events, all_sleeps, number_of, ender_of}
+use Rattle.sym_events.specs.lawful_order.Memory.{is_store}
+use Rattle.sym_events.proofs.order_events.Lists.{at_in}
+use Rattle.sym_events.proofs.order_events.Numbers.{of_all_from, is_step as is_event}
 use Rattle.world_plan.specs.Sights.{Sight, Shows}
 use Rattle.run_lawful.specs.world.Order.{IsEndedBy}
 use Rattle.run_lawful.specs.world.WorldOf.{is_step, after_step, ends_wait, is_shown, ender_in, world_in}
@@ -41,8 +41,8 @@ use Rattle.run_lawful.proofs.of_world.Found.{found, finds, behind, same_position
 use Rattle.run_lawful.proofs.of_world.Ordered.{AreSeen}
 use Rattle.run_lawful.proofs.of_world.Run.{fits, all_steps, seen}
 use Rattle.run_lawful.proofs.of_world.Seen.{the_sight, shown_is, is_shown_by, shows_step}
-use Rattle.path_laws.proofs.of_history.Told.{its_run, up_to}
-use Rattle.path_laws.proofs.of_history.Logged.{history_again}
+use Rattle.sym_steps.proofs.path_laws.of_history.Told.{its_run, up_to}
+use Rattle.sym_steps.proofs.path_laws.of_history.Logged.{history_again}
 
 -- a deed that ends a thread's wait on a condition: it wakes that thread, or all that wait there
 pub data EndsWait (c : ℕ) (n : Name) (d : Deed) : Type 0 where

@@ -1,18 +1,18 @@
 -- The loads of the world take the values that the loads of the run took.
 use Rattle.std.proofs.Common.{◌≡◌, List, length}
-use Rattle.tc_base.specs.Buffers.{BufferOps}
-use Rattle.run_log.specs.Logs.{Log}
-use Rattle.tc_base.specs.declared.moves.Move.{Move}
-use Rattle.tc_code.specs.Code.{Code}
-use Rattle.tc_code.specs.Run.{Reproduces}
-use Rattle.run_history.specs.History.{Deed, history}
-use Rattle.path_walk.specs.Paths.{paths_of}
-use Rattle.sym_terms.specs.declared.node.Node.{Node}
-use Rattle.sym_exec.specs.Executed.{Symbolic}
-use Rattle.sym_laws.specs.Loads.{loads_in}
-use Rattle.sym_laws.specs.Valued.{AgreesWith, found}
-use Rattle.sym_laws.proofs.Agree.{taken_once, loads_agree, as_many}
-use Rattle.sym_laws.proofs.Numbered.{all_numbered}
+use Rattle.sym_events.specs.tc_base.Buffers.{BufferOps}
+use Rattle.sym_events.specs.run_log.Logs.{Log}
+use Rattle.sym_events.specs.tc_base.declared.moves.Move.{Move}
+use Rattle.sym_events.specs.tc_code.Code.{Code}
+use Rattle.sym_events.specs.tc_code.Run.{Reproduces}
+use Rattle.sym_steps.specs.run_history.History.{Deed, history}
+use Rattle.sym_events.specs.path_walk.Paths.{paths_of}
+use Rattle.sym_events.specs.sym_terms.declared.node.Node.{Node}
+use Rattle.sym_events.specs.sym_exec.Executed.{Symbolic}
+use Rattle.sym_steps.specs.sym_laws.Loads.{loads_in}
+use Rattle.sym_steps.specs.sym_laws.Valued.{AgreesWith, found}
+use Rattle.sym_steps.proofs.sym_laws.Agree.{taken_once, loads_agree, as_many}
+use Rattle.sym_steps.proofs.sym_laws.Numbered.{all_numbered}
 
 module _ {B : Type 0} (ops : BufferOps B) (code : Code) (log : Log) (nodes : List Node) (moves : List Move) (again : Reproduces ops code log moves) where
   abbrev symbolic : Symbolic

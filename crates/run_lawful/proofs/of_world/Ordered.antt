@@ -3,13 +3,13 @@ use Rattle.std.proofs.Common.{◌≡◌, ◌∙◌, inl, inr, ℕ, suc, ◌+◌,
 use Rattle.std.proofs.Common.{append_assoc, length-append}
 use Rattle.std.specs.Prelude.{slice_get}
 use Rattle.std.proofs.lemmas.Option.{same_Some}
-use Rattle.run_history.specs.History.{Deed}
-use Rattle.path_walk.specs.Paths.{Walk, Paths}
-use Rattle.path_walk.specs.declared.event.Event.{Event}
-use Rattle.sym_exec.specs.Executed.{Symbolic}
-use Rattle.lawful_order.specs.Events.{HasEvent, number_of, IsBefore}
-use Rattle.lawful_order.specs.Memory.{is_store}
-use Rattle.lawful_order.specs.Whole.{HasStep, AreWhole}
+use Rattle.sym_steps.specs.run_history.History.{Deed}
+use Rattle.sym_events.specs.path_walk.Paths.{Walk, Paths}
+use Rattle.sym_events.specs.path_walk.declared.event.Event.{Event}
+use Rattle.sym_events.specs.sym_exec.Executed.{Symbolic}
+use Rattle.sym_events.specs.lawful_order.Events.{HasEvent, number_of, IsBefore}
+use Rattle.sym_events.specs.lawful_order.Memory.{is_store}
+use Rattle.sym_events.specs.lawful_order.Whole.{HasStep, AreWhole}
 use Rattle.world_plan.specs.Sights.{Sight, Shows, AreInOrder}
 use Rattle.world_plan.proofs.Numbers.{numbers_rise}
 use Rattle.run_lawful.specs.world.Order.{TakesPlace, TakesPlaceBefore, IsOrderOf}

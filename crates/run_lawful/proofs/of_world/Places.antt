@@ -5,14 +5,14 @@ use Rattle.std.specs.List.{list_any, position_or_len}
 use Rattle.std.proofs.Math.Bool.{or-true}
 use Rattle.std.proofs.lemmas.Bool.{and_parts, eqb-true, eq-eqb, lt-ltb, ltb-true, false_from_ne_true}
 use Rattle.std.proofs.lemmas.List.{get_or-map, length-map}
-use Rattle.run_history.specs.History.{Deed}
-use Rattle.run_history.proofs.of_pending.In.{any_in, in_split}
-use Rattle.path_walk.specs.Paths.{Paths}
-use Rattle.sym_exec.specs.Executed.{Symbolic}
-use Rattle.lawful_order.specs.Events.{Of, all_events, number_of, IsBefore}
-use Rattle.path_walk.specs.declared.event.Event.{Event}
-use Rattle.lawful_order.specs.Whole.{HasStep}
-use Rattle.order_events.proofs.Numbers.{has_number, is_step_at}
+use Rattle.sym_steps.specs.run_history.History.{Deed}
+use Rattle.sym_steps.proofs.run_history.of_pending.In.{any_in, in_split}
+use Rattle.sym_events.specs.path_walk.Paths.{Paths}
+use Rattle.sym_events.specs.sym_exec.Executed.{Symbolic}
+use Rattle.sym_events.specs.lawful_order.Events.{Of, all_events, number_of, IsBefore}
+use Rattle.sym_events.specs.path_walk.declared.event.Event.{Event}
+use Rattle.sym_events.specs.lawful_order.Whole.{HasStep}
+use Rattle.sym_events.proofs.order_events.Numbers.{has_number, is_step_at}
 use Rattle.bit_ranks.specs.Ranks.{ranks_of}
 use Rattle.bit_ranks.proofs.RankLaws.{ranks-order}
 use Rattle.world_plan.specs.Sights.{Shows}

@@ -1,31 +1,31 @@
 -- Facts on the history of moves that reproduce a log.
 use Rattle.std.proofs.Common.{◌≡◌, ℕ, ℤ, List, length, Option, Some, refl, sym, subst, arith}
-use Rattle.tc_base.specs.Names.{Name}
-use Rattle.tc_base.specs.declared.moves.Move.{Move}
-use Rattle.tc_base.specs.declared.request.Request.{Request}
-use Rattle.tc_base.specs.declared.request.Request.TheVariants.{Write}
-use Rattle.tc_code.specs.Run.{Reproduces}
-use Rattle.run_history.specs.History.{Deed, Did, Drained, history}
-use Rattle.run_history.specs.Told.{steps_in}
-use Rattle.run_history.proofs.of_pending.In.{In, in_at, in_split}
-use Rattle.run_follows.proofs.Follows.{AllTold}
-use Rattle.path_walk.specs.Fits.{Fits}
-use Rattle.path_walk.specs.Paths.{Walk, Paths, paths_of}
-use Rattle.path_walk.specs.declared.event.Event.{Event}
-use Rattle.path_walk.specs.declared.event.EventKind.{EventKind}
-use Rattle.path_walk.specs.declared.event.EventKind.TheVariants as kind
-use Rattle.path_laws.specs.Setting.{Setting}
-use Rattle.path_laws.specs.Deeds.{kind_of}
-use Rattle.path_laws.proofs.Logs.{reproduced_fits}
-use Rattle.path_laws.specs.history.Along.{IsThread, path_thread}
-use Rattle.path_laws.proofs.of_history.Told.{reproduced_run}
-use Rattle.path_laws.proofs.of_history.Logged.{has_done, history_again}
-use Rattle.path_laws.proofs.of_history.Walks.{walk_is}
-use Rattle.path_laws.specs.events.Done.{IsDoneIn}
-use Rattle.path_laws.proofs.of_events.Events.{event_done, done_event, event_within}
-use Rattle.path_laws.proofs.of_events.Lists.{in_contains, contains_in}
-use Rattle.lawful_order.specs.Whole.{HasStep}
-use Rattle.order_events.proofs.Whole.{whole}
+use Rattle.sym_events.specs.tc_base.Names.{Name}
+use Rattle.sym_events.specs.tc_base.declared.moves.Move.{Move}
+use Rattle.sym_events.specs.tc_base.declared.request.Request.{Request}
+use Rattle.sym_events.specs.tc_base.declared.request.Request.TheVariants.{Write}
+use Rattle.sym_events.specs.tc_code.Run.{Reproduces}
+use Rattle.sym_steps.specs.run_history.History.{Deed, Did, Drained, history}
+use Rattle.sym_steps.specs.run_history.Told.{steps_in}
+use Rattle.sym_steps.proofs.run_history.of_pending.In.{In, in_at, in_split}
+use Rattle.sym_steps.proofs.run_follows.Follows.{AllTold}
+use Rattle.sym_events.specs.path_walk.Fits.{Fits}
+use Rattle.sym_events.specs.path_walk.Paths.{Walk, Paths, paths_of}
+use Rattle.sym_events.specs.path_walk.declared.event.Event.{Event}
+use Rattle.sym_events.specs.path_walk.declared.event.EventKind.{EventKind}
+use Rattle.sym_events.specs.path_walk.declared.event.EventKind.TheVariants as kind
+use Rattle.sym_steps.specs.path_laws.Setting.{Setting}
+use Rattle.sym_steps.specs.path_laws.Deeds.{kind_of}
+use Rattle.sym_steps.proofs.path_laws.Logs.{reproduced_fits}
+use Rattle.sym_steps.specs.path_laws.history.Along.{IsThread, path_thread}
+use Rattle.sym_steps.proofs.path_laws.of_history.Told.{reproduced_run}
+use Rattle.sym_steps.proofs.path_laws.of_history.Logged.{has_done, history_again}
+use Rattle.sym_steps.proofs.path_laws.of_history.Walks.{walk_is}
+use Rattle.sym_steps.specs.path_laws.events.Done.{IsDoneIn}
+use Rattle.sym_steps.proofs.path_laws.of_events.Events.{event_done, done_event, event_within}
+use Rattle.sym_steps.proofs.path_laws.of_events.Lists.{in_contains, contains_in}
+use Rattle.sym_events.specs.lawful_order.Whole.{HasStep}
+use Rattle.sym_events.proofs.order_events.Whole.{whole}
 use Rattle.run_lawful.specs.world.Order.{TakesPlace}
 use Rattle.world_plan.proofs.Threads.{one_thread}
 use Rattle.run_lawful.proofs.of_world.Ordered.{AreSeen}

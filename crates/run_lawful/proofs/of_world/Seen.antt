@@ -4,18 +4,18 @@ use Rattle.std.specs.Prelude.{option_and_then, slice_get}
 use Rattle.std.specs.Option.{option_map_or}
 use Rattle.std.proofs.lemmas.Bool.{false≢true, true≢false, and_parts, eqb-true, eq-eqb}
 use Rattle.std.proofs.lemmas.Option.{none-some, same_Some}
-use Rattle.tc_base.specs.Names.{Name}
-use Rattle.tc_base.specs.declared.request.Request.{Request}
-use Rattle.tc_base.specs.declared.request.Request.TheVariants.{Write}
-use Rattle.run_laws.proofs.Names.{is_same, same_self}
-use Rattle.run_history.specs.History.{Deed, Did, Drained, same}
-use Rattle.run_history.specs.pending.Deeds.{name_of, AllApart, DrainsAreOfStores}
-use Rattle.run_history.proofs.of_pending.In.{In, in_at, in_left, in_split, one_of_name}
-use Rattle.path_walk.specs.Paths.{Walk, Paths}
-use Rattle.path_walk.specs.declared.event.EventKind.{EventKind}
-use Rattle.path_walk.specs.declared.event.EventKind.TheVariants as kind
-use Rattle.path_laws.specs.Deeds.{kind_of}
-use Rattle.lawful_order.specs.Memory.{is_store}
+use Rattle.sym_events.specs.tc_base.Names.{Name}
+use Rattle.sym_events.specs.tc_base.declared.request.Request.{Request}
+use Rattle.sym_events.specs.tc_base.declared.request.Request.TheVariants.{Write}
+use Rattle.sym_events.proofs.run_laws.Names.{is_same, same_self}
+use Rattle.sym_steps.specs.run_history.History.{Deed, Did, Drained, same}
+use Rattle.sym_steps.specs.run_history.pending.Deeds.{name_of, AllApart, DrainsAreOfStores}
+use Rattle.sym_steps.proofs.run_history.of_pending.In.{In, in_at, in_left, in_split, one_of_name}
+use Rattle.sym_events.specs.path_walk.Paths.{Walk, Paths}
+use Rattle.sym_events.specs.path_walk.declared.event.EventKind.{EventKind}
+use Rattle.sym_events.specs.path_walk.declared.event.EventKind.TheVariants as kind
+use Rattle.sym_steps.specs.path_laws.Deeds.{kind_of}
+use Rattle.sym_events.specs.lawful_order.Memory.{is_store}
 use Rattle.world_plan.specs.Sights.{Sight, sight_of, Shows}
 
 abbrev pub the_sight : Name → ℕ → Sight

@@ -1,18 +1,18 @@
 -- A history has the steps of a thread in the order of its path, and each drain after its store.
 use Rattle.std.proofs.Common.{◌≡◌, ◌∙◌, ℕ, ◌+◌, ◌<◌, ℤ, Bool, true, cond, ◌==◌, List, ◌∷◌, ◌++◌, Option, refl, sym, ap, ap₂, arith, append_assoc}
 use Rattle.std.proofs.lemmas.Bool.{false≢true, and_parts, eqb-true}
-use Rattle.tc_base.specs.Names.{Name}
-use Rattle.tc_base.specs.declared.request.Request.{Request}
-use Rattle.tc_base.specs.declared.request.Request.TheVariants.{Write}
-use Rattle.tc_code.specs.Code.{Code}
-use Rattle.store_buffers.specs.Pending.{Binding}
-use Rattle.run_laws.proofs.Names.{is_same, same_self}
-use Rattle.run_history.specs.History.{Deed, Did, Drained, same, drains, has_drained}
-use Rattle.run_history.specs.Told.{steps_in}
-use Rattle.run_history.specs.pending.Deeds.{DrainsAreOfStores}
-use Rattle.run_history.proofs.of_pending.In.{any_in, in_split}
-use Rattle.run_follows.specs.Follow.{AllFollow}
-use Rattle.path_laws.proofs.of_events.Steps.{steps_both, steps_first}
+use Rattle.sym_events.specs.tc_base.Names.{Name}
+use Rattle.sym_events.specs.tc_base.declared.request.Request.{Request}
+use Rattle.sym_events.specs.tc_base.declared.request.Request.TheVariants.{Write}
+use Rattle.sym_events.specs.tc_code.Code.{Code}
+use Rattle.sym_events.specs.store_buffers.Pending.{Binding}
+use Rattle.sym_events.proofs.run_laws.Names.{is_same, same_self}
+use Rattle.sym_steps.specs.run_history.History.{Deed, Did, Drained, same, drains, has_drained}
+use Rattle.sym_steps.specs.run_history.Told.{steps_in}
+use Rattle.sym_steps.specs.run_history.pending.Deeds.{DrainsAreOfStores}
+use Rattle.sym_steps.proofs.run_history.of_pending.In.{any_in, in_split}
+use Rattle.sym_steps.specs.run_follows.Follow.{AllFollow}
+use Rattle.sym_steps.proofs.path_laws.of_events.Steps.{steps_both, steps_first}
 use Rattle.run_lawful.proofs.of_world.Splits.{TwoPlaces, Before, Same, After, two_places}
 
 abbrev number_in : ℕ → Deed → ℕ

@@ -5,23 +5,23 @@ use Rattle.std.specs.List.{Contains}
 use Rattle.std.proofs.lemmas.Bool.{and_parts, eqb-true, eq-eqb}
 use Rattle.std.proofs.lemmas.List.{length-map}
 use Rattle.std.proofs.lemmas.Option.{same_Some, slice_get-get_or}
-use Rattle.tc_base.specs.declared.moves.Move.{Move}
-use Rattle.tc_code.specs.Run.{Reproduces}
-use Rattle.run_history.specs.History.{Deed, history}
-use Rattle.path_walk.specs.Paths.{Walk, Paths, paths_of}
-use Rattle.path_walk.specs.declared.event.Event.{Event}
-use Rattle.path_walk.specs.declared.event.EventKind.TheVariants as kind
-use Rattle.path_walk.specs.declared.event.Sleep.{Sleep}
-use Rattle.path_laws.specs.Setting.{Setting}
-use Rattle.sym_terms.specs.declared.node.Node.{Node}
-use Rattle.sym_exec.specs.Executed.{Symbolic}
-use Rattle.sym_laws.specs.Valued.{found}
-use Rattle.order_formula.specs.Worlds.{World, IsWorld}
-use Rattle.lawful_order.specs.Conditions.{is_signal, is_broadcast, IsSleep, IsSignal, IsBroadcast}
-use Rattle.lawful_order.specs.Events.{Of, all_events, all_sleeps, number_of, ender_of}
-use Rattle.lawful_order.specs.Lawful.{IsWorldOf}
-use Rattle.lawful_order.specs.Whole.{HasStep, AreWhole}
-use Rattle.order_events.proofs.Numbers.{has_number, is_step_at}
+use Rattle.sym_events.specs.tc_base.declared.moves.Move.{Move}
+use Rattle.sym_events.specs.tc_code.Run.{Reproduces}
+use Rattle.sym_steps.specs.run_history.History.{Deed, history}
+use Rattle.sym_events.specs.path_walk.Paths.{Walk, Paths, paths_of}
+use Rattle.sym_events.specs.path_walk.declared.event.Event.{Event}
+use Rattle.sym_events.specs.path_walk.declared.event.EventKind.TheVariants as kind
+use Rattle.sym_events.specs.path_walk.declared.event.Sleep.{Sleep}
+use Rattle.sym_steps.specs.path_laws.Setting.{Setting}
+use Rattle.sym_events.specs.sym_terms.declared.node.Node.{Node}
+use Rattle.sym_events.specs.sym_exec.Executed.{Symbolic}
+use Rattle.sym_steps.specs.sym_laws.Valued.{found}
+use Rattle.sym_events.specs.order_formula.Worlds.{World, IsWorld}
+use Rattle.sym_events.specs.lawful_order.Conditions.{is_signal, is_broadcast, IsSleep, IsSignal, IsBroadcast}
+use Rattle.sym_events.specs.lawful_order.Events.{Of, all_events, all_sleeps, number_of, ender_of}
+use Rattle.sym_events.specs.lawful_order.Lawful.{IsWorldOf}
+use Rattle.sym_events.specs.lawful_order.Whole.{HasStep, AreWhole}
+use Rattle.sym_events.proofs.order_events.Numbers.{has_number, is_step_at}
 use Rattle.bit_ranks.proofs.RankLaws.{length-ranks, ranks-differ}
 use Rattle.world_plan.proofs.Numbers.{one_event, event_numbered}
 use Rattle.run_lawful.specs.world.WorldOf.{place_in, ender_in, world_in}

@@ -1,4 +1,4 @@
-use Rattle.sym_laws.specs.Valued.{found}
+use Rattle.sym_steps.specs.sym_laws.Valued.{found}
 use Rattle.run_lawful.proofs.of_world.Ordered.{is_order}
 use Rattle.run_lawful.proofs.of_world.Run.{done, paths, seen}
 use Rattle.run_lawful.proofs.Lawful.{is_lawful}

@@ -2,16 +2,16 @@
 use Rattle.std.specs.Prelude.{ℕ, ◌+◌, ◌==◌, Bool, false, not, ◌&&◌, Option, option_map, option_and_then, List, map, drop, slice_get}
 use Rattle.std.specs.List.{find, position_or_len}
 use Rattle.std.specs.Option.{option_map_or}
-use Rattle.tc_base.specs.Names.{Name}
-use Rattle.run_history.specs.History.{Deed, Did, same}
-use Rattle.run_history.specs.Last.{waits_by}
-use Rattle.path_walk.specs.Paths.{Walk, Paths}
-use Rattle.path_walk.specs.declared.event.Event.{Event}
-use Rattle.path_walk.specs.declared.event.Sleep.{Sleep}
-use Rattle.sym_exec.specs.Executed.{Symbolic}
-use Rattle.sym_laws.specs.Loads.{loads_in}
-use Rattle.order_formula.specs.Worlds.{World}
-use Rattle.lawful_order.specs.Events.{Of, all_events, all_sleeps}
+use Rattle.sym_events.specs.tc_base.Names.{Name}
+use Rattle.sym_steps.specs.run_history.History.{Deed, Did, same}
+use Rattle.sym_steps.specs.run_history.Last.{waits_by}
+use Rattle.sym_events.specs.path_walk.Paths.{Walk, Paths}
+use Rattle.sym_events.specs.path_walk.declared.event.Event.{Event}
+use Rattle.sym_events.specs.path_walk.declared.event.Sleep.{Sleep}
+use Rattle.sym_events.specs.sym_exec.Executed.{Symbolic}
+use Rattle.sym_steps.specs.sym_laws.Loads.{loads_in}
+use Rattle.sym_events.specs.order_formula.Worlds.{World}
+use Rattle.sym_events.specs.lawful_order.Events.{Of, all_events, all_sleeps}
 use Rattle.bit_ranks.specs.Ranks.{ranks_of}
 use Rattle.world_plan.specs.Sights.{sight_of}
 
@@ -31,7 +31,9 @@ module _ (buffered : Bool) (paths : Paths) where
   -- whether an event takes place by a deed
   abbrev pub is_shown : Of Event → Deed → Bool
   is_shown e d =
-      option_map_or (λ (q : Walk). option_map_or (λ s. same q.name s.thread && e.it.step == s.step) (sight_of buffered d) false)
+      option_map_or
+      (λ (q : Walk). option_map_or (λ s. same q.name s.thread && e.it.step == s.step)
+      (sight_of buffered d) false)
       (slice_get paths.threads e.thread) false
 
   -- the index of the deed by which an event takes place, or the history's length if none
@@ -41,8 +43,10 @@ module _ (buffered : Bool) (paths : Paths) where
   -- the event that ends a sleep, if any: the first one after it that wakes its thread
   abbrev pub ender_in : List Deed → Of Sleep → Option ℕ
   ender_in h s =
-      option_and_then (λ (q : Walk). option_map (λ d. position_or_len (λ e. is_shown e d) (all_events paths))
-      (find (ends_wait s.it.condition q.name) (after_step h q.name s.it.step))) (slice_get paths.threads s.thread)
+      option_and_then
+      (λ (q : Walk). option_map (λ d. position_or_len (λ e. is_shown e d) (all_events paths))
+      (find (ends_wait s.it.condition q.name) (after_step h q.name s.it.step)))
+      (slice_get paths.threads s.thread)
 
   -- the world of a history; events that never take place come last, in the order of their numbers
   abbrev pub world_in : Symbolic → List Deed → World

@@ -1,8 +1,8 @@
 -- Requests for cells, mutexes and conditions that exist.
 use Rattle.std.specs.Prelude.{ℕ, ◌<◌}
-use Rattle.tc_base.specs.declared.request.Request.{Request}
-use Rattle.tc_base.specs.declared.request.Request.TheVariants.{Read, Write, Exchange, CompareExchange, Acquire, Release}
-use Rattle.tc_base.specs.declared.request.Request.TheVariants.{BeginWait, EndWait, WakeOne, WakeAll}
+use Rattle.tc_code.specs.tc_base.declared.request.Request.{Request}
+use Rattle.tc_code.specs.tc_base.declared.request.Request.TheVariants.{Read, Write, Exchange, CompareExchange, Acquire, Release}
+use Rattle.tc_code.specs.tc_base.declared.request.Request.TheVariants.{BeginWait, EndWait, WakeOne, WakeAll}
 
 -- the request names only cells, mutexes and conditions below these counts
 abbrev pub AsksWithin : (cells mutexes conditions : ℕ) → Request → Type 0

@@ -1,6 +1,6 @@
 use Rattle.std.proofs.Common.{refl}
 use Rattle.store_buffers.specs.Buffers.{no_buffer, fifo_buffer}
-use Rattle.memory_models.specs.declared.model.Model.TheVariants.{Sc, Tso}
+use Rattle.store_buffers.specs.memory_models.declared.model.Model.TheVariants.{Sc, Tso}
 use Rattle.store_buffers.specs.Pending.{binds_all}
 use Rattle.store_buffers.specs.helpers.Sequential.{sc_laws}
 use Rattle.store_buffers.specs.helpers.Total.{tso_laws}

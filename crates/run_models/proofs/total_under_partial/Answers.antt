@@ -1,6 +1,6 @@
 use Rattle.std.proofs.Common.{refl}
 use Rattle.store_buffers.specs.Buffers.{fifo_buffer, cell_buffer}
-use Rattle.memory_models.specs.declared.model.Model.TheVariants.{Tso, Pso}
+use Rattle.store_buffers.specs.memory_models.declared.model.Model.TheVariants.{Tso, Pso}
 use Rattle.store_buffers.specs.Pending.{binds_all, binds_cells}
 use Rattle.store_buffers.specs.helpers.Partial.{pso_laws}
 use Rattle.store_buffers.specs.helpers.Total.{tso_laws}

@@ -29,7 +29,8 @@ abbrev pub with_child : ℕ → Option (Name × List ℕ) → Option (Name × Li
 with_child child others = others >>= λ x. Some (child ∷ x.0, x.1)
 
 -- no children if there is no dot in front, else what `read` gives for the bytes after the dot
-abbrev pub where_dot : Option (List ℕ) → List ℕ → (List ℕ → Option (Name × List ℕ)) → Option (Name × List ℕ)
+abbrev pub where_dot : Option (List ℕ) → List ℕ → (List ℕ → Option (Name × List ℕ))
+    → Option (Name × List ℕ)
 where_dot None bytes read = Some ([], bytes)
 where_dot (Some number) bytes read = read number
 
@@ -37,7 +38,8 @@ where_dot (Some number) bytes read = read number
 unfoldable pub children_at : ℕ → List ℕ → Option (Name × List ℕ)
 children_at zero bytes = where_dot (behind (codes ".") bytes) bytes (λ _. None)
 children_at (suc room) bytes =
-    where_dot (behind (codes ".") bytes) bytes (λ number. number_at 1 255 number >>= λ k. with_child k.0 (children_at room k.1))
+    where_dot (behind (codes ".") bytes) bytes
+    (λ number. number_at 1 255 number >>= λ k. with_child k.0 (children_at room k.1))
 
 unfoldable pub name_at : List ℕ → Option (Name × List ℕ)
 name_at bytes = behind (codes "0") bytes >>= children_at DEPTH

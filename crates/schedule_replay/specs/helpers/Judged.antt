@@ -48,4 +48,5 @@ module _ {B : Type 0} where
   -- the lesser of a log's and a run's thread, if their names or their paths differ
   abbrev pub other_at : State B → ThreadPath → Name → Option Name
   other_at s t n =
-      by_order (by_name t.name n) (Some t.name) (if is_path (path_in s t.name) t.path then None else Some n) (Some n)
+      by_order (by_name t.name n) (Some t.name)
+      (if is_path (path_in s t.name) t.path then None else Some n) (Some n)

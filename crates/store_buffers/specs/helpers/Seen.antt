@@ -31,7 +31,8 @@ drop_in_first (s ∷ ss) c = with_values s c (drop 1 (values_to s c)) ∷ ss
 -- the values of a queue of stores, grouped by cell
 abbrev pub stores_by_cell : List Entry → Segment
 stores_by_cell [] = fin.empty
-stores_by_cell (e ∷ es) = with_values (stores_by_cell es) e.cell (e.value ∷ values_to (stores_by_cell es) e.cell)
+stores_by_cell (e ∷ es) =
+    with_values (stores_by_cell es) e.cell (e.value ∷ values_to (stores_by_cell es) e.cell)
 
 abbrev parted : Entry → ℕ × ℤ
 parted e = (e.cell, e.value)

@@ -16,6 +16,8 @@ sc_laws = record {
   empty_law = λ b ps s. sym (ap (λ es. is_nil es) (s.issued refl));
   forward_stands = λ b ps c s. sym (ap (λ es. newest es c) (s.issued refl));
   may_drain_stands = λ b ps form s may. absurd (false≢true may);
-  drain_stands = λ b ps form older e newer s d. absurd (store_there older e newer (sym (ap stores d.there) ∙ s.issued refl));
+  drain_stands =
+      λ b ps form older e newer s d. absurd
+      (store_there older e newer (sym (ap stores d.there) ∙ s.issued refl));
   unbuffered = λ _ b form. refl;
 }

@@ -52,9 +52,17 @@ no_older [] c e = refl
 no_older (Store d ∷ older) c e = absurd (false≢true (sym e))
 no_older (Bar ∷ older) c e = no_older older c e
 
-first_drains : (ps : List Pending) → not (is_nil (stores ps)) ≡ true → SomeDrains fifo_buffer binds_all ps None
+first_drains : (ps : List Pending) → not (is_nil (stores ps)) ≡ true
+    → SomeDrains fifo_buffer binds_all ps None
 first_drains [] e = absurd (false≢true e)
-first_drains (Store d ∷ ps) e = record { older = []; store = d; newer = ps; drains = record { there = refl; by_form = refl; is_free = refl } }
+first_drains (Store d ∷ ps) e =
+    record {
+      older = [];
+      store = d;
+      newer = ps;
+      drains = record
+          { there = refl; by_form = refl; is_free = refl };
+    }
 first_drains (Bar ∷ ps) e =
     let s = first_drains ps e in
     record {
@@ -62,20 +70,28 @@ first_drains (Bar ∷ ps) e =
       store = s.store;
       newer = s.newer;
       drains =
-          record { there = ap (λ qs. Bar ∷ qs) s.drains.there; by_form = refl; is_free = s.drains.is_free };
+          record {
+            there = ap
+                (λ qs. Bar ∷ qs) s.drains.there;
+            by_form = refl;
+            is_free = s.drains.is_free;
+          };
     }
 
-may_drain : (b : List Entry) (ps : List Pending) (form : Option ℕ) → b ≡ stores ps → is_none form && not (is_nil b) ≡ true
+may_drain : (b : List Entry) (ps : List Pending) (form : Option ℕ) → b ≡ stores ps
+    → is_none form && not (is_nil b) ≡ true
     → SomeDrains fifo_buffer binds_all ps form
 may_drain b ps None is e = first_drains ps (ap (λ es. not (is_nil es)) (sym is) ∙ e)
 may_drain b ps (Some c) is e = absurd (false≢true e)
 
-takes_out : (b : List Entry) (older : List Pending) (e : Entry) (newer : List Pending) → b ≡ e ∷ stores newer → stores older ≡ []
+takes_out : (b : List Entry) (older : List Pending) (e : Entry) (newer : List Pending)
+    → b ≡ e ∷ stores newer → stores older ≡ []
     → TakesOut fifo_buffer b None older e newer
 takes_out b older e newer is none = record {
   may = ap (λ es. not (is_nil es)) is;
   takes = ap (λ es. slice_index_or es 0 no_entry) is;
-  leaves = subst (λ es. Stands fifo_buffer es (older ++ newer)) (stores-append older newer ∙ ap (λ es. es ++ stores newer) none
+  leaves = subst (λ es. Stands fifo_buffer es (older ++ newer))
+      (stores-append older newer ∙ ap (λ es. es ++ stores newer) none
       ∙ ap (drop 1) (sym is)) (stands (older ++ newer));
 }
 
@@ -90,6 +106,8 @@ tso_laws = record {
   drain_stands = λ b ps form older e newer s d.
       let none = no_older older e.cell d.is_free in
       subst (λ f. TakesOut fifo_buffer b f older e newer) d.by_form
-      (takes_out b older e newer (queue b ps s ∙ ap stores d.there ∙ stores-append older (Store e ∷ newer) ∙ ap (λ es. es ++ e ∷ stores newer) none) none);
+      (takes_out b older e newer
+      (queue b ps s ∙ ap stores d.there ∙ stores-append older (Store e ∷ newer) ∙ ap
+      (λ es. es ++ e ∷ stores newer) none) none);
   unbuffered = λ e. absurd (false≢true (sym e));
 }

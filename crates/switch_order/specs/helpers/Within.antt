@@ -14,4 +14,5 @@ AreBeforesWithin vars y = (first second : ℕ) → var_of (before_literal y firs
 abbrev pub rise_of : (before counts : ℤ) → (start most first second least : ℕ) → List (List ℤ)
 rise_of before counts start most first second least =
     folded_clause
-    (neg_ℤ before ∷ neg_ℤ counts ∷ neg_ℤ (level_literal start most first least) ∷ level_literal start most second (suc least) ∷ [])
+    (neg_ℤ before ∷ neg_ℤ counts ∷ neg_ℤ (level_literal start most first least)
+    ∷ level_literal start most second (suc least) ∷ [])

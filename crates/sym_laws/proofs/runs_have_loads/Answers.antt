@@ -1,5 +1,5 @@
-use Rattle.path_walk.specs.Paths.{paths_of}
-use Rattle.run_history.specs.History.{history}
+use Rattle.sym_exec.specs.path_walk.Paths.{paths_of}
+use Rattle.path_laws.specs.run_history.History.{history}
 use Rattle.sym_laws.proofs.Agree.{taken_once, loads_agree, as_many}
 use Rattle.sym_laws.proofs.Numbered.{all_numbered}
 use Rattle.sym_laws.specs.Valued.{found}

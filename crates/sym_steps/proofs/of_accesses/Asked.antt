@@ -3,21 +3,21 @@ use Rattle.std.proofs.Common.{◌≡◌, ◌∙◌, inl, inr, ℕ, ◌<◌, ℤ,
 use Rattle.std.specs.Prelude.{nat_lt}
 use Rattle.std.specs.List.{Contains, filter, flat_map}
 use Rattle.std.proofs.lemmas.Bool.{lt-ltb}
-use Rattle.tc_base.specs.Names.{Name}
-use Rattle.tc_base.specs.declared.request.Request.{Request}
-use Rattle.tc_base.specs.declared.request.Request.TheVariants.{Silent, Read, Write, Exchange, CompareExchange}
-use Rattle.run_laws.proofs.Names.{is_same, same_self}
-use Rattle.run_history.specs.History.{Deed, Did, Drained, same}
-use Rattle.run_history.specs.Told.{steps_in}
-use Rattle.run_history.proofs.of_pending.In.{In, in_at, in_split, in_filter, from_filter}
-use Rattle.path_laws.specs.Setting.{Setting}
-use Rattle.path_laws.proofs.of_history.Told.{RunOf, steps_of, local_is, its_run}
-use Rattle.path_laws.proofs.of_events.Events.{there_by_step}
-use Rattle.path_laws.proofs.of_events.Lists.{in_map, from_map, in_contains, contains_in}
-use Rattle.path_laws.proofs.of_events.Steps.{step_is}
-use Rattle.sym_terms.specs.declared.node.Node.{Node}
-use Rattle.sym_exec.specs.Alone.{Asked, asked_by, asked_in}
-use Rattle.sym_exec.specs.declared.symbolic.Access.{Access}
+use Rattle.order_events.specs.tc_base.Names.{Name}
+use Rattle.order_events.specs.tc_base.declared.request.Request.{Request}
+use Rattle.order_events.specs.tc_base.declared.request.Request.TheVariants.{Silent, Read, Write, Exchange, CompareExchange}
+use Rattle.order_events.proofs.run_laws.Names.{is_same, same_self}
+use Rattle.sym_laws.specs.run_history.History.{Deed, Did, Drained, same}
+use Rattle.sym_laws.specs.run_history.Told.{steps_in}
+use Rattle.sym_laws.proofs.run_history.of_pending.In.{In, in_at, in_split, in_filter, from_filter}
+use Rattle.sym_laws.specs.path_laws.Setting.{Setting}
+use Rattle.sym_laws.proofs.path_laws.of_history.Told.{RunOf, steps_of, local_is, its_run}
+use Rattle.sym_laws.proofs.path_laws.of_events.Events.{there_by_step}
+use Rattle.sym_laws.proofs.path_laws.of_events.Lists.{in_map, from_map, in_contains, contains_in}
+use Rattle.sym_laws.proofs.path_laws.of_events.Steps.{step_is}
+use Rattle.order_events.specs.sym_terms.declared.node.Node.{Node}
+use Rattle.sym_laws.specs.sym_exec.Alone.{Asked, asked_by, asked_in}
+use Rattle.sym_laws.specs.sym_exec.declared.symbolic.Access.{Access}
 use Rattle.sym_laws.specs.Valued.{AskedAt, asked_of, asked_at, found}
 use Rattle.sym_steps.proofs.Told.{has_values}
 use Rattle.order_events.proofs.Lists.{in_front, in_flat_map, of_flat_map}

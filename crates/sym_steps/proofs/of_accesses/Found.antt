@@ -3,13 +3,13 @@ use Rattle.std.proofs.Common.{◌≡◌, ◌∙◌, ℕ, ◌==◌, Some, refl, a
 use Rattle.std.specs.Prelude.{option_map, option_and_then}
 use Rattle.std.specs.List.{find}
 use Rattle.std.proofs.lemmas.Bool.{eq-eqb, ne_eqb}
-use Rattle.path_walk.specs.Paths.{Paths}
-use Rattle.sym_exec.specs.Executed.{Course, Symbolic}
-use Rattle.sym_exec.specs.declared.symbolic.Access.{Access}
+use Rattle.order_events.specs.path_walk.Paths.{Paths}
+use Rattle.sym_laws.specs.sym_exec.Executed.{Course, Symbolic}
+use Rattle.sym_laws.specs.sym_exec.declared.symbolic.Access.{Access}
 use Rattle.sym_laws.proofs.Lists.{found_at}
-use Rattle.lawful_order.specs.Memory.{cell_of}
-use Rattle.lawful_order.specs.Reads.{HasAccess}
-use Rattle.lawful_order.specs.Whole.{IsExecutedBy}
+use Rattle.order_events.specs.lawful_order.Memory.{cell_of}
+use Rattle.order_events.specs.lawful_order.Reads.{HasAccess}
+use Rattle.order_events.specs.lawful_order.Whole.{IsExecutedBy}
 use Rattle.order_events.proofs.Lists.{in_at}
 
 pub cell_found : (paths : Paths) (symbolic : Symbolic) (t : ℕ) (a : Access) → IsExecutedBy paths symbolic → HasAccess symbolic t a

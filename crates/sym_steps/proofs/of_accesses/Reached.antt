@@ -9,51 +9,51 @@ use Rattle.std.proofs.Math.Seq.{take-suc}
 use Rattle.std.proofs.lemmas.Bool.{and_parts}
 use Rattle.std.proofs.lemmas.List.Sums.{fold-append}
 use Rattle.std.proofs.lemmas.Option.{same_Some, slice_get_within, get_or_from_slice_get}
-use Rattle.tc_base.specs.Paths.{ThreadPath}
-use Rattle.tc_base.specs.States.{Local, Thread}
-use Rattle.tc_code.specs.Code.{instr_at}
-use Rattle.tc_code.specs.Expr.{Expr, names_slots, value_of as expr_value_of}
-use Rattle.tc_code.specs.Lawful.{Array, keeps_apart}
-use Rattle.tc_code.specs.Step.{is_within, value_in, instr_of}
-use Rattle.tc_code.specs.declared.instr.Instr.{Instr}
-use Rattle.tc_code.specs.declared.instr.Instr.TheVariants.{Set, Load, LoadAt, Store, StoreAt, Swap, Cas}
-use Rattle.tc_code.proofs.Facts.{placed}
-use Rattle.run_laws.specs.Whole.{IndexIsWithin}
-use Rattle.run_laws.proofs.Guards.{index_is_within}
-use Rattle.run_history.specs.History.{Did, history}
-use Rattle.run_history.specs.Told.{steps_in, failed_in}
-use Rattle.run_history.proofs.Ints.{models_pass_ints}
-use Rattle.run_history.proofs.of_pending.In.{In, in_append}
-use Rattle.path_walk.specs.Paths.{Walk, walk_of, paths_of}
-use Rattle.path_laws.specs.Setting.{Setting}
-use Rattle.path_laws.specs.history.Along.{IsThread}
-use Rattle.path_laws.specs.history.Next.{IsNextOnPath}
-use Rattle.path_laws.proofs.of_history.Told.{RunOf, its_run, up_to}
-use Rattle.path_laws.proofs.of_history.Walks.{thread_path_at}
-use Rattle.path_laws.proofs.of_history.Next.{thread_next}
-use Rattle.path_laws.proofs.of_events.Lists.{each_in, in_contains}
-use Rattle.path_laws.proofs.of_events.Steps.{deed_of}
-use Rattle.sym_terms.specs.Terms.{AreTerms}
-use Rattle.sym_terms.specs.Values.{value_of}
-use Rattle.sym_terms.specs.declared.node.Node.{Node}
-use Rattle.sym_terms.specs.declared.node.Node.TheVariants.{Symbol}
-use Rattle.sym_exec.specs.Making.{Made, Grows}
-use Rattle.sym_exec.specs.helpers.Threads.{names_within}
-use Rattle.sym_exec.specs.Thread.{Doing, HasTerms, term_in, after_instr, after_step, wanted_of}
-use Rattle.sym_exec.specs.Executed.{Course, fails_at, thread_started, thread_done}
-use Rattle.sym_exec.specs.Alone.{slots_by, cell_by}
-use Rattle.sym_exec.specs.declared.symbolic.Access.{Access}
-use Rattle.sym_exec.proofs.Grown.{grows_both, grows_made, expr_grows}
-use Rattle.sym_exec.proofs.Sound.{instr_named}
-use Rattle.sym_exec.proofs.Values.{HasValue, value_stays, expr_value}
+use Rattle.order_events.specs.tc_base.Paths.{ThreadPath}
+use Rattle.order_events.specs.tc_base.States.{Local, Thread}
+use Rattle.order_events.specs.tc_code.Code.{instr_at}
+use Rattle.order_events.specs.tc_code.Expr.{Expr, names_slots, value_of as expr_value_of}
+use Rattle.order_events.specs.tc_code.Lawful.{Array, keeps_apart}
+use Rattle.order_events.specs.tc_code.Step.{is_within, value_in, instr_of}
+use Rattle.order_events.specs.tc_code.declared.instr.Instr.{Instr}
+use Rattle.order_events.specs.tc_code.declared.instr.Instr.TheVariants.{Set, Load, LoadAt, Store, StoreAt, Swap, Cas}
+use Rattle.order_events.proofs.tc_code.Facts.{placed}
+use Rattle.order_events.specs.run_laws.Whole.{IndexIsWithin}
+use Rattle.order_events.proofs.run_laws.Guards.{index_is_within}
+use Rattle.sym_laws.specs.run_history.History.{Did, history}
+use Rattle.sym_laws.specs.run_history.Told.{steps_in, failed_in}
+use Rattle.sym_laws.proofs.run_history.Ints.{models_pass_ints}
+use Rattle.sym_laws.proofs.run_history.of_pending.In.{In, in_append}
+use Rattle.order_events.specs.path_walk.Paths.{Walk, walk_of, paths_of}
+use Rattle.sym_laws.specs.path_laws.Setting.{Setting}
+use Rattle.sym_laws.specs.path_laws.history.Along.{IsThread}
+use Rattle.sym_laws.specs.path_laws.history.Next.{IsNextOnPath}
+use Rattle.sym_laws.proofs.path_laws.of_history.Told.{RunOf, its_run, up_to}
+use Rattle.sym_laws.proofs.path_laws.of_history.Walks.{thread_path_at}
+use Rattle.sym_laws.proofs.path_laws.of_history.Next.{thread_next}
+use Rattle.sym_laws.proofs.path_laws.of_events.Lists.{each_in, in_contains}
+use Rattle.sym_laws.proofs.path_laws.of_events.Steps.{deed_of}
+use Rattle.order_events.specs.sym_terms.Terms.{AreTerms}
+use Rattle.order_events.specs.sym_terms.Values.{value_of}
+use Rattle.order_events.specs.sym_terms.declared.node.Node.{Node}
+use Rattle.order_events.specs.sym_terms.declared.node.Node.TheVariants.{Symbol}
+use Rattle.sym_laws.specs.sym_exec.Making.{Made, Grows}
+use Rattle.sym_laws.specs.sym_exec.helpers.Threads.{names_within}
+use Rattle.sym_laws.specs.sym_exec.Thread.{Doing, HasTerms, term_in, after_instr, after_step, wanted_of}
+use Rattle.sym_laws.specs.sym_exec.Executed.{Course, fails_at, thread_started, thread_done}
+use Rattle.sym_laws.specs.sym_exec.Alone.{slots_by, cell_by}
+use Rattle.sym_laws.specs.sym_exec.declared.symbolic.Access.{Access}
+use Rattle.sym_laws.proofs.sym_exec.Grown.{grows_both, grows_made, expr_grows}
+use Rattle.sym_laws.proofs.sym_exec.Sound.{instr_named}
+use Rattle.sym_laws.proofs.sym_exec.Values.{HasValue, value_stays, expr_value}
 use Rattle.sym_laws.specs.Valued.{AgreesWith, found, found_before, execution, asked_of}
 use Rattle.sym_laws.proofs.Executed.{course_of}
 use Rattle.sym_laws.proofs.Follows.{Follows, fine_at, begins_at, grows_at, found_at_log}
 use Rattle.sym_laws.proofs.Runs.{follow_after}
 use Rattle.sym_laws.proofs.Steps.{IsFine, Begins, next, next_is, line_of}
 use Rattle.sym_steps.proofs.Agree.{agree_first}
-use Rattle.order_formula.specs.Worlds.{World}
-use Rattle.lawful_order.specs.Cells.{is_same_cell, value_at_start}
+use Rattle.order_events.specs.order_formula.Worlds.{World}
+use Rattle.order_events.specs.lawful_order.Cells.{is_same_cell, value_at_start}
 use Rattle.sym_steps.specs.accesses.Asked.{IsReachedIn}
 use Rattle.sym_steps.proofs.of_accesses.Sound.{IsSound, same_cell_is, begins_so}
 use Rattle.sym_steps.specs.Valued.{ValuedHistory, ExecutedThread}

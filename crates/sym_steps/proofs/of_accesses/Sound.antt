@@ -9,16 +9,16 @@ use Rattle.std.proofs.lemmas.Bool.{false≢true, and_parts, eqb-true, eq-eqb, ne
 use Rattle.std.proofs.lemmas.Bool.Decides.{nat_tests, Decides-int_eq}
 use Rattle.std.proofs.lemmas.Int.{ints}
 use Rattle.std.proofs.lemmas.Option.{none-some, same_Some, get_or_from_slice_get}
-use Rattle.tc_code.specs.Code.{Code}
-use Rattle.tc_code.specs.Lawful.{Array, is_outside, is_array, HasArrays}
-use Rattle.tc_code.specs.Step.{is_within, cell_at}
-use Rattle.sym_terms.specs.Values.{value_of}
-use Rattle.sym_terms.specs.declared.node.Node.{Node}
-use Rattle.sym_exec.specs.Alone.{cell_by}
-use Rattle.sym_exec.specs.declared.symbolic.Cell.{Cell}
-use Rattle.sym_exec.specs.declared.symbolic.Cell.TheVariants.{Fixed, Element}
-use Rattle.order_formula.specs.Worlds.{World}
-use Rattle.lawful_order.specs.Cells.{is_same_cell, value_at_start}
+use Rattle.order_events.specs.tc_code.Code.{Code}
+use Rattle.order_events.specs.tc_code.Lawful.{Array, is_outside, is_array, HasArrays}
+use Rattle.order_events.specs.tc_code.Step.{is_within, cell_at}
+use Rattle.order_events.specs.sym_terms.Values.{value_of}
+use Rattle.order_events.specs.sym_terms.declared.node.Node.{Node}
+use Rattle.sym_laws.specs.sym_exec.Alone.{cell_by}
+use Rattle.sym_laws.specs.sym_exec.declared.symbolic.Cell.{Cell}
+use Rattle.sym_laws.specs.sym_exec.declared.symbolic.Cell.TheVariants.{Fixed, Element}
+use Rattle.order_events.specs.order_formula.Worlds.{World}
+use Rattle.order_events.specs.lawful_order.Cells.{is_same_cell, value_at_start}
 
 -- a fixed cell is in no array, and an element is inside an array of the code
 abbrev pub IsSound : List Array → List Node → List ℤ → Cell → Type 0

@@ -30,7 +30,8 @@ joined-parted (Joined n) = refl
 
 abbrev coded_handle : Coded Handle
 coded_handle =
-    code_by (Option (ℕ × Bool)) (coded_option (coded× coded_ℕ coded_bool)) parted joined joined-parted
+    code_by (Option (ℕ × Bool))
+    (coded_option (coded× coded_ℕ coded_bool)) parted joined joined-parted
 
 abbrev Position : Type 0
 Position = (ℕ × ℕ) × (ℕ × ℕ)
@@ -44,9 +45,13 @@ coded_local =
     (coded×
     (coded× (coded× coded_ℕ coded_ℕ) (coded× coded_ℕ coded_ℕ))
     (coded×
-    (coded× (coded× (coded_list coded_ℤ) (coded_list coded_handle)) (coded× (coded_list coded_bool) (coded_list coded_bool)))
+    (coded× (coded× (coded_list coded_ℤ) (coded_list coded_handle))
+    (coded× (coded_list coded_bool) (coded_list coded_bool)))
     coded_bool))
-    (λ t. (((t.function, t.instruction), (t.children, t.steps)), (((t.slots, t.handles), (t.held, t.outcomes)), t.has_exited)))
+    (λ t. (
+      ((t.function, t.instruction), (t.children, t.steps)),
+      (((t.slots, t.handles), (t.held, t.outcomes)), t.has_exited),
+    ))
     (λ p. record {
       function = p.0.0.0;
       instruction = p.0.0.1;
@@ -75,8 +80,10 @@ abbrev pub coded_state : {B : Type 0} → Coded B → Coded (State B)
 coded_state {B} b =
     code_by (Shared × (ByName (Thread B) × Option Name))
     (coded×
-    (coded× (coded_list coded_ℤ) (coded× (coded_list (coded_option coded_name)) (coded_list (set.code coded_name))))
+    (coded× (coded_list coded_ℤ)
+    (coded× (coded_list (coded_option coded_name)) (coded_list (set.code coded_name))))
     (coded× (map.code coded_name (coded_thread b)) (coded_option coded_name)))
     (λ s. ((s.memory, (s.owners, s.waiters)), (s.threads, s.failed)))
-    (λ p. record { memory = p.0.0; owners = p.0.1.0; waiters = p.0.1.1; threads = p.1.0; failed = p.1.1 })
+    (λ p. record
+    { memory = p.0.0; owners = p.0.1.0; waiters = p.0.1.1; threads = p.1.0; failed = p.1.1 })
     (λ _. refl)

@@ -30,18 +30,21 @@ abbrev closed : List Expr → List Part → List Expr
 closed trees [] = trees
 closed trees (p ∷ ps) = closed (close trees p) ps
 
-pub closed-append : (trees : List Expr) (ps qs : List Part) → closed trees (ps ++ qs) ≡ closed (closed trees ps) qs
+pub closed-append : (trees : List Expr) (ps qs : List Part)
+    → closed trees (ps ++ qs) ≡ closed (closed trees ps) qs
 closed-append trees [] qs = refl
 closed-append trees (p ∷ ps) qs = closed-append (close trees p) ps qs
 
 pub closed-parts : (e : Expr) (trees : List Expr) → closed trees (parts e) ≡ e ∷ trees
 closed-parts (Number n) trees = refl
 closed-parts (Slot k) trees = refl
-closed-parts (Unary op a) trees = closed-append trees (parts a) _ ∙ ap (λ t. closed t (inr (inl op) ∷ [])) (closed-parts a trees)
+closed-parts (Unary op a) trees =
+    closed-append trees (parts a) _ ∙ ap (λ t. closed t (inr (inl op) ∷ [])) (closed-parts a trees)
 closed-parts (Binary op a b) trees =
     closed-append trees (parts a ++ parts b) _
     ∙ ap (λ t. closed t (inr (inr op) ∷ []))
-    (closed-append trees (parts a) (parts b) ∙ ap (λ t. closed t (parts b)) (closed-parts a trees) ∙ closed-parts b (a ∷ trees))
+    (closed-append trees (parts a) (parts b) ∙ ap (λ t. closed t (parts b))
+    (closed-parts a trees) ∙ closed-parts b (a ∷ trees))
 
 abbrev first : List Expr → Expr
 first [] = Slot 0
@@ -55,4 +58,7 @@ tree-parts e = ap first (closed-parts e [])
 
 abbrev pub coded_expr : Coded Expr
 coded_expr =
-    code_by (List Part) (coded_list (coded⊎ (coded⊎ coded_ℤ coded_ℕ) (coded⊎ unary.the_row.coded binary.the_row.coded))) parts tree tree-parts
+    code_by (List Part)
+    (coded_list
+    (coded⊎ (coded⊎ coded_ℤ coded_ℕ)
+    (coded⊎ unary.the_row.coded binary.the_row.coded))) parts tree tree-parts

@@ -19,21 +19,27 @@ use Rattle.tc_lexer.specs.Pieces.{Piece, Space, LineComment, BlockComment, Token
 use Rattle.tc_lexer.specs.Text.{kind_of}
 
 abbrev pub keywords : List Keyword
-keywords = Int ∷ Mutex ∷ Cond ∷ Thread ∷ Main ∷ Tid ∷ If ∷ Else ∷ While ∷ Create ∷ Join ∷ Lock ∷ Unlock ∷ Wait ∷ Signal ∷ Broadcast ∷ Fence ∷ Assert ∷ Swap
+keywords =
+    Int ∷ Mutex ∷ Cond ∷ Thread ∷ Main ∷ Tid ∷ If ∷ Else ∷ While ∷ Create ∷ Join ∷ Lock ∷ Unlock
+    ∷ Wait ∷ Signal ∷ Broadcast ∷ Fence ∷ Assert ∷ Swap
     ∷ Cas ∷ Stbar ∷ []
 
 -- all signs, those of two bytes first
 abbrev pub signs : List Sign
-signs = LessEqual ∷ GreaterEqual ∷ EqualEqual ∷ BangEqual ∷ ShiftLeft ∷ ShiftRight ∷ AndAnd ∷ OrOr ∷ OpenParen ∷ CloseParen ∷ OpenBracket ∷ CloseBracket
-    ∷ OpenBrace ∷ CloseBrace ∷ Comma ∷ Semicolon ∷ Assign ∷ Plus ∷ Minus ∷ Star ∷ Slash ∷ Percent ∷ Bang ∷ Tilde ∷ Less ∷ Greater ∷ And ∷ Caret ∷ Or ∷ []
+signs = LessEqual ∷ GreaterEqual ∷ EqualEqual ∷ BangEqual ∷ ShiftLeft ∷ ShiftRight ∷ AndAnd ∷ OrOr
+    ∷ OpenParen ∷ CloseParen ∷ OpenBracket ∷ CloseBracket
+    ∷ OpenBrace ∷ CloseBrace ∷ Comma ∷ Semicolon ∷ Assign ∷ Plus ∷ Minus ∷ Star ∷ Slash ∷ Percent
+    ∷ Bang ∷ Tilde ∷ Less ∷ Greater ∷ And ∷ Caret ∷ Or ∷ []
 
 -- the keyword of the language with this spelling
 abbrev pub keyword_of : ℕ → List ℕ → Option Keyword
-keyword_of language word = find (λ k. bytes_eq (keyword_text k) word && nat_le (keyword_since k) language) keywords
+keyword_of language word =
+    find (λ k. bytes_eq (keyword_text k) word && nat_le (keyword_since k) language) keywords
 
 -- the longest sign of the language at the front
 abbrev pub sign_at : ℕ → List ℕ → Option Sign
-sign_at language bytes = find (λ s. starts_with nat_eq bytes (sign_text s) && nat_le (sign_since s) language) signs
+sign_at language bytes =
+    find (λ s. starts_with nat_eq bytes (sign_text s) && nat_le (sign_since s) language) signs
 
 -- the number that a word writes, if it is an `int`
 abbrev pub int_of : List ℕ → Option ℤ
@@ -54,7 +60,9 @@ word_token language word =
 -- the bytes before the first `*/`, if there is one
 abbrev pub before_close : List ℕ → Option (List ℕ)
 before_close [] = None
-before_close (b ∷ bs) = if starts_with nat_eq (b ∷ bs) (codes "*/") then Some [] else option_map (λ body. b ∷ body) (before_close bs)
+before_close (b ∷ bs) =
+    if starts_with nat_eq (b ∷ bs) (codes "*/") then Some []
+    else option_map (λ body. b ∷ body) (before_close bs)
 
 -- the word at the front, if it is a token
 abbrev pub word_piece : ℕ → List ℕ → Option Piece
@@ -89,7 +97,9 @@ shape_of p = record { kind = piece_kind p; len = length (written p) }
 
 -- the place after a byte, given the byte's own place
 abbrev pub next_place : Place → ℕ → Place
-next_place place b = if is_line_feed b then record { line = place.line + 1; col = 1 } else record { line = place.line; col = place.col + 1 }
+next_place place b =
+    if is_line_feed b then record { line = place.line + 1; col = 1 }
+    else record { line = place.line; col = place.col + 1 }
 
 -- the place after these bytes, given the place before them
 abbrev pub place_from : Place → List ℕ → Place

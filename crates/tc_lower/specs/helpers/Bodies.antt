@@ -1,6 +1,6 @@
 -- Helpers: bodies that are being written.
 use Rattle.std.specs.Prelude.{◌≡◌, ℕ, ◌+◌, ◌<◌, ◌≤◌, ◌^◌, Bool, true, false, [], ◌∷◌, ◌++◌, List, length, set, replicate}
-use Rattle.tc_limits.specs.declared.limits.TheConstants.{PROGRAM_BYTES}
+use Rattle.tc_code.specs.tc_limits.declared.limits.TheConstants.{PROGRAM_BYTES}
 use Rattle.tc_code.specs.declared.instr.Instr.{Instr}
 use Rattle.tc_code.specs.declared.instr.Instr.TheVariants.{Branch, Goto}
 use Rattle.tc_tree.specs.Grammar as grammar
@@ -47,13 +47,16 @@ test_of s w b = evaluated (plain_scope s) (length w.code.draft) w.code.free b.co
 abbrev pub body_of : Scope → Body → SeenBranch → Lowered
 body_of s w b =
     let test = test_of s w b in
-    all_lowered (plain_scope s) (length w.code.draft + length test.instrs + 1) test.free b.body.statements
+    all_lowered (plain_scope s)
+    (length w.code.draft + length test.instrs + 1) test.free b.body.statements
 
 -- a branch whose jump to the end isn't written yet
 abbrev pub open_branch : ℕ → ℕ → Evaluated → Lowered → Bool → Lowered
 open_branch line at test body more = record {
-  instrs = test.instrs ++ Branch test.value (after_body at test body more) ∷ [] ++ body.instrs ++ passing more 0;
-  lines = replicate (length test.instrs + 1) line ++ body.lines ++ replicate (length (passing more 0)) line;
+  instrs = test.instrs ++ Branch test.value (after_body at test body more) ∷ [] ++ body.instrs
+      ++ passing more 0;
+  lines = replicate (length test.instrs + 1) line ++ body.lines
+      ++ replicate (length (passing more 0)) line;
   free = body.free;
 }
 

@@ -1,6 +1,6 @@
 -- Helpers: the parts of the lowering as plain data.
 use Rattle.std.specs.Prelude.{◌≡◌, ◌+◌, ◌<◌, ◌≤◌, ◌^◌, ◌++◌, List, Option, length}
-use Rattle.tc_limits.specs.declared.limits.TheConstants.{PROGRAM_BYTES}
+use Rattle.tc_code.specs.tc_limits.declared.limits.TheConstants.{PROGRAM_BYTES}
 use Rattle.tc_code.specs.declared.instr.Instr.{Instr}
 use Rattle.tc_tree.specs.Grammar.{Expression}
 use Rattle.tc_tree.specs.declared.expression.Name.{Name}

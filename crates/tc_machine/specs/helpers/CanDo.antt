@@ -9,7 +9,7 @@ use Rattle.tc_code.specs.declared.instr.Instr.{Instr}
 use Rattle.tc_code.specs.Code.{Code}
 use Rattle.tc_code.specs.Lawful.{IsLawful}
 use Rattle.tc_code.specs.Step.{instr_of}
-use Rattle.run_laws.specs.helpers.Asks.{AsksWithin}
+use Rattle.tc_threads.specs.run_laws.helpers.Asks.{AsksWithin}
 use Rattle.tc_threads.specs.CanDo.{CanDo, Starts, is_branch}
 
 -- the code is lawful, i is the thread's next instruction, and the place after it is below 2^64
@@ -25,7 +25,8 @@ module _ {B : Type 0} where
 
   -- n can do the instruction, whose request names what exists and is silent for a branch, and n's
   -- next child has a new name
-  pub record CanPerform (code : Code) (s : State B) (n : Name) (i : Instr) (r : Request) (t : Thread B) : Type 0 where
+  pub record CanPerform (code : Code) (s : State B) (n : Name) (i : Instr) (r : Request)
+      (t : Thread B) : Type 0 where
     pub thread : CanDo code t.local i
     pub asked : AsksIn s r
     pub starts : Starts code t.local i r

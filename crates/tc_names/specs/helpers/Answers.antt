@@ -17,7 +17,8 @@ abbrev pub plain_scope : Scope → Name → Option Meaning
 plain_scope s = meaning_in s.source.now (s.own.now ++ s.all.now)
 
 abbrev pub branch_fault : (Name → Option Meaning) → SeenBranch → Option NameFault
-branch_fault scope b = expression_fault scope b.condition then statements_fault scope b.body.statements
+branch_fault scope b =
+    expression_fault scope b.condition then statements_fault scope b.body.statements
 
 abbrev pub branches_fault : (Name → Option Meaning) → List SeenBranch → Option NameFault
 branches_fault scope [] = None

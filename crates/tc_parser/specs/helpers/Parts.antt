@@ -22,14 +22,17 @@ pub record HaveRoom (globals : List Global) : Type 0 where
 -- the first of the three counts that exceeds its limit
 abbrev pub IsCountFault : List Global → ParseFault → Type 0
 IsCountFault globals (Count Cells n) = (limit_of Cells < n) × (n ≡ count.cells globals)
-IsCountFault globals (Count Mutexes n) = (count.cells globals ≤ limit_of Cells) × (limit_of Mutexes < n) × (n ≡ count.mutexes globals)
-IsCountFault globals (Count Conditions n) = (count.cells globals ≤ limit_of Cells) × (count.mutexes globals ≤ limit_of Mutexes)
+IsCountFault globals (Count Mutexes n) =
+    (count.cells globals ≤ limit_of Cells) × (limit_of Mutexes < n) × (n ≡ count.mutexes globals)
+IsCountFault globals (Count Conditions n) =
+    (count.cells globals ≤ limit_of Cells) × (count.mutexes globals ≤ limit_of Mutexes)
     × (limit_of Conditions < n) × (n ≡ count.conditions globals)
 IsCountFault globals _ = ⊥
 
 -- memory ran out, or no program continues at one of the tokens or at the end
 abbrev pub IsReadFault : List ℕ → List Token → ParseFault → Type 0
-IsReadFault text tokens (Syntax place) = (k : ℕ) × IsSyntaxFault 3 (words_of tokens) k × (place ≡ place_at text tokens k)
+IsReadFault text tokens (Syntax place) =
+    (k : ℕ) × IsSyntaxFault 3 (words_of tokens) k × (place ≡ place_at text tokens k)
 IsReadFault text tokens Memory = Unit {0}
 IsReadFault text tokens _ = ⊥
 

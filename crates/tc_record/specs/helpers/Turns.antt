@@ -21,5 +21,7 @@ module _ {B : Type 0} (ops : BufferOps B) (code : Code) where
 
   -- a turn with a word ends the run this way, or takes it from s to u, whatever words follow
   abbrev pub IsTurn : (s u : State B) (before after : List Move) → ℕ → Option End → Type 0
-  IsTurn s u before after word end = (words : List ℕ) → with_moves_before before (seeded_from ops code s (word ∷ words))
-      ≡ option_map_or (λ e. with_moves_before after (run_ended_at u e)) end (with_moves_before after (seeded_from ops code u words))
+  IsTurn s u before after word end =
+      (words : List ℕ) → with_moves_before before (seeded_from ops code s (word ∷ words))
+      ≡ option_map_or (λ e. with_moves_before after (run_ended_at u e)) end
+      (with_moves_before after (seeded_from ops code u words))

@@ -27,7 +27,8 @@ Ends ws Memory = Unit {0}
 Ends ws (Left n) = fault (Some (Globals ∷ [])) ws ≡ Some n
 
 -- a reader of `es` found a: `front` and the words up to `rest` spell it
-pub record IsRead {A : Type 0} (spell : A → List Word → List Word) (IsGood : A → Type 0) (front : List Word) (es : List Expected) (ws : List Word)
+pub record IsRead {A : Type 0} (spell : A → List Word → List Word) (IsGood : A → Type 0)
+    (front : List Word) (es : List Expected) (ws : List Word)
     (a : A) (rest : List Word) : Type 0 where
   pub spelled : front ++ ws ≡ spell a rest
   pub good : IsGood a
@@ -40,11 +41,13 @@ pub record IsTight (least : ℕ) (ws : List Word) (e : Expression) (rest : List 
   pub grouped : IsGrouped e
   pub tight : least ≤ tightness e
   pub longest : next_level rest < least
-  pub moves : (s : List Expected) → fault (Some (Operand ∷ Operators ∷ s)) ws ≡ fault (Some (Operators ∷ s)) rest
+  pub moves : (s : List Expected)
+      → fault (Some (Operand ∷ Operators ∷ s)) ws ≡ fault (Some (Operators ∷ s)) rest
   pub shorter : length rest < length ws
 
 -- an operand: `front` and the words up to `rest` spell it
-pub record IsOperand (front : List Word) (es : List Expected) (ws : List Word) (e : Expression) (rest : List Word) : Type 0 where
+pub record IsOperand (front : List Word) (es : List Expected) (ws : List Word) (e : Expression)
+    (rest : List Word) : Type 0 where
   pub spelled : front ++ ws ≡ expression_then e rest
   pub grouped : IsGrouped e
   pub tight : 11 ≤ tightness e
@@ -66,7 +69,8 @@ begins_statement (w ∷ ws) = is_some (statement w)
 pub record IsStatement (ws : List Word) (a : Statement) (rest : List Word) : Type 0 where
   pub spelled : ws ≡ statement_then a rest
   pub good : IsWell a
-  pub moves : (s : List Expected) → fault (Some (MoreStatements ∷ s)) ws ≡ fault (Some (MoreStatements ∷ s)) rest
+  pub moves : (s : List Expected)
+      → fault (Some (MoreStatements ∷ s)) ws ≡ fault (Some (MoreStatements ∷ s)) rest
   pub shorter : length rest < length ws
 
 abbrev pub block_then : SeenBlock → List Word → List Word
@@ -76,7 +80,8 @@ abbrev pub IsWellBlock : SeenBlock → Type 0
 IsWellBlock b = AreWell b.statements
 
 abbrev pub branch_then : SeenBranch → List Word → List Word
-branch_then b rest = ASign OpenParen ∷ expression_then b.condition (ASign CloseParen ∷ block_then b.body rest)
+branch_then b rest =
+    ASign OpenParen ∷ expression_then b.condition (ASign CloseParen ∷ block_then b.body rest)
 
 abbrev pub IsWellBranch : Place → SeenBranch → Type 0
 IsWellBranch place b = (b.place ≡ place) × IsGrouped b.condition × AreWell b.body.statements
@@ -87,7 +92,8 @@ abbrev pub IsAny : {A : Type 0} → A → Type 0
 IsAny a = Unit {0}
 
 -- what a reader found while `before` was expected; afterwards, `after` is
-pub record IsPassed {A : Type 0} (spell : A → List Word → List Word) (IsGood : A → Type 0) (before after : Expected) (ws : List Word) (a : A)
+pub record IsPassed {A : Type 0} (spell : A → List Word → List Word) (IsGood : A → Type 0)
+    (before after : Expected) (ws : List Word) (a : A)
     (rest : List Word) : Type 0 where
   pub spelled : ws ≡ spell a rest
   pub good : IsGood a

@@ -134,13 +134,16 @@ infix_of _ = None
 
 -- a condition in parentheses and a block
 abbrev pub guarded : List Expected
-guarded = Just OpenParen ∷ Operand ∷ Operators ∷ Just CloseParen ∷ Just OpenBrace ∷ Statements ∷ End ∷ []
+guarded =
+    Just OpenParen ∷ Operand ∷ Operators ∷ Just CloseParen ∷ Just OpenBrace ∷ Statements ∷ End ∷ []
 
 abbrev pub a_body : List Expected
 a_body = Just OpenBrace ∷ Locals ∷ Statements ∷ End ∷ []
 
 abbrev pub a_thread : List Expected
-a_thread = AnyName ∷ Just OpenParen ∷ Parameters ∷ Just CloseParen ∷ Just OpenBrace ∷ Locals ∷ Statements ∷ End ∷ []
+a_thread =
+    AnyName ∷ Just OpenParen ∷ Parameters ∷ Just CloseParen ∷ Just OpenBrace ∷ Locals ∷ Statements
+    ∷ End ∷ []
 
 -- what is expected after the word that begins an operand
 abbrev pub operand : Word → Option (List Expected)
@@ -155,12 +158,16 @@ operand _ = None
 -- what is expected after the word that begins a statement
 abbrev pub statement : Word → Option (List Expected)
 statement (AName x) = Some (AfterName ∷ [])
-statement (AnIf p) = Some (Just OpenParen ∷ Operand ∷ Operators ∷ Just CloseParen ∷ Just OpenBrace ∷ Statements ∷ End ∷ Alternative ∷ [])
+statement (AnIf p) =
+    Some (Just OpenParen ∷ Operand ∷ Operators ∷ Just CloseParen ∷ Just OpenBrace ∷ Statements
+    ∷ End ∷ Alternative ∷ [])
 statement (AWhile p) = Some guarded
 statement (AnAction a p) = Some (Just OpenParen ∷ AnyName ∷ Just CloseParen ∷ Just Semicolon ∷ [])
-statement (AWait p) = Some (Just OpenParen ∷ AnyName ∷ Just Comma ∷ AnyName ∷ Just CloseParen ∷ Just Semicolon ∷ [])
+statement (AWait p) =
+    Some (Just OpenParen ∷ AnyName ∷ Just Comma ∷ AnyName ∷ Just CloseParen ∷ Just Semicolon ∷ [])
 statement (ABarrier b p) = Some (Just OpenParen ∷ Just CloseParen ∷ Just Semicolon ∷ [])
-statement (AnAssert p) = Some (Just OpenParen ∷ Operand ∷ Operators ∷ Just CloseParen ∷ Just Semicolon ∷ [])
+statement (AnAssert p) =
+    Some (Just OpenParen ∷ Operand ∷ Operators ∷ Just CloseParen ∷ Just Semicolon ∷ [])
 statement _ = None
 
 abbrev pub followed : Option (List Expected) → List Expected → Option (List Expected)
@@ -195,17 +202,26 @@ first Others (ASign Comma) = Some (Operand ∷ Operators ∷ Others ∷ [])
 first Others _ = None
 first Statements w = followed (statement w) (Statements ∷ [])
 first AfterName (ASign Assign) = Some (AfterAssign ∷ [])
-first AfterName (ASign OpenBracket) = Some (Operand ∷ Operators ∷ Just CloseBracket ∷ Just Assign ∷ Operand ∷ Operators ∷ Just Semicolon ∷ [])
+first AfterName (ASign OpenBracket) =
+    Some (Operand ∷ Operators ∷ Just CloseBracket ∷ Just Assign ∷ Operand ∷ Operators
+    ∷ Just Semicolon ∷ [])
 first AfterName _ = None
-first AfterAssign (AKeyword keyword.Create) = Some (AnyName ∷ Just OpenParen ∷ Arguments ∷ Just CloseParen ∷ Just Semicolon ∷ [])
-first AfterAssign (AKeyword keyword.Swap) = Some (Just OpenParen ∷ AnyName ∷ Just Comma ∷ Operand ∷ Operators ∷ Just CloseParen ∷ Just Semicolon ∷ [])
-first AfterAssign (AKeyword keyword.Cas) = Some (Just OpenParen ∷ AnyName ∷ Just Comma ∷ Operand ∷ Operators ∷ Just Comma ∷ Operand ∷ Operators ∷ Just
+first AfterAssign (AKeyword keyword.Create) =
+    Some (AnyName ∷ Just OpenParen ∷ Arguments ∷ Just CloseParen ∷ Just Semicolon ∷ [])
+first AfterAssign (AKeyword keyword.Swap) =
+    Some (Just OpenParen ∷ AnyName ∷ Just Comma ∷ Operand ∷ Operators ∷ Just CloseParen
+    ∷ Just Semicolon ∷ [])
+first AfterAssign (AKeyword keyword.Cas) =
+    Some (Just OpenParen ∷ AnyName ∷ Just Comma ∷ Operand ∷ Operators ∷ Just Comma ∷ Operand
+    ∷ Operators ∷ Just
     CloseParen ∷ Just Semicolon ∷ [])
 first AfterAssign w = followed (operand w) (Operators ∷ Just Semicolon ∷ [])
 first Alternative (AKeyword keyword.Else) = Some (AfterElse ∷ [])
 first Alternative _ = None
 first AfterElse (ASign OpenBrace) = Some (Statements ∷ End ∷ [])
-first AfterElse (AnIf p) = Some (Just OpenParen ∷ Operand ∷ Operators ∷ Just CloseParen ∷ Just OpenBrace ∷ Statements ∷ End ∷ Alternative ∷ [])
+first AfterElse (AnIf p) =
+    Some (Just OpenParen ∷ Operand ∷ Operators ∷ Just CloseParen ∷ Just OpenBrace ∷ Statements
+    ∷ End ∷ Alternative ∷ [])
 first AfterElse _ = None
 first Locals (AKeyword keyword.Int) = Some (AnyName ∷ Just Semicolon ∷ Locals ∷ [])
 first Locals (AKeyword keyword.Tid) = Some (AnyName ∷ Just Semicolon ∷ Locals ∷ [])
@@ -247,7 +263,9 @@ skips _ = false
 -- what is expected after a word, or None if the word wasn't expected
 abbrev pub step : List Expected → Word → Option (List Expected)
 step [] w = None
-step (x ∷ s) w = elim (first x w) [ Some es ↦ Some (es ++ s) | None ↦ elim (skips x) [ true ↦ step s w | false ↦ None ] ]
+step (x ∷ s) w =
+    elim (first x w)
+    [ Some es ↦ Some (es ++ s) | None ↦ elim (skips x) [ true ↦ step s w | false ↦ None ] ]
 
 -- whether the text may end here
 abbrev pub may_end : List Expected → Bool

@@ -38,20 +38,28 @@ abbrev closed : List Expression → List Part → List Expression
 closed trees [] = trees
 closed trees (p ∷ ps) = closed (close trees p) ps
 
-pub closed-append : (trees : List Expression) (ps qs : List Part) → closed trees (ps ++ qs) ≡ closed (closed trees ps) qs
+pub closed-append : (trees : List Expression) (ps qs : List Part)
+    → closed trees (ps ++ qs) ≡ closed (closed trees ps) qs
 closed-append trees [] qs = refl
 closed-append trees (p ∷ ps) qs = closed-append (close trees p) ps qs
 
 pub closed-parts : (e : Expression) (trees : List Expression) → closed trees (parts e) ≡ e ∷ trees
 closed-parts (Number n) trees = refl
 closed-parts (Variable x) trees = refl
-closed-parts (Element a i) trees = closed-append trees (parts i) _ ∙ ap (λ t. closed t (inr (inl (Some a)) ∷ [])) (closed-parts i trees)
-closed-parts (Paren e) trees = closed-append trees (parts e) _ ∙ ap (λ t. closed t (inr (inl None) ∷ [])) (closed-parts e trees)
-closed-parts (Unary op a) trees = closed-append trees (parts a) _ ∙ ap (λ t. closed t (inr (inr (inl op)) ∷ [])) (closed-parts a trees)
+closed-parts (Element a i) trees =
+    closed-append trees (parts i) _ ∙ ap (λ t. closed t (inr (inl (Some a)) ∷ []))
+    (closed-parts i trees)
+closed-parts (Paren e) trees =
+    closed-append trees (parts e) _ ∙ ap (λ t. closed t (inr (inl None) ∷ []))
+    (closed-parts e trees)
+closed-parts (Unary op a) trees =
+    closed-append trees (parts a) _ ∙ ap (λ t. closed t (inr (inr (inl op)) ∷ []))
+    (closed-parts a trees)
 closed-parts (Binary op a b) trees =
     closed-append trees (parts a ++ parts b) _
     ∙ ap (λ t. closed t (inr (inr (inr op)) ∷ []))
-    (closed-append trees (parts a) (parts b) ∙ ap (λ t. closed t (parts b)) (closed-parts a trees) ∙ closed-parts b (a ∷ trees))
+    (closed-append trees (parts a) (parts b) ∙ ap (λ t. closed t (parts b))
+    (closed-parts a trees) ∙ closed-parts b (a ∷ trees))
 
 abbrev nothing : Expression
 nothing = Number (record { value = pos 0; place = record { line = 0; col = 0 } })
@@ -70,4 +78,5 @@ abbrev pub coded_expression : Coded Expression
 coded_expression =
     code_by (List Part)
     (coded_list (coded⊎ (coded⊎ number.the_row.coded name.the_row.coded)
-    (coded⊎ (coded_option name.the_row.coded) (coded⊎ unary.the_row.coded operator.the_row.coded)))) parts tree tree-parts
+    (coded⊎ (coded_option name.the_row.coded)
+    (coded⊎ unary.the_row.coded operator.the_row.coded)))) parts tree tree-parts

@@ -1,4 +1,4 @@
-use Rattle.bit_words.specs.Words.{AreWithin}
+use Rattle.bit_ops.specs.bit_words.Words.{AreWithin}
 use Rattle.test_circuits.proofs.fresh.Given as goal
 
 abbrev pub invariant-loop-place : goal.invariant-loop-place

@@ -6,10 +6,10 @@ use Rattle.tc_limits.specs.declared.limits.TheConstants.{STEPS}
 use Rattle.tc_code.specs.Code.{Code, instr_at}
 use Rattle.tc_code.specs.declared.instr.Instr.{Instr}
 use Rattle.tc_code.specs.declared.instr.Instr.TheVariants.{Branch, Goto}
-use Rattle.list_laws.specs.Lists.{is_nil}
-use Rattle.path_walk.specs.Events.{excludes}
-use Rattle.path_walk.specs.Marks.{Marks, marks_at_start, marks_after_instr}
-use Rattle.path_walk.specs.Steps.{Onward, onward, is_site, can_block}
+use Rattle.thread_marks.specs.list_laws.Lists.{is_nil}
+use Rattle.thread_marks.specs.path_walk.Events.{excludes}
+use Rattle.thread_marks.specs.path_walk.Marks.{Marks, marks_at_start, marks_after_instr}
+use Rattle.thread_marks.specs.path_walk.Steps.{Onward, onward, is_site, can_block}
 use Rattle.thread_marks.specs.Own.{Own, own_of}
 use Rattle.thread_paths.specs.Ends.{is_exit, is_used}
 use Rattle.thread_paths.specs.Order.{is_from}
@@ -58,11 +58,16 @@ is_last code f aim t i to = if aim.may_fail && is_site i then not (excludes t i 
 -- whether a path may end `n + 1` steps after a place, with these outcomes
 abbrev pub goes : Code → ℕ → Aim → ℕ → Marks → ℕ → List Bool → Bool
 goes code f aim zero t k outcomes =
-    option_map_or (λ i. option_map_or (λ (on : Onward). is_nil on.outcomes && is_last code f aim t i on.place) (onward k i outcomes) false)
+    option_map_or
+    (λ i. option_map_or (λ (on : Onward). is_nil on.outcomes && is_last code f aim t i on.place)
+    (onward k i outcomes) false)
     (instr_at code f k) false
 goes code f aim (suc n) t k outcomes =
     option_map_or
-    (λ i. option_map_or (λ (on : Onward). not (excludes t i false) && goes code f aim n (marks_after_instr t i) on.place on.outcomes) (onward k i outcomes) false)
+    (λ i. option_map_or
+    (λ (on : Onward). not (excludes t i false)
+    && goes code f aim n (marks_after_instr t i) on.place on.outcomes)
+    (onward k i outcomes) false)
     (instr_at code f k) false
 
 -- whether the path of no steps may end this way
@@ -74,7 +79,8 @@ stays code f _ = false
 -- whether a thread may take the path with these outcomes and this number of steps
 abbrev pub takes : Code → Scope → List Bool → ℕ → Bool
 takes code scope outcomes zero = is_nil outcomes && stays code scope.function scope.aim.end
-takes code scope outcomes (suc n) = goes code scope.function scope.aim n (marks_at_start code scope.function) 0 outcomes
+takes code scope outcomes (suc n) =
+    goes code scope.function scope.aim n (marks_at_start code scope.function) 0 outcomes
 
 -- whether the outcomes differ, and the second ones are true where they first do
 abbrev pub leaves_behind : List Bool → List Bool → Bool
@@ -103,7 +109,8 @@ at_after at i outcomes = record {
 }
 
 -- a false is appended to the outcomes, for a branch
-pub record IsPushed (most : ℕ) (i : Instr) (at : At) (before after : List Bool) (to : At) : Type 0 where
+pub record IsPushed (most : ℕ) (i : Instr) (at : At) (before after : List Bool)
+    (to : At) : Type 0 where
   pub is : to ≡ record at { least = 0 }
   pub branch : is_branch i ≡ true
   pub end : length before ≤ at.used
@@ -113,13 +120,16 @@ pub record IsPushed (most : ℕ) (i : Instr) (at : At) (before after : List Bool
 -- a branch has its outcome: given, or a false appended; or there are too many outcomes
 abbrev pub IsOpened : ℕ → Instr → At → List Bool → List Bool → Option At → Type 0
 IsOpened most i at before after (Some to) =
-    ((to ≡ at) × (after ≡ before) × (is_branch i ≡ true → at.used < length before)) ⊎ IsPushed most i at before after to
-IsOpened most i at before after None = (is_branch i ≡ true) × (length before ≤ at.used) × (most ≤ length before) × (after ≡ before)
+    ((to ≡ at) × (after ≡ before) × (is_branch i ≡ true → at.used < length before))
+    ⊎ IsPushed most i at before after to
+IsOpened most i at before after None =
+    (is_branch i ≡ true) × (length before ≤ at.used) × (most ≤ length before) × (after ≡ before)
 
 -- whether a path may end after this instruction
 abbrev pub is_end : Code → Scope → ℕ → Marks → Instr → At → List Bool → Bool
 is_end code scope steps t i to outcomes =
-    to.used == length outcomes && nat_le to.least steps && is_last code scope.function scope.aim t i to.place
+    to.used == length outcomes && nat_le to.least steps
+    && is_last code scope.function scope.aim t i to.place
 
 -- the paths that a descent leaves out
 abbrev pub IsExcused : Scope → Reason → List Bool → ℕ → Type 0
@@ -153,11 +163,14 @@ module _ (code : Code) (scope : Scope) (start : List Bool) (first : ℕ) where
     pub few : length o ≤ scope.most
     pub value : worth scope.most o ≡ worth scope.most start
     pub same : (m : ℕ) (r : List Bool)
-        → goes code scope.function scope.aim (n + m) (marks_at_start code scope.function) 0 (done ++ r)
+        → goes code scope.function scope.aim (n + m) (marks_at_start code scope.function) 0
+        (done ++ r)
         ≡ goes code scope.function scope.aim m marks at.place r
-    pub back : (r : List Bool) (s : ℕ) → is_from rest at.least r s ≡ true → is_from start first (done ++ r) s ≡ true
+    pub back : (r : List Bool) (s : ℕ) → is_from rest at.least r s ≡ true
+        → is_from start first (done ++ r) s ≡ true
     pub behind : (q : List Bool) (s : ℕ) → leaves_behind o q ≡ true → is_from start first q s ≡ true
-    pub left : (q : List Bool) (s : ℕ) → takes code scope q s ≡ true → is_from start first q s ≡ true
+    pub left : (q : List Bool) (s : ℕ) → takes code scope q s ≡ true
+        → is_from start first q s ≡ true
         → (leaves_behind o q ≡ true) ⊎ Passes n done rest at.least q s
 
   -- this path is the first that the thread may take
@@ -166,14 +179,16 @@ module _ (code : Code) (scope : Scope) (start : List Bool) (first : ℕ) where
     pub few : length o ≤ scope.most
     pub short : n ≤ STEPS
     pub within : is_from start first o n ≡ true
-    pub others : (q : List Bool) (s : ℕ) → takes code scope q s ≡ true → is_from start first q s ≡ true → is_from o n q s ≡ true
+    pub others : (q : List Bool) (s : ℕ) → takes code scope q s ≡ true
+        → is_from start first q s ≡ true → is_from o n q s ≡ true
 
   -- the descent found no path: each one to find comes after these outcomes or has an excuse
   pub record IsSpent (o : List Bool) (Excused : List Bool → ℕ → Type 0) : Type 0 where
     pub few : length o ≤ scope.most
     pub value : worth scope.most o ≡ worth scope.most start
     pub behind : (q : List Bool) (s : ℕ) → leaves_behind o q ≡ true → is_from start first q s ≡ true
-    pub others : (q : List Bool) (s : ℕ) → takes code scope q s ≡ true → is_from start first q s ≡ true
+    pub others : (q : List Bool) (s : ℕ) → takes code scope q s ≡ true
+        → is_from start first q s ≡ true
         → (leaves_behind o q ≡ true) ⊎ Excused q s
 
   -- the result of a descent

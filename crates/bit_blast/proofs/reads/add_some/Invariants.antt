@@ -1,5 +1,5 @@
 use Rattle.std.proofs.Common.{◌≡◌, ◌∷◌, map, take}
-use Rattle.bit_words.specs.Words.{AreWithin}
+use Rattle.bit_ops.specs.bit_words.Words.{AreWithin}
 use Rattle.bit_blast.proofs.reads.add_some.Given as goal
 
 abbrev pub invariant-loop-source : goal.invariant-loop-source

@@ -1,7 +1,7 @@
 use Rattle.std.proofs.Common.{◌≡◌, ℕ, ◌+◌, List, ℤ, pos, ap, sym, ◌∙◌, arith, rules, length}
 use Rattle.cnf_core.specs.Clauses.{Formula}
 use Rattle.bit_order.specs.Comparators.{before_literal}
-use Rattle.bit_words.specs.Words.{Walked}
+use Rattle.bit_ops.specs.bit_words.Words.{Walked}
 use Rattle.bit_terms.specs.Terms.{word_at}
 use Rattle.order_formula.specs.Reads.{Read}
 use Rattle.bit_blast.specs.Layered.{parts_of}

@@ -1,6 +1,6 @@
 use Rattle.std.proofs.Common.{◌≡◌, length, take}
 use Rattle.bit_gates.specs.Folded.{IsLarger}
-use Rattle.bit_words.specs.Words.{AreWithin}
+use Rattle.bit_ops.specs.bit_words.Words.{AreWithin}
 use Rattle.bit_blast.specs.Layered.{parts_of}
 use Rattle.bit_blast.specs.Roots.{roots}
 use Rattle.bit_blast.specs.Sizes.{bodies_size}

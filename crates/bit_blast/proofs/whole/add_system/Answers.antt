@@ -1,7 +1,7 @@
 use Rattle.std.proofs.Common.{◌≡◌, ℕ, ap, sym, ◌∙◌, subst, arith, length}
 use Rattle.std.specs.List.{All}
 use Rattle.cnf_core.specs.Clauses.{Formula}
-use Rattle.bit_words.specs.Words.{AreWithin}
+use Rattle.bit_ops.specs.bit_words.Words.{AreWithin}
 use Rattle.bit_order.specs.Comparators.{ordered}
 use Rattle.bit_order.specs.Layouts.{Layout}
 use Rattle.bit_terms.specs.Terms.{Words, term_words}

@@ -7,7 +7,7 @@ use Rattle.path_walk.specs.Fits.{Fits}
 use Rattle.path_walk.specs.Paths.{Paths, paths_of}
 use Rattle.sym_terms.specs.declared.node.Node.{Node}
 use Rattle.sym_exec.specs.Executed.{Symbolic}
-use Rattle.bit_order.specs.Readings.{world_of}
+use Rattle.bit_blast.specs.bit_order.Readings.{world_of}
 use Rattle.bit_blast.specs.Blasted.{Blasted}
 use Rattle.cnf_core.specs.Clauses.{value_in}
 use Rattle.schedule_decode.specs.Decodable.{HaveRoom, IsDecodable}

@@ -1,8 +1,8 @@
 use Rattle.std.proofs.Common.{◌≤◌, ap, length, subst, sym}
 use Rattle.std.proofs.lemmas.Result.{IfOk-weaker}
-use Rattle.tc_limits.specs.declared.limits.TheConstants.{EVENTS}
+use Rattle.schedule_file.specs.tc_limits.declared.limits.TheConstants.{EVENTS}
 use Rattle.path_walk.specs.Paths.{Paths}
-use Rattle.lawful_order.specs.Events.{all_events}
+use Rattle.first_run.specs.lawful_order.Events.{all_events}
 use Rattle.cnf_core.specs.Clauses.{Formula}
 use Rattle.cdcl_core.specs.Solving.{Solves}
 use Rattle.clap_solve.specs.Posed.{Posed}

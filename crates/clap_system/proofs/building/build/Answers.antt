@@ -1,6 +1,6 @@
 use Rattle.std.proofs.Common.{◌≤◌, ◌∙◌, List, ap, subst}
 use Rattle.std.specs.List.{All}
-use Rattle.tc_base.specs.Paths.{ThreadPath}
+use Rattle.run_log.specs.tc_base.Paths.{ThreadPath}
 use Rattle.tc_limits.specs.declared.limits.TheConstants.{STEPS}
 use Rattle.clap_system.specs.Systems.{system_by}
 use Rattle.clap_system.proofs.building.build.Goals as goal

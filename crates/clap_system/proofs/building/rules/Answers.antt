@@ -2,7 +2,7 @@ use Rattle.std.proofs.Common.{◌∙◌, ◌++◌, List, sym, ap, subst}
 use Rattle.std.specs.List.{All}
 use Rattle.order_formula.specs.Orders.{ConjunctIsIn, with_formula}
 use Rattle.order_formula.specs.declared.formula.Conjunct.{Conjunct}
-use Rattle.order_cells.proofs.Stay.{have_later}
+use Rattle.memory_order.proofs.order_cells.Stay.{have_later}
 use Rattle.clap_system.proofs.Built.{asked_is, ok_weaker, rules_are}
 use Rattle.clap_system.proofs.Ready.{tests_in}
 use Rattle.clap_system.proofs.building.rules.Goals as goal

@@ -1,7 +1,7 @@
 use Rattle.std.proofs.Common.{◌≡◌, ◌≤◌, ◌∙◌, length, map, Some, refl, sym, ap, subst, arith}
 use Rattle.std.specs.Prelude.{nat_lt}
 use Rattle.std.proofs.lemmas.Bool.{ltb-true}
-use Rattle.tc_base.specs.Paths.{ThreadPath}
+use Rattle.run_log.specs.tc_base.Paths.{ThreadPath}
 use Rattle.tc_limits.specs.declared.limits.TheConstants.{DEPTH, THREADS}
 use Rattle.clap_system.specs.Faults.{IsBuildFault, first_deep}
 use Rattle.clap_system.proofs.Deep.{found_passes}

@@ -1,6 +1,6 @@
 use Rattle.std.proofs.Common.{◌∙◌, ◌≤◌, ℕ, List, Option, ap, subst, sym}
 use Rattle.order_switches.specs.Switches.{switches}
-use Rattle.switch_runs.specs.Worlds.{threads_of}
+use Rattle.switch_clauses.specs.switch_runs.Worlds.{threads_of}
 use Rattle.least_switch.proofs.Few.{few}
 use Rattle.least_switch.proofs.events.count.Goals as goal
 

@@ -1,6 +1,6 @@
 use Rattle.std.proofs.Common.{refl}
-use Rattle.run_history.specs.History.{Did}
-use Rattle.path_walk.specs.Paths.{paths_of}
+use Rattle.sym_steps.specs.run_history.History.{Did}
+use Rattle.condition_order.specs.path_walk.Paths.{paths_of}
 use Rattle.world_plan.specs.Plan.{other_of}
 use Rattle.plan_runs.proofs.of_waits.Asleep.{event_until, step_until, drain_until, drained_until}
 use Rattle.plan_runs.proofs.waits.sleeps_go_on.Goals as goal

@@ -1,6 +1,6 @@
 use Rattle.std.proofs.Common.{◌∙◌, ◌↔◌, Bool, List, ap, subst}
 use Rattle.std.specs.List.{Contains}
-use Rattle.cnf_core.specs.Clauses.{Formula}
+use Rattle.refute_check.specs.cnf_core.Clauses.{Formula}
 use Rattle.order_formula.specs.declared.group.Group.{Group}
 use Rattle.refute_core.specs.Reached.{AreReached}
 use Rattle.reached_groups.specs.helpers.Marked.{marked_from}

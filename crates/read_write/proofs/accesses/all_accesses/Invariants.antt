@@ -1,5 +1,5 @@
 use Rattle.std.proofs.Common.{◌≡◌, take}
-use Rattle.lawful_order.specs.Events.{all_from}
+use Rattle.order_cells.specs.lawful_order.Events.{all_from}
 use Rattle.read_write.proofs.accesses.all_accesses.Given as goal
 
 abbrev pub invariant-loop-thread : goal.invariant-loop-thread

@@ -1,6 +1,6 @@
 use Rattle.std.proofs.Common.{sym, ap}
 use Rattle.order_formula.specs.declared.formula.Conjunct.{Conjunct}
-use Rattle.lawful_order.specs.Events.{all_events}
+use Rattle.order_cells.specs.lawful_order.Events.{all_events}
 use Rattle.read_write.specs.Reading.{line_in}
 use Rattle.read_write.proofs.Formulas.{load_from}
 use Rattle.read_write.proofs.laws.reads_have_their_group.Goals as goal

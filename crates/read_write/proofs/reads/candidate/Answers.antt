@@ -5,7 +5,7 @@ use Rattle.sym_terms.specs.Terms.{id_of, with_node}
 use Rattle.sym_terms.specs.declared.node.Node.{Node}
 use Rattle.sym_exec.specs.Making.{Grows}
 use Rattle.sym_exec.specs.declared.symbolic.Access.{Access}
-use Rattle.lawful_order.specs.Events.{Of}
+use Rattle.order_cells.specs.lawful_order.Events.{Of}
 use Rattle.order_cells.specs.Same.{same_test}
 use Rattle.order_events.specs.Parts.{number_in}
 use Rattle.read_write.specs.Reading.{may_be_seen}

@@ -3,7 +3,7 @@ use Rattle.std.specs.Option.{option_to_list}
 use Rattle.std.proofs.lemmas.List.{append-nil}
 use Rattle.sym_exec.specs.declared.symbolic.Access.{Access}
 use Rattle.sym_exec.proofs.Grown.{grows_both}
-use Rattle.lawful_order.specs.Events.{Of}
+use Rattle.order_cells.specs.lawful_order.Events.{Of}
 use Rattle.order_cells.specs.Terms.{AccessIsOf}
 use Rattle.read_write.specs.Reading.{candidate_of, test_of}
 use Rattle.read_write.proofs.Stays.{test_of_stays}

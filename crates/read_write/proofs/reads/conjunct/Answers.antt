@@ -15,8 +15,8 @@ use Rattle.order_formula.specs.Reads as plain
 use Rattle.order_formula.specs.declared.formula.Body.TheVariants as body
 use Rattle.order_formula.specs.declared.formula.Conjunct.{Conjunct}
 use Rattle.order_formula.specs.declared.group.Group.TheVariants as group
-use Rattle.lawful_order.specs.Cells.{value_at_start}
-use Rattle.lawful_order.specs.Events.{Of}
+use Rattle.order_cells.specs.lawful_order.Cells.{value_at_start}
+use Rattle.order_cells.specs.lawful_order.Events.{Of}
 use Rattle.order_cells.specs.Terms.{AccessIsOf}
 use Rattle.order_events.specs.Parts.{number_in}
 use Rattle.read_write.proofs.Steps.{conjunct_from, named, needs_made}

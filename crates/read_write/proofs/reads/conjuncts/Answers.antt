@@ -12,7 +12,7 @@ use Rattle.sym_exec.specs.Making.{Grows}
 use Rattle.sym_exec.specs.declared.symbolic.Access.{Access}
 use Rattle.sym_exec.proofs.Grown.{grows_both, grows_none}
 use Rattle.order_formula.specs.declared.formula.Conjunct.{Conjunct}
-use Rattle.lawful_order.specs.Events.{Of}
+use Rattle.order_cells.specs.lawful_order.Events.{Of}
 use Rattle.order_cells.specs.Terms.{AccessIsOf}
 use Rattle.read_write.specs.Reading.{conjunct_of, needs_of}
 use Rattle.read_write.proofs.Stays.{needs_of_stay}

@@ -10,7 +10,7 @@ use Rattle.sym_exec.proofs.Grown.{grows_none}
 use Rattle.sym_exec.specs.declared.symbolic.Access.{Access}
 use Rattle.order_formula.specs.Orders.{ConjunctIsIn, with_formula}
 use Rattle.order_formula.specs.declared.formula.Conjunct.{Conjunct}
-use Rattle.lawful_order.specs.Events.{Of, all_events}
+use Rattle.order_cells.specs.lawful_order.Events.{Of, all_events}
 use Rattle.order_cells.specs.Terms.{AccessIsOf}
 use Rattle.order_events.proofs.Parts.{each_in}
 use Rattle.read_write.specs.Accesses.{all_accesses}

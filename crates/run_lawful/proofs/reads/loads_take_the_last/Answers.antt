@@ -1,6 +1,6 @@
-use Rattle.path_walk.specs.Paths.{paths_of}
-use Rattle.run_history.specs.History.{history}
-use Rattle.sym_laws.specs.Valued.{found}
+use Rattle.sym_events.specs.path_walk.Paths.{paths_of}
+use Rattle.sym_steps.specs.run_history.History.{history}
+use Rattle.sym_steps.specs.sym_laws.Valued.{found}
 use Rattle.run_lawful.specs.world.WorldOf.{world_in}
 use Rattle.run_lawful.proofs.of_world.Loads.{agrees}
 use Rattle.run_lawful.proofs.of_world.Ordered.{is_order}

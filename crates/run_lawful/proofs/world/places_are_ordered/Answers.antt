@@ -1,6 +1,6 @@
 use Rattle.run_lawful.proofs.of_world.Ordered.{is_order}
 use Rattle.run_lawful.proofs.of_world.Run.{done, paths, seen}
-use Rattle.sym_laws.specs.Valued.{found}
+use Rattle.sym_steps.specs.sym_laws.Valued.{found}
 use Rattle.run_lawful.proofs.world.places_are_ordered.Goals as goal
 
 pub returns : goal.returns

@@ -1,4 +1,4 @@
-use Rattle.path_laws.proofs.of_events.Lists.{in_contains, contains_in}
+use Rattle.sym_laws.proofs.path_laws.of_events.Lists.{in_contains, contains_in}
 use Rattle.sym_steps.proofs.of_accesses.Asked.{access_asked, asked_access}
 use Rattle.sym_steps.proofs.accesses.accesses_are_asked.Goals as goal
 

@@ -3,8 +3,8 @@ use Rattle.std.proofs.lemmas.Bool.{ne_eqb, false_from_ne_true}
 use Rattle.std.proofs.lemmas.Bool.Decides.{Decides-eqb, same_from_decides}
 use Rattle.std.proofs.lemmas.List.{append_cancel_right, same_from_push}
 use Rattle.std.proofs.lemmas.Slice.Eq.{slice_eq-Decides}
-use Rattle.tc_base.specs.Names.{child}
-use Rattle.tc_base.proofs.Names.{same_true, same_refl}
+use Rattle.path_walk.specs.tc_base.Names.{child}
+use Rattle.path_walk.proofs.tc_base.Names.{same_true, same_refl}
 use Rattle.sync_order.proofs.children.is_child.Goals as goal
 
 pub returns-then-last-number : goal.returns-then-last-number

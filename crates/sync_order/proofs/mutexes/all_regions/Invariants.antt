@@ -1,5 +1,5 @@
 use Rattle.std.proofs.Common.{◌≡◌, take}
-use Rattle.lawful_order.specs.Events.{all_from}
+use Rattle.order_events.specs.lawful_order.Events.{all_from}
 use Rattle.sync_order.proofs.mutexes.all_regions.Given as goal
 
 abbrev pub invariant-loop-thread : goal.invariant-loop-thread

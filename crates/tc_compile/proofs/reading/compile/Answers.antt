@@ -1,6 +1,6 @@
 use Rattle.std.proofs.Common.{◌≤◌, length, arith}
-use Rattle.tc_tree.specs.Grammar.{program_words}
-use Rattle.tc_tree.specs.Seen.{program_of}
+use Rattle.tc_parser.specs.tc_tree.Grammar.{program_words}
+use Rattle.tc_parser.specs.tc_tree.Seen.{program_of}
 use Rattle.tc_parser.proofs.Programs.{few_words}
 use Rattle.tc_parser.proofs.Words.{has_ints}
 use Rattle.tc_compile.specs.Programs.{language}

@@ -1,6 +1,6 @@
 use Rattle.std.proofs.Common.{subst, sym}
 use Rattle.tc_machine.specs.helpers.CanDo.{AsksIn}
-use Rattle.run_laws.proofs.Asks.{asked_is_there}
+use Rattle.tc_threads.proofs.run_laws.Asks.{asked_is_there}
 use Rattle.tc_machine.proofs.Can.{can_ask}
 use Rattle.tc_machine.proofs.machine.may_run.Goals as goal
 

@@ -1,7 +1,7 @@
 use Rattle.std.proofs.Common.{subst}
 use Rattle.tc_code.specs.Step.{request}
 use Rattle.tc_machine.specs.helpers.CanDo.{AsksIn}
-use Rattle.run_laws.proofs.Asks.{asked_is_there}
+use Rattle.tc_threads.proofs.run_laws.Asks.{asked_is_there}
 use Rattle.tc_machine.proofs.machine.may_wake.Goals as goal
 
 pub waiting_on-requires : goal.waiting_on-requires

@@ -3,7 +3,7 @@ use Rattle.tc_code.specs.Code.{Code}
 use Rattle.tc_code.specs.Step.{request}
 use Rattle.tc_threads.specs.CanDo.{CanDo}
 use Rattle.tc_machine.specs.helpers.CanDo.{AsksIn}
-use Rattle.run_laws.proofs.Asks.{asked_is_there}
+use Rattle.tc_threads.proofs.run_laws.Asks.{asked_is_there}
 use Rattle.tc_machine.proofs.Can.{can_do}
 use Rattle.tc_machine.proofs.machine.wake.Goals as goal
 

@@ -3,7 +3,7 @@ use Rattle.std.specs.Prelude.{IsTrue}
 use Rattle.rand_core.specs.Steps.{stream_of}
 use Rattle.rand_xoshiro.specs.SplitMix64.{splitmix_steps}
 use Rattle.path_log.specs.Texts.{is_of_format}
-use Rattle.path_walk.specs.Fits.{Fits}
+use Rattle.path_laws.specs.path_walk.Fits.{Fits}
 use Rattle.path_laws.proofs.Logs.{reproduced_fits}
 use Rattle.tc_code.specs.Run.{Reproduces, run}
 use Rattle.tc_record.specs.Logged.{is_small}

@@ -1,6 +1,6 @@
 use Rattle.std.proofs.Common.{sym, subst, IsTrue}
 use Rattle.path_log.specs.Texts.{is_of_format}
-use Rattle.path_walk.specs.Fits.{Fits}
+use Rattle.path_laws.specs.path_walk.Fits.{Fits}
 use Rattle.tc_code.specs.Run.{Reproduces}
 use Rattle.tc_record.specs.Logged.{is_small}
 use Rattle.tc_record.specs.Seeded.{seeded_run, IsAnswer, IfLogged}

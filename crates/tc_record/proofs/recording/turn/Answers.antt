@@ -2,7 +2,7 @@ use Rattle.std.proofs.Common.{◌≡◌, ◌∙◌, Some, sym, subst}
 use Rattle.tc_code.proofs.Facts.{run_from-step}
 use Rattle.tc_code.specs.Run.{run}
 use Rattle.tc_code.specs.Step.{opening}
-use Rattle.run_laws.proofs.Counts.{counters_below_last}
+use Rattle.tc_machine.proofs.run_laws.Counts.{counters_below_last}
 use Rattle.tc_record.specs.declared.end.End.{End}
 use Rattle.tc_record.specs.helpers.Turns.{IsTurn}
 use Rattle.tc_record.proofs.Runs.{chosen_is_enabled, turn_without_moves, turn_with_move}

@@ -10,7 +10,7 @@ use Rattle.order_formula.specs.declared.literal.Atom.TheVariants.{Before, Ends, 
 use Rattle.order_formula.specs.declared.literal.Literal.{Literal}
 use Rattle.order_formula.specs.Formulas.{LiteralIsOf, BodyIsOf, ConjunctIsOf}
 use Rattle.order_formula.specs.Orders.{Order, LiteralIsIn, BodyIsIn, ConjunctIsIn, order_without_questions}
-use Rattle.bit_terms.specs.Sizes.{terms_size}
+use Rattle.bit_blast.specs.bit_terms.Sizes.{terms_size}
 use Rattle.bit_blast.specs.Sizes.{atom_size, literal_size, case_size, body_size, size_of}
 use Rattle.bit_blast.proofs.Completed.{same_size}
 use Rattle.test_circuits.proofs.orders.clauses.Goals as goal

@@ -3,7 +3,7 @@ use Rattle.std.proofs.lemmas.List.{take_more, length-take}
 use Rattle.tc_code.specs.Run.{run}
 use Rattle.tc_code.specs.Step.{opening}
 use Rattle.tc_code.proofs.Facts.{run_from-step}
-use Rattle.run_laws.proofs.Counts.{counters_below_last}
+use Rattle.sym_exec.proofs.run_laws.Counts.{counters_below_last}
 use Rattle.test_parts.proofs.machine.play.Goals as goal
 
 pub step-requires-clause-counters : goal.step-requires-clause-counters

@@ -1,6 +1,6 @@
 use Rattle.std.proofs.Common.{◌≡◌, ◌∙◌, Bool, ap, subst, sym}
 use Rattle.std.proofs.lemmas.Result.{err_from_is_err_and}
-use Rattle.cnf_core.specs.Clauses.{Formula}
+use Rattle.refute_check.specs.cnf_core.Clauses.{Formula}
 use Rattle.refute_check.specs.Refutations.{check}
 use Rattle.refute_check.specs.declared.verdict.CheckFault.{CheckFault}
 use Rattle.clap_solve.specs.Posed.{Posed, posed_of}

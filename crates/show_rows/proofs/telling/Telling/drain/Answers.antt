@@ -1,6 +1,6 @@
 use Rattle.std.proofs.Common.{◌≡◌, ◌∙◌, [], ◌∷◌, Some, sym, ap}
 use Rattle.std.proofs.lemmas.Result.{IfOk-weaker}
-use Rattle.run_history.specs.History.{deed_of}
+use Rattle.show_deeds.specs.run_history.History.{deed_of}
 use Rattle.tc_base.specs.declared.moves.Move.TheVariants as move
 use Rattle.show_deeds.specs.Deeds.{plain_deed}
 use Rattle.show_deeds.specs.declared.deed.Deed.TheVariants as deed

@@ -1,5 +1,5 @@
 use Rattle.std.proofs.Common.{◌∙◌, ◌+◌, refl, ap, sym, true, false}
-use Rattle.tc_base.specs.declared.handle.Handle.TheVariants.{Child, Joined}
+use Rattle.path_walk.specs.tc_base.declared.handle.Handle.TheVariants.{Child, Joined}
 use Rattle.tc_code.specs.Step.{child_number}
 use Rattle.path_walk.specs.Marks.{handle_in, marks_after_instr}
 use Rattle.thread_marks.specs.Own.{own_of}

@@ -1,0 +1,3 @@
+pub mod Excluded
+pub mod Known
+pub mod ByStatus

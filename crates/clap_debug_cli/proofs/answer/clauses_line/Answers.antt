@@ -1,4 +1,0 @@
-use Rattle.clap_debug_cli.proofs.answer.clauses_line.Goals as goal
-
-pub returns : goal.returns
-returns c = rw (c.vars.ensures.vars, c.len.ensures.len) at c.count_line.ensures

@@ -1,0 +1,43 @@
+-- From the clauses of a log to their meaning.
+use Rattle.std.proofs.Common.{sym, subst, ℕ, List, Option}
+use Rattle.std.specs.Prelude.{◌↔◌}
+use Rattle.clap_solve.proofs.Meaning.{run_is_said, said_is_run}
+use Rattle.clap_solve.specs.Clauses.{bound_of}
+use Rattle.memory_models.specs.declared.model.Model.{Model}
+use Rattle.memory_models.specs.declared.model.Model.TheVariants.{Sc, Tso, Pso}
+use Rattle.store_buffers.specs.Buffers.{buffer_of}
+use Rattle.store_buffers.specs.Laws.{Laws}
+use Rattle.store_buffers.specs.helpers.Partial.{pso_laws}
+use Rattle.store_buffers.specs.helpers.Sequential.{sc_laws}
+use Rattle.store_buffers.specs.helpers.Total.{tso_laws}
+use Rattle.run_log.specs.tc_base.declared.moves.Move.{Move}
+use Rattle.tc_code.specs.Code.{Code}
+use Rattle.tc_code.specs.Lawful.{IsLawful}
+use Rattle.command_inputs.specs.tc_compile.Programs.{IsCodeOf, language}
+use Rattle.command_inputs.proofs.tc_lower.Ints.{program_ints}
+use Rattle.command_inputs.proofs.tc_lower.Programs.{program_is_lawful}
+use Rattle.command_inputs.proofs.tc_parser.Words.{has_ints}
+use Rattle.log_tasks.specs.Tasks.{Reproduces, Task, clauses_of, model_of}
+use Rattle.cnf_command.specs.Answers.{IsSatisfiable}
+
+-- the code of a program is lawful
+code_is_lawful : (program : List ℕ) (code : Code) → IsCodeOf program code → IsLawful code
+code_is_lawful program code f =
+    subst IsLawful (sym f.lowers) (program_is_lawful program f.program f.is.cells (program_ints f.program (has_ints language program f.program f.is)))
+
+-- each memory model obeys its laws
+model_laws : (m : Model) → Laws (buffer_of m) m (bound_of m)
+model_laws Sc = sc_laws
+model_laws Tso = tso_laws
+model_laws Pso = pso_laws
+
+-- the clauses of a log can be satisfied exactly if some moves reproduce the log
+pub are_runs : {program log : List ℕ} (asked : Option Model) (t : Task program log)
+    → IsSatisfiable (clauses_of asked t.pair) ↔ ((moves : List Move) × Reproduces asked t.pair moves)
+are_runs {program} {log} asked t =
+    let m = model_of asked t.pair in
+    let lawful = code_is_lawful program t.pair.code t.pair.programs in
+    let is = t.pair.logs.has_text.is_log in (
+      λ v. said_is_run (buffer_of m) m (bound_of m) t.pair.code t.pair.run.log (model_laws m) lawful is t.within v.0 v.1,
+      λ r. run_is_said (buffer_of m) m (bound_of m) t.pair.code t.pair.run.log (model_laws m) lawful is t.within r.0 r.1,
+    )

@@ -1,0 +1,8 @@
+pub mod Same
+pub mod Through
+pub mod Below
+pub mod Many
+pub mod Tried
+pub mod Runs
+pub mod Rounds
+pub mod Steps

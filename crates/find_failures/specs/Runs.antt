@@ -1,0 +1,70 @@
+-- The runs that a search looks for.
+use Rattle.std.specs.Prelude.{◌≡◌, ℕ, ◌<◌, true, List, Some, IsSome}
+use Rattle.memory_models.specs.declared.model.Model.{Model}
+use Rattle.tc_base.specs.Buffers.{BufferOps}
+use Rattle.tc_base.specs.Paths.{ThreadPath}
+use Rattle.tc_base.specs.States.{State}
+use Rattle.tc_base.specs.declared.failing.Failing.TheVariants as failing
+use Rattle.tc_base.specs.declared.moves.Move.{Move}
+use Rattle.run_log.specs.Logs.{Log, failing_of}
+use Rattle.tc_code.specs.Code.{Code}
+use Rattle.tc_code.specs.Run.{run, IsStuck, Reproduces}
+use Rattle.log_walk.specs.Given.{IsOne}
+use Rattle.log_walk.specs.Order.{are_to_come}
+use Rattle.log_walk.specs.declared.bounds.Kind.{Kind}
+use Rattle.log_walk.specs.declared.bounds.Kind.TheVariants.{Failure, Deadlock}
+use Rattle.walked_logs.specs.normal_logs.Within.{at_most, ComesTo}
+use Rattle.clap_solve.specs.Solved.{IsImpossible}
+
+-- a log says that its run ends this way
+abbrev pub Records : Kind → Log → Type 0
+Records Failure log = IsSome (failing_of log)
+Records Deadlock log = log.failing ≡ failing.Deadlock
+
+-- the threads of a log of this kind make up a log, each with at most `most` outcomes
+pub record IsNeeded (model : Model) (code : Code) (kind : Kind) (most : ℕ)
+    (log : Log) : Type 0 where
+  pub under : log.model ≡ model
+  pub records : Records kind log
+  pub is_one : IsOne code (record { kind = kind; most = most }) log.threads
+
+module _ {B : Type 0} (ops : BufferOps B) (code : Code) where
+  -- a run that ends in this state ends this way
+  abbrev pub EndsIn : Kind → State B → Type 0
+  EndsIn Failure s = IsSome s.failed
+  EndsIn Deadlock s = IsStuck ops code s
+
+  -- no run ends this way
+  abbrev pub NoneEnds : Kind → Type 0
+  NoneEnds kind =
+      (moves : List Move) (s : State B) → run ops code moves ≡ Some s → EndsIn kind s → ⊥
+
+  -- no run in which each thread has at most `most` outcomes ends this way
+  abbrev pub NoneEndsWithin : Kind → ℕ → Type 0
+  NoneEndsWithin kind most = ComesTo ops code (at_most most) (EndsIn kind) → ⊥
+
+  -- some moves reproduce the log
+  abbrev pub IsPossible : Log → Type 0
+  IsPossible log = (moves : List Move) × Reproduces ops code log moves
+
+module _ {B : Type 0} (ops : BufferOps B) (model : Model) (code : Code) (kind : Kind) where
+  -- no moves reproduce a log of these threads
+  abbrev pub AreImpossible : List ThreadPath → Type 0
+  AreImpossible ts =
+      (log : Log) → log.model ≡ model → log.threads ≡ ts → Records kind log
+      → IsImpossible ops code log
+
+  -- no log in which each thread has fewer outcomes than `most` is possible
+  abbrev pub NoneBelow : ℕ → Type 0
+  NoneBelow most =
+      (less : ℕ) (ts : List ThreadPath) → less < most
+      → IsOne code (record { kind = kind; most = less }) ts → AreImpossible ts
+
+  -- no log before the one of these threads is possible: none with fewer outcomes than its greatest
+  -- number, and none without more whose paths come first
+  pub record NoneBefore (ts : List ThreadPath) : Type 0 where
+    pub most : ℕ
+    pub within : IsOne code (record { kind = kind; most = most }) ts
+    pub fewer : NoneBelow most
+    pub first : (us : List ThreadPath) → IsOne code (record { kind = kind; most = most }) us
+        → are_to_come (Some us) ts ≡ true → AreImpossible us

@@ -1,0 +1,82 @@
+//! The search: with more and more outcomes, up to the bound, or until none are left out.
+ghost use Rattle.std.specs.Prelude.{◌≡◌, ◌≤◌, IfOk};
+ghost use Rattle.tc_code.specs.tc_limits.declared.limits.TheConstants.{BUDGET};
+ghost use Rattle.find_failures.specs.Found.{IsFound};
+ghost use Rattle.find_failures.specs.helpers.Gone.{AreGone, IsEnded, after_all, is_last};
+
+use crate::asked::Asked;
+use crate::found::{Found, Reach};
+use crate::gone::Gone;
+use crate::round::{Ended, round};
+use log_walk::LeftOut;
+use std::alloc::{AllocError, Global};
+use store_buffers::MemoryModel;
+use tc_code::Code;
+
+/// Goes through the logs with more and more outcomes.
+fn levels<M: MemoryModel>(
+    alloc: Global,
+    code: &Code,
+    asked: Asked,
+    gone: &mut Gone,
+) -> Result<Ended, AllocError>
+    requires some { 1 ≤ asked.budget }
+    requires room { asked.budget ≤ BUDGET }
+    requires gone { AreGone M.ops M.MODEL M.bound code.now asked gone.old }
+    ensures { IfOk result (IsEnded M.ops M.MODEL M.bound code.now asked asked.outcomes gone.new) }
+{
+    let mut level = 0;
+    'levels: loop {
+        let ended = round::<M>(alloc, code, asked, level, gone)?;
+        if is_last(asked, level, &ended) {
+            return Ok(ended);
+        }
+        level += 1;
+    }
+}
+
+/// Whether more outcomes aren't asked for, or lead to no more logs.
+fn is_last(asked: Asked, level: u16, ended: &Ended) -> bool
+    ensures { result ≡ is_last asked level ended.now }
+{
+    match ended {
+        Ended::Done(out) => level == asked.outcomes || !out.outcomes,
+        _ => true,
+    }
+}
+
+/// The answer after all logs.
+fn after_all(gone: Gone, out: LeftOut) -> Found
+    ensures { result ≡ after_all gone out }
+{
+    let Gone { refuted, unknown } = gone;
+    if let Some(unknown) = unknown {
+        return Found::Unknown(unknown);
+    }
+    if out.steps || out.depth || out.threads {
+        return Found::LeftOut(out);
+    }
+    let reach = if out.outcomes {
+        Reach::Bounded
+    } else {
+        Reach::Every
+    };
+    Found::Never(reach, refuted)
+}
+
+/// Searches for a log that some moves of the machine under a memory model reproduce.
+pub fn find<M: MemoryModel>(alloc: Global, code: &Code, asked: Asked) -> Result<Found, AllocError>
+    requires some { 1 ≤ asked.budget }
+    requires room { asked.budget ≤ BUDGET }
+    ensures { IfOk result (IsFound M.ops M.bound code.now M.MODEL asked) }
+{
+    // Lawful code.
+    let _functions = code.functions();
+    let mut gone = Gone::new(alloc);
+    let ended = levels::<M>(alloc, code, asked, &mut gone);
+    match ended? {
+        Ended::Possible(log) => Ok(Found::Possible(log)),
+        Ended::TooMany => Ok(Found::TooMany),
+        Ended::Done(out) => Ok(after_all(gone, out)),
+    }
+}

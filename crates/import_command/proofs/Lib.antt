@@ -1,0 +1,2 @@
+pub mod Untaken
+pub mod Answered

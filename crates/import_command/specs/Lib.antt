@@ -1,0 +1,5 @@
+pub mod Calls
+pub mod Lines
+pub mod Meanings
+pub mod Answers
+pub mod helpers

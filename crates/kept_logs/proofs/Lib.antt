@@ -1,0 +1,2 @@
+pub use Rattle.path_log.proofs as path_log
+pub mod Digests

@@ -1,0 +1,11 @@
+use Rattle.std.proofs.Common.{subst₂}
+use Rattle.log_tasks.specs.Tasks.{Task}
+use Rattle.least_command.specs.Meanings.{IsSolution}
+use Rattle.least_command.specs.helpers.Asked.{plain_least}
+use Rattle.least_command.proofs.command.LeastWork.work.Goals as goal
+
+pub returns-in-Ok : goal.returns-in-Ok
+returns-in-Ok c =
+    let call = plain_least c.args.self.now in
+    subst₂ (λ program log. (t : Task program log) × IsSolution call t c.in-Ok.solution) c.deref.ensures.value c.deref-2.ensures.value
+    c.in-Ok.ensures.solution

@@ -1,0 +1,45 @@
+-- What `migrate` means.
+use Rattle.std.specs.Prelude.{ℕ, List, [], ◌∷◌, Result, Ok, Err, codes}
+use Rattle.command_ends.specs.Outcomes.{Report, command_of}
+use Rattle.command_frame.specs.Inputs.{Texts, Wanted, Whole}
+use Rattle.command_frame.specs.Keeps.{Keep}
+use Rattle.command_frame.specs.Meaning.{Meaning}
+use Rattle.command_frame.specs.declared.status.Status.TheVariants.{Done}
+use Rattle.command_inputs.specs.Limits.{log_limit, program_limit}
+use Rattle.command_inputs.specs.declared.refusal.Refusal.{Refusal}
+use Rattle.migrate_command.specs.Migrated.{IsMigrated, IsUnmigrated}
+use Rattle.migrate_command.specs.declared.migrate.Migration.{Migration}
+
+-- `migrate PROGRAM LOG OUT`: the names of its files
+pub record Migrate : Type 0 where
+  pub program : List ℕ
+  pub log : List ℕ
+  pub out : List ℕ
+
+abbrev pub inputs_of : Migrate → List Wanted
+inputs_of call = Whole program_limit call.program ∷ Whole log_limit call.log ∷ []
+
+-- what comes of the bytes of the files: the text of the migrated log, or why there is none
+abbrev pub ComesTo : Texts → Result Migration Refusal → Type 0
+ComesTo (program ∷ log ∷ []) (Ok x) = IsMigrated program log x.text.items
+ComesTo (program ∷ log ∷ []) (Err r) = IsUnmigrated program log r
+ComesTo _ outcome = ⊥
+
+-- what is kept: that text
+abbrev pub keeps_of : Migrate → Migration → List Keep
+keeps_of call x = record { name = call.out; bytes = x.text.items } ∷ []
+
+abbrev pub migrated_line : List ℕ
+migrated_line = codes "migrated\n"
+
+-- what is done with a migrated log
+abbrev pub report_of : Migrate → Report Migration
+report_of call = record {
+  keeps_of = keeps_of call;
+  line_of = λ _. migrated_line;
+  status_of = λ _. Done;
+}
+
+-- `migrate`
+abbrev pub migrate_of : Migrate → Meaning (Result Migration Refusal)
+migrate_of call = command_of (inputs_of call) ComesTo (report_of call)

@@ -1,0 +1,4 @@
+pub use Rattle.command_ends.proofs as command_ends
+pub use Rattle.switch_clauses.proofs as switch_clauses
+pub mod Verdicts
+pub mod Judged

@@ -1,0 +1,3 @@
+pub mod PlainTexts
+pub mod Explaining
+pub mod ByStatus

@@ -1,0 +1,4 @@
+pub mod Causes
+pub mod Meanings
+pub mod Answers
+pub mod helpers

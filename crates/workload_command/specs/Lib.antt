@@ -1,0 +1,5 @@
+pub mod Works
+pub mod Lines
+pub mod Meanings
+pub mod Answers
+pub mod helpers
