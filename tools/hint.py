@@ -94,6 +94,14 @@ PROGRAMS = {
                      "map": Option("the map that tools/fromc --map kept with the program; with --source")},
                     writes=("html",), optional=("SCHEDULE or LOG",)),
     },
+    "clap_debug_find": {
+        "": Command("looks for a failure of a program without running it, and keeps the log of one, or says that no run fails",
+                    ("PROGRAM",), ("OUT",), model("tso") | {
+                        "deadlock": Option("looks for a deadlock", is_flag=True),
+                        "outcomes": Option("the most outcomes of branches in each thread", range=(0, 65_535), default="12"),
+                        "logs": Option("the most logs that are gone through", range=(1, 2**32 - 1), default="10000"),
+                        "budget": BUDGET}),
+    },
 }
 KINDS = {b"CLPL": "a log", b"clap-schedule ": "a schedule", b"clap-refutation ": "a refutation", b"p cnf ": "a list of clauses"}
 WANTED = {"PROGRAM": "a program", "LOG": "a log", "SCHEDULE": "a schedule", "REFUTATION": "a refutation", "ANSWER": "a solver's answer",

@@ -1,3 +1,4 @@
+pub use Rattle.walked_logs.proofs as walked_logs
 pub mod Same
 pub mod Through
 pub mod Below

@@ -17,7 +17,8 @@ use Rattle.find_failures.specs.Runs.{AreImpossible, NoneBelow, NoneBefore}
 use Rattle.find_failures.specs.declared.asked.Asked.{Asked}
 use Rattle.find_failures.specs.declared.gone.Gone.{Gone}
 use Rattle.find_failures.specs.declared.round.Ended.TheVariants.{Done}
-use Rattle.find_failures.specs.helpers.Gone.{both, AreGone, AreReached, AreSettled, IsEnded, IsTried}
+use Rattle.find_failures.specs.LeftOut.{both}
+use Rattle.find_failures.specs.helpers.Gone.{AreGone, AreReached, AreSettled, IsEnded, IsTried}
 use Rattle.find_failures.proofs.Below.{one_is_in}
 use Rattle.find_failures.proofs.Through.{IsThrough, go_on, at_end}
 

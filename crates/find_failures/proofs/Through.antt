@@ -12,7 +12,7 @@ use Rattle.log_walk.specs.helpers.Searches.{IsKept}
 use Rattle.log_walk.specs.declared.bounds.Bounds.{Bounds}
 use Rattle.log_walk.specs.declared.bounds.LeftOut.{LeftOut}
 use Rattle.log_walk.proofs.Finds.{kept_out}
-use Rattle.find_failures.specs.helpers.Gone.{both}
+use Rattle.find_failures.specs.LeftOut.{both}
 use Rattle.find_failures.proofs.Same.{same_threads}
 
 not_false : (b : Bool) → not b ≡ false → b ≡ true

@@ -1,9 +1,11 @@
 -- The runs that a search looks for.
-use Rattle.std.specs.Prelude.{◌≡◌, ℕ, ◌<◌, true, List, Some, IsSome}
+use Rattle.std.specs.Prelude.{◌≡◌, ℕ, ◌<◌, true, List, length, Some, IsSome}
+use Rattle.std.specs.FinMap as fin
 use Rattle.memory_models.specs.declared.model.Model.{Model}
 use Rattle.tc_base.specs.Buffers.{BufferOps}
+use Rattle.tc_base.specs.Names.{Name}
 use Rattle.tc_base.specs.Paths.{ThreadPath}
-use Rattle.tc_base.specs.States.{State}
+use Rattle.tc_base.specs.States.{Thread, State}
 use Rattle.tc_base.specs.declared.failing.Failing.TheVariants as failing
 use Rattle.tc_base.specs.declared.moves.Move.{Move}
 use Rattle.run_log.specs.Logs.{Log, failing_of}
@@ -13,7 +15,6 @@ use Rattle.log_walk.specs.Given.{IsOne}
 use Rattle.log_walk.specs.Order.{are_to_come}
 use Rattle.log_walk.specs.declared.bounds.Kind.{Kind}
 use Rattle.log_walk.specs.declared.bounds.Kind.TheVariants.{Failure, Deadlock}
-use Rattle.walked_logs.specs.normal_logs.Within.{at_most, ComesTo}
 use Rattle.clap_solve.specs.Solved.{IsImpossible}
 
 -- a log says that its run ends this way
@@ -28,6 +29,13 @@ pub record IsNeeded (model : Model) (code : Code) (kind : Kind) (most : ℕ)
   pub records : Records kind log
   pub is_one : IsOne code (record { kind = kind; most = most }) log.threads
 
+-- some thread has more than `most` outcomes
+pub record HasMany {B : Type 0} (most : ℕ) (s : State B) : Type 0 where
+  pub name : Name
+  pub thread : Thread B
+  pub there : fin.get s.threads name ≡ Some thread
+  pub many : most < length thread.local.outcomes
+
 module _ {B : Type 0} (ops : BufferOps B) (code : Code) where
   -- a run that ends in this state ends this way
   abbrev pub EndsIn : Kind → State B → Type 0
@@ -39,9 +47,11 @@ module _ {B : Type 0} (ops : BufferOps B) (code : Code) where
   NoneEnds kind =
       (moves : List Move) (s : State B) → run ops code moves ≡ Some s → EndsIn kind s → ⊥
 
-  -- no run in which each thread has at most `most` outcomes ends this way
+  -- each run that ends this way has a thread with more than `most` outcomes
   abbrev pub NoneEndsWithin : Kind → ℕ → Type 0
-  NoneEndsWithin kind most = ComesTo ops code (at_most most) (EndsIn kind) → ⊥
+  NoneEndsWithin kind most =
+      (moves : List Move) (s : State B) → run ops code moves ≡ Some s → EndsIn kind s
+      → HasMany most s
 
   -- some moves reproduce the log
   abbrev pub IsPossible : Log → Type 0
@@ -53,6 +63,12 @@ module _ {B : Type 0} (ops : BufferOps B) (model : Model) (code : Code) (kind : 
   AreImpossible ts =
       (log : Log) → log.model ≡ model → log.threads ≡ ts → Records kind log
       → IsImpossible ops code log
+
+  -- no log in which each thread has at most `most` outcomes is possible
+  abbrev pub NoneWithin : ℕ → Type 0
+  NoneWithin most =
+      (ts : List ThreadPath) → IsOne code (record { kind = kind; most = most }) ts
+      → AreImpossible ts
 
   -- no log in which each thread has fewer outcomes than `most` is possible
   abbrev pub NoneBelow : ℕ → Type 0

@@ -28,7 +28,7 @@ fn copies(alloc: Global, threads: &[ThreadPath]) -> Result<Vec<ThreadPath>, Allo
 }
 
 /// The log of threads with this end.
-pub(crate) fn log_of(
+pub fn log_of(
     alloc: Global,
     model: Model,
     failing: Failing,

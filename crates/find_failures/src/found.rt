@@ -43,11 +43,20 @@ pub enum Found {
     /// Some moves reproduce this log.
     Possible(Log),
     /// No run ends as asked: no moves reproduce any of the logs gone through.
-    Never(Reach, Vec<Refuted>),
+    Never(Reach),
     /// No log was found possible, and of this one, the first such, it isn't known.
     Unknown(Unknown),
     /// There are more logs than asked for.
     TooMany,
     /// No log was found possible, and some have too many threads, too many steps or too long a name.
     LeftOut(LeftOut),
+}
+
+/// The result of a search, and what it rests on.
+#[derive(Debug, Drop)]
+pub struct Searched {
+    pub found: Found,
+    /// Logs that no moves reproduce, in the order in which they were gone through, up to the first of
+    /// which it isn't known.
+    pub refuted: Vec<Refuted>,
 }

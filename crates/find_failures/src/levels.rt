@@ -1,11 +1,11 @@
 //! The search: with more and more outcomes, up to the bound, or until none are left out.
 ghost use Rattle.std.specs.Prelude.{◌≡◌, ◌≤◌, IfOk};
 ghost use Rattle.tc_code.specs.tc_limits.declared.limits.TheConstants.{BUDGET};
-ghost use Rattle.find_failures.specs.Found.{IsFound};
-ghost use Rattle.find_failures.specs.helpers.Gone.{AreGone, IsEnded, after_all, is_last};
+ghost use Rattle.find_failures.specs.Found.{IsSearched};
+ghost use Rattle.find_failures.specs.helpers.Gone.{AreGone, IsEnded, after_all, found_of, is_last, searched};
 
 use crate::asked::Asked;
-use crate::found::{Found, Reach};
+use crate::found::{Found, Reach, Searched, Unknown};
 use crate::gone::Gone;
 use crate::round::{Ended, round};
 use log_walk::LeftOut;
@@ -45,38 +45,58 @@ fn is_last(asked: Asked, level: u16, ended: &Ended) -> bool
     }
 }
 
-/// The answer after all logs.
-fn after_all(gone: Gone, out: LeftOut) -> Found
-    ensures { result ≡ after_all gone out }
+/// The result after all logs.
+fn after_all(unknown: Option<Unknown>, out: LeftOut) -> Found
+    ensures { result ≡ after_all unknown out }
 {
-    let Gone { refuted, unknown } = gone;
     if let Some(unknown) = unknown {
         return Found::Unknown(unknown);
     }
     if out.steps || out.depth || out.threads {
         return Found::LeftOut(out);
     }
-    let reach = if out.outcomes {
-        Reach::Bounded
+    if out.outcomes {
+        Found::Never(Reach::Bounded)
     } else {
-        Reach::Every
-    };
-    Found::Never(reach, refuted)
+        Found::Never(Reach::Every)
+    }
+}
+
+/// The result of going through logs, the first unknown one of which is this.
+fn found_of(unknown: Option<Unknown>, ended: Ended) -> Found
+    ensures { result ≡ found_of unknown ended }
+{
+    match ended {
+        Ended::Possible(log) => Found::Possible(log),
+        Ended::TooMany => Found::TooMany,
+        Ended::Done(out) => after_all(unknown, out),
+    }
+}
+
+/// The result of going through logs, and those refuted.
+fn searched(gone: Gone, ended: Ended) -> Searched
+    ensures { result ≡ searched gone ended }
+{
+    let Gone { refuted, unknown } = gone;
+    Searched {
+        found: found_of(unknown, ended),
+        refuted,
+    }
 }
 
 /// Searches for a log that some moves of the machine under a memory model reproduce.
-pub fn find<M: MemoryModel>(alloc: Global, code: &Code, asked: Asked) -> Result<Found, AllocError>
+pub fn find<M: MemoryModel>(
+    alloc: Global,
+    code: &Code,
+    asked: Asked,
+) -> Result<Searched, AllocError>
     requires some { 1 ≤ asked.budget }
     requires room { asked.budget ≤ BUDGET }
-    ensures { IfOk result (IsFound M.ops M.bound code.now M.MODEL asked) }
+    ensures { IfOk result (IsSearched M.ops M.bound code.now M.MODEL asked) }
 {
     // Lawful code.
     let _functions = code.functions();
     let mut gone = Gone::new(alloc);
-    let ended = levels::<M>(alloc, code, asked, &mut gone);
-    match ended? {
-        Ended::Possible(log) => Ok(Found::Possible(log)),
-        Ended::TooMany => Ok(Found::TooMany),
-        Ended::Done(out) => Ok(after_all(gone, out)),
-    }
+    let ended = levels::<M>(alloc, code, asked, &mut gone)?;
+    Ok(searched(gone, ended))
 }

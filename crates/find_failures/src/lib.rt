@@ -14,5 +14,7 @@ mod round;
 mod verdict;
 
 pub use asked::Asked;
-pub use found::{Found, Reach, Reason, Refuted, Unknown};
+pub use copies::log_of;
+pub use found::{Found, Reach, Reason, Refuted, Searched, Unknown};
 pub use levels::find;
+pub use round::{both, following, is_new};

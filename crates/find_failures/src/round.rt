@@ -4,7 +4,8 @@ ghost use Rattle.std.specs.List.{list_any};
 ghost use Rattle.tc_code.specs.tc_limits.declared.limits.TheConstants.{BUDGET};
 ghost use Rattle.log_walk.specs.Given.{IsOne, IsFirst};
 ghost use Rattle.find_failures.specs.Runs.{AreImpossible};
-ghost use Rattle.find_failures.specs.helpers.Gone.{both, AreGone, AreReached, AreSettled, IsEnded, IsTried};
+ghost use Rattle.find_failures.specs.LeftOut.{both};
+ghost use Rattle.find_failures.specs.helpers.Gone.{AreGone, AreReached, AreSettled, IsEnded, IsTried};
 
 use crate::asked::Asked;
 use crate::gone::Gone;
@@ -26,7 +27,7 @@ pub(crate) enum Ended {
 }
 
 /// What at least one of two searches left out.
-fn both(one: LeftOut, other: LeftOut) -> LeftOut
+pub fn both(one: LeftOut, other: LeftOut) -> LeftOut
     ensures { result ≡ both one other }
 {
     LeftOut {
@@ -48,14 +49,14 @@ fn has_many_outcomes(level: usize, threads: &[ThreadPath]) -> bool
 
 /// Whether some thread has as many outcomes as the bound allows. If not, the log was gone through
 /// with a smaller bound.
-fn is_new(level: u16, threads: &[ThreadPath]) -> bool
+pub fn is_new(level: u16, threads: &[ThreadPath]) -> bool
     ensures { result ≡ (level == 0 || list_any (λ t. nat_le level (length t.path.outcomes)) threads.now) }
 {
     level == 0 || has_many_outcomes(usize::from(level), threads)
 }
 
 /// The threads of the first log, or those of the one after a given log.
-fn following(
+pub fn following(
     alloc: Global,
     code: &Code,
     kind: Kind,

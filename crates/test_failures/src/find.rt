@@ -1,7 +1,7 @@
 //! The search of a program.
 
 use anyhow::{Context, Result, bail};
-use find_failures::{Asked, Found, Reach, Refuted, find};
+use find_failures::{Asked, Found, Reach, Searched, find};
 use log_walk::Kind;
 use run_log::{Log, ThreadPath};
 use std::alloc::Global;
@@ -49,18 +49,18 @@ fn possible(alloc: Global, log: &Log) -> Result<String> {
     Ok(text)
 }
 
-fn never(alloc: Global, reach: Reach, refuted: &[Refuted]) -> Result<String> {
+fn never(alloc: Global, reach: Reach, refuted: usize) -> Result<String> {
     let reach = match reach {
         Reach::Every => "every",
         Reach::Bounded => "bounded",
     };
-    Ok(format!(in alloc; "never {reach} {}", refuted.len())?)
+    Ok(format!(in alloc; "never {reach} {refuted}")?)
 }
 
-fn found_text(alloc: Global, found: &Found) -> Result<String> {
-    match found {
+fn found_text(alloc: Global, searched: &Searched) -> Result<String> {
+    match &searched.found {
         Found::Possible(log) => possible(alloc, log),
-        Found::Never(reach, refuted) => never(alloc, *reach, refuted.as_slice()),
+        Found::Never(reach) => never(alloc, *reach, searched.refuted.len()),
         Found::Unknown(_) => Ok(String::from_str(alloc, "unknown")?),
         Found::TooMany => Ok(String::from_str(alloc, "too many")?),
         Found::LeftOut(_) => Ok(String::from_str(alloc, "left out")?),
@@ -68,7 +68,13 @@ fn found_text(alloc: Global, found: &Found) -> Result<String> {
 }
 
 /// The result under a memory model.
-fn find_under(alloc: Global, model: &str, code: &Code, kind: Kind, outcomes: u16) -> Result<Found> {
+fn find_under(
+    alloc: Global,
+    model: &str,
+    code: &Code,
+    kind: Kind,
+    outcomes: u16,
+) -> Result<Searched> {
     let asked = Asked {
         kind,
         outcomes,
@@ -89,11 +95,9 @@ pub(crate) fn find_row(alloc: Global, given: &str) -> Result<String> {
     let mut words = words.split_whitespace();
     let model = words.next().context("no model")?;
     let kind = kind_of(words.next().context("no kind")?)?;
-    let outcomes = words
-        .next()
-        .context("no number of outcomes")?
-        .parse::<u16>()?;
+    let outcomes = words.next().context("no number of outcomes")?;
+    let outcomes = outcomes.parse::<u16>()?;
     let code = code_of(alloc, program.as_bytes())?;
-    let found = find_under(alloc, model, &code, kind, outcomes)?;
-    found_text(alloc, &found)
+    let searched = find_under(alloc, model, &code, kind, outcomes)?;
+    found_text(alloc, &searched)
 }

@@ -13,24 +13,18 @@ use Rattle.log_walk.specs.Given.{IsLeftOut}
 use Rattle.log_walk.specs.Rest.{all, MakeUp}
 use Rattle.log_walk.specs.declared.bounds.Kind.{Kind}
 use Rattle.log_walk.specs.declared.bounds.LeftOut.{LeftOut}
+use Rattle.find_failures.specs.LeftOut.{is_over}
 use Rattle.find_failures.specs.Found.{IsRefuted, IsUnknown, AreMany}
 use Rattle.find_failures.specs.Runs.{IsNeeded, IsPossible, AreImpossible, NoneBelow, NoneBefore}
 use Rattle.find_failures.specs.declared.asked.Asked.{Asked}
 use Rattle.find_failures.specs.declared.found.Found.{Found}
 use Rattle.find_failures.specs.declared.found.Found.TheVariants as found
 use Rattle.find_failures.specs.declared.found.Reach.TheVariants.{Every, Bounded}
+use Rattle.find_failures.specs.declared.found.Searched.{Searched}
+use Rattle.find_failures.specs.declared.found.Unknown.{Unknown}
 use Rattle.find_failures.specs.declared.gone.Gone.{Gone}
 use Rattle.find_failures.specs.declared.round.Ended.{Ended}
 use Rattle.find_failures.specs.declared.round.Ended.TheVariants.{Possible, TooMany, Done}
-
--- what at least one of two searches left out
-abbrev pub both : LeftOut → LeftOut → LeftOut
-both one other = record {
-  outcomes = one.outcomes || other.outcomes;
-  steps = one.steps || other.steps;
-  depth = one.depth || other.depth;
-  threads = one.threads || other.threads;
-}
 
 module _ {B : Type 0} (ops : BufferOps B) (model : Model) (code : Code) (kind : Kind) where
   -- if no log is unknown, no log with fewer outcomes is possible
@@ -60,28 +54,38 @@ module _ {B : Type 0} (ops : BufferOps B) (model : Model) (bound : Binding) (cod
 
   -- logs were tried: this one is possible, or if none is unknown, none was, and this holds
   abbrev pub IsTried : Gone → Gone → Type 0 → Option StoredLog → Type 0
-  IsTried before after fact (Some log) = IsHit log.log
+  IsTried before after fact (Some log) = AreGone after × IsHit log.log
   IsTried before after fact None =
       AreGone after × (after.unknown ≡ None → (before.unknown ≡ None) × fact)
 
   -- how going through the logs with at most this number of outcomes ended
+  abbrev pub HasEnded : ℕ → Gone → Ended → Type 0
+  HasEnded most after (Possible log) = IsHit log.log
+  HasEnded most after TooMany = AreMany code asked (asked.logs + 1)
+  HasEnded most after (Done out) = AreDone ops model code asked.kind most after out
+
+  -- the logs gone through, and how that ended
   abbrev pub IsEnded : ℕ → Gone → Ended → Type 0
-  IsEnded most after (Possible log) = IsHit log.log
-  IsEnded most after TooMany = AreMany code asked (asked.logs + 1)
-  IsEnded most after (Done out) = AreGone after × AreDone ops model code asked.kind most after out
+  IsEnded most after ended = AreGone after × HasEnded most after ended
 
 -- whether more outcomes aren't asked for, or lead to no more logs
 abbrev pub is_last : Asked → ℕ → Ended → Bool
 is_last asked level (Done out) = level == asked.outcomes || not out.outcomes
 is_last asked level _ = true
 
--- whether logs were left out for their steps, their names or their number of threads
-abbrev pub is_over : LeftOut → Bool
-is_over out = out.steps || out.depth || out.threads
-
 -- the result after all logs
-abbrev pub after_all : Gone → LeftOut → Found
-after_all gone out =
-    option_map_or (λ unknown. found.Unknown unknown) gone.unknown
+abbrev pub after_all : Option Unknown → LeftOut → Found
+after_all unknown out =
+    option_map_or (λ u. found.Unknown u) unknown
     (if is_over out then found.LeftOut out
-    else found.Never (if out.outcomes then Bounded else Every) gone.refuted)
+    else if out.outcomes then found.Never Bounded else found.Never Every)
+
+-- the result of going through logs, the first unknown one of which is this
+abbrev pub found_of : Option Unknown → Ended → Found
+found_of unknown (Possible log) = found.Possible log
+found_of unknown TooMany = found.TooMany
+found_of unknown (Done out) = after_all unknown out
+
+-- the result of going through logs, and those refuted
+abbrev pub searched : Gone → Ended → Searched
+searched gone ended = record { found = found_of gone.unknown ended; refuted = gone.refuted }

@@ -1,0 +1,3 @@
+pub use Rattle.clap_debug_find_words.specs as clap_debug_find_words
+pub use Rattle.find_command.specs as find_command
+pub mod Call
