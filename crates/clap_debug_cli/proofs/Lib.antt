@@ -1,3 +1,4 @@
 pub mod Heard
 pub mod Told
 pub mod Accepted
+pub mod Unmet

@@ -1,31 +1,22 @@
 -- What a call of the program does and answers.
 use Rattle.std.specs.Prelude.{◌≡◌, ℕ, List, ◌++◌, codes, Option, Some, None, IfSome}
-use Rattle.tc_io.specs.Outside.{Files, ShelfTells, SinkTells, bytes_at}
+use Rattle.tc_io.specs.Outside.{Files, ShelfTells, SinkTells}
 use Rattle.command_frame.specs.Answers.{SaysLine}
 use Rattle.command_frame.specs.End.{End}
 use Rattle.command_frame.specs.Run.{Runs}
 use Rattle.command_frame.specs.declared.status.Status.TheVariants.{Usage}
 use Rattle.check_command.specs.Answers.{CheckAnswers}
 use Rattle.check_command.specs.Meanings.{check_of}
-use Rattle.cnf_command.specs.Answers.{CnfAnswers}
 use Rattle.cnf_command.specs.Meanings.{cnf_of}
-use Rattle.import_command.specs.Answers.{ImportAnswers}
 use Rattle.import_command.specs.Meanings.{import_of}
-use Rattle.least_command.specs.Answers.{LeastAnswers}
 use Rattle.least_command.specs.Meanings.{least_of}
-use Rattle.list_command.specs.Answers.{ListAnswers}
 use Rattle.list_command.specs.Listing.{list_of}
-use Rattle.migrate_command.specs.Answers.{MigrateAnswers}
 use Rattle.migrate_command.specs.Meanings.{migrate_of}
-use Rattle.record_command.specs.Answers.{RecordAnswers}
 use Rattle.record_command.specs.Meanings.{record_of}
-use Rattle.replay_command.specs.Answers.{ReplayAnswers}
 use Rattle.replay_command.specs.Meanings.{replay_of}
 use Rattle.solve_command.specs.Answers.{SolveAnswers}
 use Rattle.solve_command.specs.Meanings.{solve_of}
-use Rattle.why_command.specs.Answers.{WhyAnswers}
 use Rattle.why_command.specs.Meanings.{why_of}
-use Rattle.workload_command.specs.Answers.{WorkloadAnswers}
 use Rattle.workload_command.specs.Meanings.{workload_of}
 use Rattle.clap_debug_words.specs.Calls.{Called, Lists, Replays, Records, Migrates, Solves, Minimizes, Checks, Workloads, Exports, Imports, Explains, call_of}
 
@@ -63,21 +54,11 @@ abbrev pub Does : Option Called → ShelfTells → ShelfTells → (status : ℕ)
 Does (Some call) old new status before after = RunsCall call old new status before after
 Does None old new status before after = (new ≡ old) × SaysLine usage_text Usage status before after
 
--- the answers of the command of a call to known files
+-- the headline: the answers of `solve` and of `check` to known files
 abbrev pub Answers : Called → Files → End → Type 0
-Answers (Lists program) files e = ListAnswers (bytes_at files program) e.status e.before e.after
-Answers (Replays program log schedule) files e =
-    ReplayAnswers (bytes_at files program) (bytes_at files log)
-    (bytes_at files schedule) e.status e.before e.after
-Answers (Records call) files e = RecordAnswers call files e
-Answers (Migrates call) files e = MigrateAnswers call files e
 Answers (Solves call) files e = SolveAnswers call files e
-Answers (Minimizes call) files e = LeastAnswers call files e
 Answers (Checks call) files e = CheckAnswers call files e
-Answers (Workloads call) files e = WorkloadAnswers call files e
-Answers (Exports call) files e = CnfAnswers call files e
-Answers (Imports call) files e = ImportAnswers call files e
-Answers (Explains call) files e = WhyAnswers call files e
+Answers _ files e = Unit {0}
 
 -- a fact about a call and the files, if the words ask for one and the shelf tells what it holds
 abbrev pub IfTold : List (List ℕ) → Option Files → (Called → Files → Type 0) → Type 0

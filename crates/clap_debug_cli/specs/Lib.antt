@@ -17,3 +17,4 @@ pub use Rattle.solve_command.specs as solve_command
 pub use Rattle.why_command.specs as why_command
 pub use Rattle.workload_command.specs as workload_command
 pub mod Call
+pub mod ByStatus

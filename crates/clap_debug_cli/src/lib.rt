@@ -11,7 +11,9 @@ ghost use Rattle.replay_command.specs.Causes.{IsReplayed};
 ghost use Rattle.replay_command.specs.schedule_replay.declared.verdict.Verdict.TheVariants as verdict;
 ghost use Rattle.record_command.specs.tc_base.declared.moves.Move.{Move};
 ghost use Rattle.migrate_command.specs.tc_limits.declared.limits.TheConstants.{SCHEDULE_BYTES};
+ghost use Rattle.why_command.specs.Laws.{ReasonsAreNeverMet};
 ghost use Rattle.clap_debug_words.specs.Calls.{call_of, plain_call};
+ghost use Rattle.clap_debug_cli.specs.ByStatus.{RunsAnswerByStatus};
 ghost use Rattle.clap_debug_cli.specs.Call.{Answers, Does, IfTold, RunsCall, usage_text};
 
 use check_command::check_refutation;
@@ -96,4 +98,15 @@ pub fn schedules_are_accepted()
     ensures { (program log : List ℕ) (task : Task program log) (asked : Option Model) (moves : List Move) (text : List ℕ)
         → Reproduces asked task.pair moves → IsSchedule text (record { model = model_of asked task.pair; moves = moves })
         → (length text ≤ SCHEDULE_BYTES) × IsReplayed program log text verdict.Reproduces }
+{}
+
+/// What `call` says of a run over known files, by status.
+pub fn runs_answer_by_status()
+    ensures { RunsAnswerByStatus }
+{}
+
+/// The groups of rules that `why` tells can't all be met: not in any world of the log's paths,
+/// whatever ends its sleeps.
+pub fn reasons_are_never_met()
+    ensures { ReasonsAreNeverMet }
 {}

@@ -2,4 +2,4 @@ mod Kept
 mod There
 mod Lines
 mod Once
-mod Rests
+pub mod Rests

@@ -47,7 +47,7 @@ use Rattle.clap_solve.proofs.Room.{have_room}
 use Rattle.reached_groups.specs.Groups.{AreReachedGroups}
 use Rattle.reached_groups.specs.Laws.{IsWorldIn}
 use Rattle.reached_groups.proofs.Binds.{groups_bind}
-use Rattle.why_impossible.specs.Explained.{IsClosedFor, IsExplained, MeetsRules, RestsOn, TellsCause}
+use Rattle.why_impossible.specs.Explained.{IsClosedFor, IsExplained, MeetsRules, TellsCause, TellsGroups}
 use Rattle.why_impossible.specs.declared.explained.Explained.{Explained}
 use Rattle.why_impossible.specs.declared.explained.Explained.TheVariants.{Closed, Open}
 use Rattle.why_impossible.specs.Reasons.{cause_reason, name_at, reason_line, reason_of}
@@ -111,7 +111,8 @@ module _ {B : Type 0} (ops : BufferOps B) (model : Model) (bound : Binding) (cod
   own_clauses : paths.dead ≡ false → blasted_of ops.buffered bound code log ≡ blasted_by s
   own_clauses lives = ap (λ (d : Bool). if d then impossible else blasted_by s) lives
 
-  never : IsClosed (blasted_of ops.buffered bound code log).clauses lines → paths.dead ≡ false → (groups : List Group)
+  -- so no world meets the rules of all groups that a closed derivation reaches
+  pub never : IsClosed (blasted_of ops.buffered bound code log).clauses lines → paths.dead ≡ false → (groups : List Group)
       → AreReachedGroups s.formula (blasted_of ops.buffered bound code log) lines groups → (w : World) → MeetsRules ops bound code log groups w → ⊥
   never closed lives groups are w m =
       groups_bind s.nodes s.formula s.order s.symbolic.loads lines groups (meaning.posed ops.buffered bound code log given.lawful given.within) ordered
@@ -120,11 +121,10 @@ module _ {B : Type 0} (ops : BufferOps B) (model : Model) (bound : Binding) (cod
       (holds_in w groups m)
 
   -- what holds for the posed clauses holds for the log
-  told : (reasons : List Reason) → IsClosed (blasted_of ops.buffered bound code log).clauses lines
-      → AreReasonsOn code log (posed_of ops.buffered bound code log) lines reasons
-      → RestsOn ops bound code log lines reasons ⊎ TellsCause code log (posed_of ops.buffered bound code log) reasons
-  told reasons closed (Groups tells small) = inl (record { tells = tells; never = never closed tells.lives tells.groups tells.reached })
-  told reasons closed (Cause tells) = inr tells
+  told : (reasons : List Reason) → AreReasonsOn code log (posed_of ops.buffered bound code log) lines reasons
+      → TellsGroups (posed_of ops.buffered bound code log) lines reasons ⊎ TellsCause code log (posed_of ops.buffered bound code log) reasons
+  told reasons (Groups tells small) = inl tells
+  told reasons (Cause tells) = inr tells
 
   room : HaveRoom paths
   room = have_room code log given.is_log given.within given.steps
@@ -172,7 +172,7 @@ module _ {B : Type 0} (ops : BufferOps B) (model : Model) (bound : Binding) (cod
       → AreReasonsOn code log (posed_of ops.buffered bound code log) lines reasons → IsClosedFor ops bound code log lines reasons
   is_closed_for reasons closed are = record {
     closed = closed;
-    rests = told reasons closed are;
+    rests = told reasons are;
     once = differ reasons are;
     impossible = meaning.closed_is_impossible ops model bound code log laws given.lawful given.is_log given.within lines closed;
   }

@@ -51,17 +51,16 @@ module _ {B : Type 0} (ops : BufferOps B) (bound : Binding) (code : Code) (log :
     pub rules : All (MeetsRule ops.buffered bound code p.paths p.symbolic p.nodes w) groups
     pub enders : (c : ℕ) → Contains groups (Condition c) → EnderRule p.paths w c
 
-  module _ (lines : List Line) where
-    -- no world meets the rules of all the named groups
-    pub record RestsOn (reasons : List Reason) : Type 0 where
-      pub tells : TellsGroups p lines reasons
-      pub never : (w : World) → MeetsRules tells.groups w → ⊥
+  -- no world meets the rules of all these groups
+  abbrev pub AreNeverMet : List Group → Type 0
+  AreNeverMet groups = (w : World) → MeetsRules groups w → ⊥
 
+  module _ (lines : List Line) where
     -- the derivation is closed on the log's clauses, these are its reasons, each with a line of its
     -- own, and no moves reproduce the log
     pub record IsClosedFor (reasons : List Reason) : Type 0 where
       pub closed : IsClosed p.blasted.clauses lines
-      pub rests : RestsOn reasons ⊎ TellsCause code log p reasons
+      pub rests : TellsGroups p lines reasons ⊎ TellsCause code log p reasons
       pub once : AllPairs (λ one other. one ≢ other) (map reason_line reasons)
       pub impossible : IsImpossible ops code log
 
