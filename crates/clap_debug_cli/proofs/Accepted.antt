@@ -29,13 +29,15 @@ schedule_accepted {program} {log} task asked moves text r is =
       subst (λ bytes. length bytes ≤ SCHEDULE_BYTES) (sym is.text)
           (short_enough (buffer_of m) m (bound_of m) code run.log m moves (model_laws m) (code_is_lawful program code task.pair.programs) small is.have_text r),
       record {
-        code = code;
-        run = run;
-        plan = record { model = m; moves = moves };
-        programs = task.pair.programs;
-        logs = task.pair.logs;
-        schedules = is;
-        recorded = task.own;
+        files = record {
+          code = code;
+          run = run;
+          plan = record { model = m; moves = moves };
+          programs = task.pair.programs;
+          logs = task.pair.logs;
+          schedules = is;
+        };
+        own = task.own;
         verdict = r;
       },
     )

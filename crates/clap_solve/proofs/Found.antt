@@ -9,14 +9,18 @@ use Rattle.tc_code.specs.Lawful.{IsLawful}
 use Rattle.store_buffers.specs.Laws.{Laws}
 use Rattle.store_buffers.specs.Pending.{Binding}
 use Rattle.run_log.specs.Logs.{is_log}
+use Rattle.path_walk.specs.Fits.{Fits}
+use Rattle.path_walk.specs.Paths.{paths_of}
+use Rattle.sym_terms.specs.declared.node.Node.{Node}
+use Rattle.schedule_decode.specs.sym_laws.Valued.{found}
 use Rattle.order_formula.specs.Worlds.{World}
 use Rattle.cnf_core.specs.Clauses.{Valuation, satisfies, value_in}
 use Rattle.bit_blast.specs.bit_order.Readings.{world_of}
 use Rattle.bit_blast.specs.Blasted.{impossible}
-use Rattle.schedule_decode.specs.path_laws.Setting.{setting_of}
+use Rattle.schedule_decode.specs.path_laws.Setting.{Setting, setting_of}
 use Rattle.schedule_decode.specs.world_plan.Going.{IsLawfulWorld}
-use Rattle.schedule_decode.specs.Decodable.{IsDecodable}
-use Rattle.clap_system.specs.Systems.{system_of}
+use Rattle.schedule_decode.specs.Decodable.{IsDecodable, executed_with}
+use Rattle.clap_system.specs.Systems.{execution_of, system_of}
 use Rattle.orders_are_runs.proofs.Systems.{grows, possible_is_lawful}
 use Rattle.clap_solve.specs.Clauses.{blasted_by}
 use Rattle.clap_solve.specs.Posed.{Posed, posed_of}
@@ -34,16 +38,21 @@ lives buffered bound code log lawful within p by v satisfied =
     ap (λ (q : Posed). q.paths.dead) by
     ∙ (possible buffered bound code log lawful within v (own_satisfied p (posed_of buffered bound code log) v by satisfied)).0.lives
 
+-- the execution of a log's system has more terms than that of its paths
+pub with_more : {B : Type 0} (s : Setting B) (fits : Fits s.code s.log)
+    → execution_of (system_of s.ops.buffered s.bound s.code s.log) ≡ executed_with s.code s.log [] (grows s fits).0
+with_more s fits =
+    ap (λ (ns : List Node). record { paths = paths_of s.code s.log; symbolic = (found s.code s.log []).symbolic; terms = ns }) (grows s fits).1
+
 pub decodable : {B : Type 0} (ops : BufferOps B) (model : Model) (bound : Binding) (code : Code) (log : Log) → Laws ops model bound → IsLawful code
     → is_log log ≡ true → IsWithin code log → (posed : Posed) → posed ≡ posed_of ops.buffered bound code log → (values : List Bool)
     → IsTrue (satisfies (value_in values) posed.blasted.clauses.clauses) → (w : World) → w ≡ world_of posed.blasted.layout (value_in values)
-    → IsDecodable ops model bound code posed.paths posed.symbolic posed.nodes w
+    → IsDecodable ops model bound code (record { paths = posed.paths; symbolic = posed.symbolic; terms = posed.nodes }) w
 decodable ops model bound code log laws lawful is within posed by values satisfied w is_said =
     let v = value_in values in
     let s = system_of ops.buffered bound code log in
     let p = possible ops.buffered bound code log lawful within v (own_satisfied posed (posed_of ops.buffered bound code log) v by satisfied) in
     let setting = setting_of ops model bound code log laws lawful is in
-    let more = grows setting within.fits in
     let same : w ≡ p.0.world =
     is_said ∙ ap (λ (q : Posed). world_of q.blasted.layout v) by
     ∙ ap (λ (dead : Bool). world_of (if dead then impossible else blasted_by s).layout v) p.0.lives ∙ sym p.1 in
@@ -53,9 +62,7 @@ decodable ops model bound code log laws lawful is within posed by values satisfi
       log = log;
       log_is = is;
       first = [];
-      more = more.0;
-      paths_are = ap (λ (q : Posed). q.paths) by;
-      symbolic_is = ap (λ (q : Posed). q.symbolic) by;
-      nodes_are = ap (λ (q : Posed). q.nodes) by ∙ more.1;
+      more = (grows setting within.fits).0;
+      is = ap (λ (q : Posed). record { paths = q.paths; symbolic = q.symbolic; terms = q.nodes }) by ∙ with_more setting within.fits;
       lawful = subst (IsLawfulWorld setting []) (sym same) (possible_is_lawful setting within.fits p.0);
     }

@@ -16,4 +16,4 @@ pub use fault::CheckImpossibleFault;
 pub use imported::Imported;
 pub use importing::take_answer;
 pub use posed::{Posed, clauses, pose};
-pub use solving::solve;
+pub use solving::{search, solve};

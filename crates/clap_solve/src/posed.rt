@@ -1,13 +1,11 @@
 //! A log's clauses, with everything that they are made from.
-ghost use Rattle.std.specs.Prelude.{◌≡◌, ◌≤◌, ◌<◌, false, length, IfOk, IfErr, OnOk, if◌then◌else◌};
-ghost use Rattle.std.specs.List.{All};
-ghost use Rattle.order_formula.specs.Formulas.{IsOf};
-ghost use Rattle.order_formula.specs.Orders.{ConjunctIsIn};
-ghost use Rattle.cnf_core.specs.declared.cnf.TheConstants.{LIMIT};
-ghost use Rattle.bit_blast.specs.Blasted.{blast, impossible};
-ghost use Rattle.bit_blast.specs.Sizes.{whole_size};
+ghost use Rattle.std.specs.Prelude.{◌≡◌, ◌<◌, false, IfOk, IfErr, OnOk, if◌then◌else◌};
+ghost use Rattle.bit_blast.specs.Blasted.{impossible};
 ghost use Rattle.clap_system.specs.Faults.{IsBuildFault};
-ghost use Rattle.clap_solve.specs.Clauses.{clauses_of};
+ghost use Rattle.clap_system.specs.Ready.{IsSound};
+ghost use Rattle.clap_system.specs.Systems.{system_from};
+ghost use Rattle.formula_sizes.specs.Small.{ClausesHaveRoom};
+ghost use Rattle.clap_solve.specs.Clauses.{blasted_by, clauses_of};
 ghost use Rattle.clap_solve.specs.Posed.{IsGiven, posed_of};
 ghost use Rattle.clap_solve.specs.Solved.{IsWithin};
 
@@ -15,22 +13,19 @@ use bit_blast::{Blasted, blast};
 use clap_system::{BuildFault, build};
 use cnf_core::Cnf;
 use order_formula::{Formula, Order};
+use path_execution::Execution;
 use path_walk::Paths;
 use run_log::Log;
 use std::alloc::{AllocError, Global};
 use std::marker::Model;
 use store_buffers::MemoryModel;
-use sym_exec::Symbolic;
-use sym_terms::Terms;
 use tc_code::Code;
 
 /// The clauses of a log, with everything that they are made from: it turns models into schedules,
 /// and clauses into rules of the program. Contracts see a record of the parts.
 #[derive(Debug, Drop)]
 pub struct Posed {
-    paths: Paths,
-    symbolic: Symbolic,
-    terms: Terms,
+    execution: Execution,
     formula: Formula,
     blasted: Blasted,
 }
@@ -40,7 +35,13 @@ impl Model for Posed {
 
     ghost Value = { PlainPosed };
 
-    ghost view = { λ p. record { paths = p.paths; symbolic = p.symbolic; nodes = p.terms; formula = p.formula; blasted = p.blasted } };
+    ghost view = { λ p. record {
+      paths = p.execution.paths;
+      symbolic = p.execution.symbolic;
+      nodes = p.execution.terms;
+      formula = p.formula;
+      blasted = p.blasted;
+    } };
 }
 
 impl Posed {
@@ -48,21 +49,14 @@ impl Posed {
     pub fn paths(&self) -> &Paths
         ensures { result.now ≡ self.now.paths }
     {
-        &self.paths
+        &self.execution.paths
     }
 
-    /// The symbolic execution of the paths, with terms in place of values.
-    pub fn symbolic(&self) -> &Symbolic
-        ensures { result.now ≡ self.now.symbolic }
+    /// The execution of these paths.
+    pub fn execution(&self) -> &Execution
+        ensures { result.now ≡ record { paths = self.now.paths; symbolic = self.now.symbolic; terms = self.now.nodes } }
     {
-        &self.symbolic
-    }
-
-    /// The terms of their execution and of the formula.
-    pub fn terms(&self) -> &Terms
-        ensures { result.now ≡ self.now.nodes }
-    {
-        &self.terms
+        &self.execution
     }
 
     /// The formula; each conjunct has the group of its rule.
@@ -107,13 +101,10 @@ pub fn pose<M: MemoryModel>(alloc: Global, code: &Code, log: &Log) -> Result<Pos
     // Lawful code, and a log whose names rise.
     let _functions = code.functions();
     let _threads = log.threads();
-    let (paths, symbolic, terms, order, formula) = build::<M>(alloc, code, log)?.into_parts();
-    let dead = paths.dead();
-    let blasted = blasted(alloc, dead, &terms, &formula, order, symbolic.loads())?;
+    let (execution, order, formula) = build::<M>(alloc, code, log)?.into_parts();
+    let blasted = blasted(alloc, &execution, &formula, order)?;
     Ok(Posed {
-        paths,
-        symbolic,
-        terms,
+        execution,
         formula,
         blasted,
     })
@@ -135,21 +126,19 @@ pub fn clauses<M: MemoryModel>(alloc: Global, code: &Code, log: &Log) -> Result<
 /// The clauses of a formula, or of an impossible one if the paths are dead.
 fn blasted(
     alloc: Global,
-    dead: bool,
-    terms: &Terms,
+    execution: &Execution,
     formula: &Formula,
     order: Order,
-    loads: u32,
 ) -> Result<Blasted, AllocError>
-    requires terms { IsOf (length terms.now) formula.now }
-    requires events { order.events ≤ 256 }
-    requires within { All (ConjunctIsIn order) formula.now }
-    requires room { whole_size (record { order = order; loads = loads }) terms.now formula.now < LIMIT }
-    ensures blasted { IfOk result (λ blasted. blasted ≡ (if dead then impossible else blast terms.now formula.now order loads)) }
-    ensures variables { IfOk result (λ blasted. dead ≡ false → 0 < blasted.clauses.vars) }
+    requires sound { IsSound (system_from execution.now order formula.now) }
+    requires room { ClausesHaveRoom (system_from execution.now order formula.now) }
+    ensures blasted { IfOk result (λ blasted. blasted
+        ≡ (if execution.now.paths.dead then impossible else blasted_by (system_from execution.now order formula.now))) }
+    ensures variables { IfOk result (λ blasted. execution.now.paths.dead ≡ false → 0 < blasted.clauses.vars) }
 {
-    if dead {
+    if execution.paths.dead() {
         return Blasted::impossible(alloc);
     }
-    blast(alloc, terms, formula, order, loads)
+    let loads = execution.symbolic.loads();
+    blast(alloc, &execution.terms, formula, order, loads)
 }

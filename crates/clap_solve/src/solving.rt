@@ -2,6 +2,7 @@
 ghost use Rattle.std.specs.Prelude.{◌≡◌, ◌≤◌, length, IfOk, IfErr};
 ghost use Rattle.schedule_file.specs.tc_limits.declared.limits.TheConstants.{BUDGET, EVENTS};
 ghost use Rattle.first_run.specs.lawful_order.Events.{all_events};
+ghost use Rattle.cdcl_core.specs.Solving.{Solves};
 ghost use Rattle.clap_system.specs.Faults.{IsBuildFault};
 ghost use Rattle.clap_solve.specs.Solved.{IsSolved};
 ghost use Rattle.clap_solve.specs.helpers.Searched.{IsAnsweredOn, IsFoundOn, IsPosed, IsSatisfied, IsSearched, ReproduceEach};
@@ -54,21 +55,32 @@ fn searched<M: MemoryModel>(
     requires posed { IsPosed M.BUFFERED M.bound code.now posed.now }
     ensures { IfOk result (IsFoundOn M.ops code.now posed.now M.MODEL budget) }
 {
-    let first = first_values::<M>(alloc, code, posed)?;
-    let solved = solve_cnf(alloc, posed.clauses(), first.as_slice(), budget)?;
+    let solved = search::<M>(alloc, code, posed, budget)?;
     answer::<M>(alloc, code, posed, solved)
 }
 
-/// The values that a search tries first: those of the world of one run along the paths.
-fn first_values<M: MemoryModel>(
+/// A search of the clauses of a log that first tries the values of one run along its paths.
+pub fn search<M: MemoryModel>(
     alloc: Global,
     code: &Code,
     posed: &Posed,
-) -> Result<Vec<bool>, AllocError>
-    requires { length (all_events posed.now.paths) ≤ EVENTS }
+    budget: u32,
+) -> Result<Solved, AllocError>
+    requires events { length (all_events posed.now.paths) ≤ EVENTS }
+    requires some { 1 ≤ budget }
+    requires room { budget ≤ BUDGET }
+    ensures { IfOk result (Solves posed.now.blasted.clauses budget) }
 {
-    let world = first_world::<M>(alloc, code, posed.paths(), posed.symbolic(), posed.terms())?;
-    posed.blasted().first_values(alloc, &world)
+    let execution = posed.execution();
+    let world = first_world::<M>(
+        alloc,
+        code,
+        &execution.paths,
+        &execution.symbolic,
+        &execution.terms,
+    )?;
+    let values = posed.blasted().first_values(alloc, &world)?;
+    solve_cnf(alloc, posed.clauses(), values.as_slice(), budget)
 }
 
 /// The answer from a search of a log's clauses.
@@ -103,12 +115,5 @@ pub(crate) fn schedule<M: MemoryModel>(
     ensures reproduces { IfOk result (λ schedule. ReproduceEach M.ops code.now posed.now schedule.moves.items) }
 {
     let world = posed.blasted().world(alloc, assignment)?;
-    decode::<M>(
-        alloc,
-        code,
-        posed.paths(),
-        posed.symbolic(),
-        posed.terms(),
-        &world,
-    )
+    decode::<M>(alloc, code, posed.execution(), &world)
 }

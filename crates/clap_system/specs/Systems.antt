@@ -3,6 +3,7 @@ use Rattle.std.specs.Prelude.{List, [], ◌++◌, length, fold, Bool}
 use Rattle.run_log.specs.Logs.{Log}
 use Rattle.tc_code.specs.Code.{Code}
 use Rattle.path_walk.specs.Paths.{Paths, paths_of}
+use Rattle.path_execution.specs.declared.execution.Execution.{Execution}
 use Rattle.store_buffers.specs.Pending.{Binding}
 use Rattle.sym_terms.specs.Terms.{with_node}
 use Rattle.sym_terms.specs.declared.node.Node.{Node}
@@ -23,6 +24,14 @@ pub record System : Type 0 where
   -- the questions that the formula asks about the order
   pub order : Order
   pub formula : List Conjunct
+
+-- the system of an execution, and the execution of a system
+abbrev pub system_from : Execution → Order → List Conjunct → System
+system_from x order formula =
+    record { paths = x.paths; symbolic = x.symbolic; nodes = x.terms; order = order; formula = formula }
+
+abbrev pub execution_of : System → Execution
+execution_of s = record { paths = s.paths; symbolic = s.symbolic; terms = s.nodes }
 
 module _ (buffered : Bool) (bound : Binding) (code : Code) (paths : Paths) where
   -- the conjuncts of all groups, over these terms

@@ -19,6 +19,7 @@ use crate::{BuildFault, System, Which};
 use memory_order::order_constraints;
 use order_events::{Sleeps, formula_of};
 use order_formula::{Formula, Order};
+use path_execution::Execution;
 use path_walk::{Paths, walk};
 use read_write::read_constraints;
 use run_log::{Log, ThreadPath};
@@ -109,10 +110,13 @@ fn system<M: MemoryModel>(alloc: Global, code: &Code, paths: Paths) -> Result<Sy
     let symbolic = execute(alloc, code, &paths, &mut terms)?;
     let mut order = no_questions(alloc, &paths)?;
     let formula = rules::<M>(alloc, code, &paths, &symbolic, &mut terms, &mut order)?;
-    Ok(System {
+    let execution = Execution {
         paths,
         symbolic,
         terms,
+    };
+    Ok(System {
+        execution,
         order,
         formula,
     })

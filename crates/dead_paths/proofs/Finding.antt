@@ -1,7 +1,7 @@
 -- The first step that no run can do, found step by step.
-use Rattle.std.proofs.Common.{◌≡◌, ◌∙◌, ℕ, zero, suc, ◌+◌, ◌-◌, ◌<◌, ◌≤◌, ◌&&◌, ◌==◌, Bool, true, false, cond, List, [], ◌∷◌, length, map, drop, get_or, replicate, Option, Some, None}
+use Rattle.std.proofs.Common.{◌≡◌, ◌∙◌, ℕ, zero, suc, ◌+◌, ◌-◌, ◌<◌, ◌&&◌, ◌==◌, Bool, false, cond, List, [], ◌∷◌, length, map, drop, get_or, replicate, Option, Some, None}
 use Rattle.std.proofs.Common.{add-one, ap, refl, sym, subst, arith}
-use Rattle.std.specs.Prelude.{option_map, unwrap_or, slice_set}
+use Rattle.std.specs.Prelude.{slice_set}
 use Rattle.std.specs.List.{find}
 use Rattle.std.specs.Option.{option_map_or}
 use Rattle.std.proofs.lemmas.Bool.{ne_eqb}
@@ -12,22 +12,15 @@ use Rattle.tc_base.specs.Paths.{ThreadPath}
 use Rattle.tc_base.specs.Names.{Name}
 use Rattle.tc_base.specs.declared.handle.Handle.{Handle}
 use Rattle.tc_base.specs.declared.handle.Handle.TheVariants.{Unset}
-use Rattle.tc_code.specs.Code.{Code, instr_at, line_at}
+use Rattle.tc_code.specs.Code.{Code}
 use Rattle.tc_code.specs.Step.{can_be_joined, handles_of}
-use Rattle.tc_code.specs.declared.instr.Instr.TheVariants.{Exit}
 use Rattle.path_walk.specs.Events.{excludes, is_impossible}
 use Rattle.path_walk.specs.Marks.{Marks, Marked, marks_after_instr, marked_from, marked_steps, marks_at_start}
 use Rattle.path_walk.specs.Fits.{fails_in}
 use Rattle.path_walk.specs.Paths.{Walk, walk_of}
 use Rattle.path_walk.specs.Steps.{Step, step_at, steps_at}
-use Rattle.dead_paths.specs.Causes.{Cause, first_cause, line_in, line_of}
+use Rattle.dead_paths.specs.Causes.{Cause, first_cause, line_in}
 use Rattle.dead_paths.specs.helpers.Own.{Own, nothing_own, own_of}
-
-drop_past : (ps : List ℕ) (j : ℕ) → length ps ≤ j → drop j ps ≡ []
-drop_past [] zero past = refl
-drop_past [] (suc j) past = refl
-drop_past (p ∷ ps) zero past = absurd (omega (arith, past))
-drop_past (p ∷ ps) (suc j) past = drop_past ps j (omega (arith, past))
 
 none_joined : (n : ℕ) → map can_be_joined (replicate n Unset) ≡ replicate n false
 none_joined zero = refl
@@ -91,24 +84,6 @@ module _ (code : Code) (f : ℕ) (fails : Bool) (places : List ℕ) where
           ∙ ap (λ e. cond e (Some (here (k + 1 == length places)))
           (find is_impossible (marked_from fails (k + 1) (marks_after_instr are.marks step.instr) (rest (k + 1))))) can;
     }
-
-    -- an impossible step is the first one
-    pub followed_to : excludes are.marks step.instr (fails && (k + 1 == length places)) ≡ true
-        → Some (unwrap_or (line_at code f (get_or places k 0)) 0) ≡ line_in code f fails (steps_at code f places)
-    followed_to cannot = sym (ap (option_map (line_of code f)) (are.same ∙ turn
-        ∙ ap (λ e. cond e (Some (here (k + 1 == length places)))
-        (find is_impossible (marked_from fails (k + 1) (marks_after_instr are.marks step.instr) (rest (k + 1))))) cannot))
-
-    -- a place without an instruction changes nothing
-    pub followed_past : instr_at code f (get_or places k 0) ≡ None → IsFollowed (k + 1) own
-    followed_past none =
-        let exit : step.instr ≡ Exit = ap (λ o. unwrap_or o Exit) none in
-        followed_more own (ap (λ i. excludes are.marks i (fails && (k + 1 == length places))) exit)
-        (are.is ∙ sym (ap (λ i. own_of (marks_after_instr are.marks i)) exit))
-
-  pub followed_all : (k : ℕ) (own : Own) → IsFollowed k own → length places ≤ k → None ≡ line_in code f fails (steps_at code f places)
-  followed_all k own are past = sym (ap (option_map (line_of code f)) (are.same ∙ ap (λ ps. find is_impossible (marked_from fails k are.marks (steps_at code f ps)))
-      (drop_past places k past)))
 
 -- another state of a thread variable
 pub changed : (o : Own) (t : Marks) (h : ℕ) (x : Handle) (b : Bool) → o ≡ own_of t → can_be_joined x ≡ b

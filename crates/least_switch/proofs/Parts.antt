@@ -11,9 +11,9 @@ use Rattle.schedule_file.specs.tc_limits.declared.limits.TheConstants.{EVENTS, S
 use Rattle.tc_code.specs.Code.{Code}
 use Rattle.tc_code.specs.Lawful.{IsLawful}
 use Rattle.store_buffers.specs.Pending.{Binding}
-use Rattle.path_walk.specs.Paths.{Paths, paths_of}
+use Rattle.path_walk.specs.Paths.{paths_of}
 use Rattle.sym_terms.specs.declared.node.Node.{Node}
-use Rattle.sym_exec.specs.Executed.{Symbolic}
+use Rattle.path_execution.specs.declared.execution.Execution.{Execution}
 use Rattle.order_formula.specs.Orders.{ConjunctIsIn, Order}
 use Rattle.order_formula.specs.declared.formula.Conjunct.{Conjunct}
 use Rattle.std.specs.List.{All}
@@ -22,12 +22,12 @@ use Rattle.cnf_core.specs.Clauses.{Formula}
 use Rattle.cnf_core.specs.declared.cnf.TheConstants.{LIMIT}
 use Rattle.bit_order.specs.Comparators.{pairs_among}
 use Rattle.bit_order.specs.Layouts.{Layout}
-use Rattle.bit_blast.specs.Blasted.{Blasted, blast, impossible}
+use Rattle.bit_blast.specs.Blasted.{Blasted, impossible}
 use Rattle.bit_blast.specs.Sizes.{whole_size}
 use Rattle.bit_blast.proofs.Completed.{completed_events, completed_sleeps, same_part, same_size}
 use Rattle.bit_blast.proofs.Posed.{formula_in}
 use Rattle.clap_system.specs.Ready.{IsSound}
-use Rattle.clap_system.specs.Systems.{System, system_of}
+use Rattle.clap_system.specs.Systems.{System, execution_of, system_of}
 use Rattle.clap_solve.specs.Solved.{IsWithin}
 use Rattle.clap_solve.proofs.Meaning as solve
 use Rattle.clap_solve.proofs.Room.{clauses_have_room}
@@ -68,37 +68,18 @@ levels_few events most few least =
     omega (arith, all, variables)
 
 -- clauses with levels are those of the formula, unless the paths are dead
-pub bounded_by : (paths : Paths) (nodes : List Node) (formula : List Conjunct) (order : Order) (loads most : ℕ) (b : Blasted)
-    → b ≡ blast nodes formula (asked_of_all order) loads → paths.dead ≡ false → (made : Layout × Formula) → AreLevelled paths b most made
-    → AreBounded paths nodes formula order loads most made
-bounded_by paths nodes formula order loads most b is alive made levelled = record {
-  lives = λ lives. subst (λ (x : Blasted). AreLevelled paths x most made) is levelled;
+pub bounded_by : (s : System) (most : ℕ) (b : Blasted) → b ≡ clauses_over_all_pairs s → s.paths.dead ≡ false → (made : Layout × Formula)
+    → AreLevelled s.paths b most made → AreBounded s most made
+bounded_by s most b is alive made levelled = record {
+  lives = λ lives. subst (λ (x : Blasted). AreLevelled s.paths x most made) is levelled;
   dead = λ dead. absurd (false≢true (sym alive ∙ dead));
 }
 
--- parts of a system
-abbrev Parts : Type 1
-Parts = Paths → List Node → List Conjunct → Order → ℕ → Type 0
-
--- what holds for some parts holds for equal ones
-moved : (P : Parts) (p q : Paths) (ns ms : List Node) (f g : List Conjunct) (o k : Order) (m n : ℕ) → p ≡ q → ns ≡ ms → f ≡ g → o ≡ k → m ≡ n
-    → P p ns f o m → P q ms g k n
-moved P p q ns ms f g o k m n as_paths as_nodes as_formula as_order as_loads is =
-    subst (λ x. P q ms g k x) as_loads
-    (subst (λ (x : Order). P q ms g x m) as_order
-    (subst (λ (x : List Conjunct). P q ms x o m) as_formula
-    (subst (λ (x : List Node). P q x f o m) as_nodes (subst (λ (x : Paths). P x ns f o m) as_paths is))))
-
 module _ (buffered : Bool) (bound : Binding) (code : Code) (log : Log) (lawful : IsLawful code) (within : IsWithin code log)
-    (steps : All (λ t. t.path.steps ≤ STEPS) log.threads) (s : System)
-    (of : s ≡ system_of buffered bound code log) (sound : IsSound s) (paths : Paths) (symbolic : Symbolic) (nodes : List Node) (order : Order)
-    (formula : List Conjunct) (loads : ℕ) (as_paths : paths ≡ s.paths) (as_symbolic : symbolic ≡ s.symbolic) (as_nodes : nodes ≡ s.nodes)
-    (as_order : order ≡ s.order) (as_formula : formula ≡ s.formula) (as_loads : loads ≡ symbolic.loads) where
-  loads_are : loads ≡ s.symbolic.loads
-  loads_are = as_loads ∙ ap (λ (x : Symbolic). x.loads) as_symbolic
-
-  own : IsAskable s.paths s.nodes s.formula s.order s.symbolic.loads
-  own = record {
+    (steps : All (λ t. t.path.steps ≤ STEPS) log.threads) (s : System) (of : s ≡ system_of buffered bound code log) where
+  -- the order may be asked about every two events
+  pub is_askable : IsSound s → IsAskable s
+  is_askable sound = record {
     terms = sound.terms;
     within = sound.within;
     events = subst (λ (t : System). length (all_events t.paths) ≡ t.order.events) (sym of) (sym (solve.events buffered bound code log lawful within));
@@ -108,23 +89,9 @@ module _ (buffered : Bool) (bound : Binding) (code : Code) (log : Log) (lawful :
         (clauses_have_room buffered bound code log within steps);
   }
 
-  -- the order may be asked about every two events
-  pub is_askable : IsAskable paths nodes formula order loads
-  is_askable =
-      moved IsAskable s.paths paths s.nodes nodes s.formula formula s.order order s.symbolic.loads loads (sym as_paths) (sym as_nodes) (sym as_formula)
-      (sym as_order) (sym loads_are) own
-
-  module _ (most : ℕ) (made : Layout × Formula) (bounded : AreBounded paths nodes formula order loads most made) where
-    here : AreBounded s.paths s.nodes s.formula s.order s.symbolic.loads most made
-    here =
-        moved (λ p ns f o n. AreBounded p ns f o n most made) paths s.paths nodes s.nodes formula s.formula order s.order loads s.symbolic.loads as_paths
-        as_nodes as_formula as_order loads_are bounded
-
-    abbrev t : System
-    t = system_of buffered bound code log
-
-    there : AreBounded t.paths t.nodes t.formula t.order t.symbolic.loads most made
-    there = subst (λ (x : System). AreBounded x.paths x.nodes x.formula x.order x.symbolic.loads most made) of here
+  module _ (most : ℕ) (made : Layout × Formula) (bounded : AreBounded s most made) where
+    there : AreBounded (system_of buffered bound code log) most made
+    there = subst (λ (t : System). AreBounded t most made) of bounded
 
     clauses_are : made.1 ≡ switch_clauses buffered bound code log most
     clauses_are = by (paths_of code log).dead refl
@@ -135,17 +102,15 @@ module _ (buffered : Bool) (bound : Binding) (code : Code) (log : Log) (lawful :
         by false is = (there.lives is).clauses
 
     -- the clauses of the parts are those of the log
-    pub is_bounded : IsBounded buffered bound code log most
-        (record { paths = paths; symbolic = symbolic; terms = nodes; layout = made.0; clauses = made.1 })
-    is_bounded = record {
+    pub is_bounded : (x : Execution) → x ≡ execution_of s
+        → IsBounded buffered bound code log most (record { execution = x; layout = made.0; clauses = made.1 })
+    is_bounded x is = record {
       within = within;
-      paths = paths_are;
-      symbolic = as_symbolic ∙ ap (λ (x : System). x.symbolic) of;
-      terms = as_nodes ∙ ap (λ (x : System). x.nodes) of;
-      layout = λ lives. (there.lives (sym (ap (λ (p : Paths). p.dead) paths_are) ∙ lives)).layout;
-      variables = λ lives. (there.lives (sym (ap (λ (p : Paths). p.dead) paths_are) ∙ lives)).variables;
+      execution = is ∙ ap execution_of of;
+      layout = λ lives. (there.lives (sym alive ∙ lives)).layout;
+      variables = λ lives. (there.lives (sym alive ∙ lives)).variables;
       clauses = clauses_are;
     }
       where
-        paths_are : paths ≡ paths_of code log
-        paths_are = as_paths ∙ ap (λ (x : System). x.paths) of
+        alive : x.paths.dead ≡ (paths_of code log).dead
+        alive = ap (λ (y : Execution). y.paths.dead) (is ∙ ap execution_of of)

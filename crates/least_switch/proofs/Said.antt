@@ -9,7 +9,7 @@ use Rattle.tc_code.specs.Code.{Code}
 use Rattle.tc_code.specs.Lawful.{IsLawful}
 use Rattle.store_buffers.specs.Laws.{Laws}
 use Rattle.store_buffers.specs.Pending.{Binding}
-use Rattle.path_walk.specs.Paths.{Paths}
+use Rattle.path_execution.specs.declared.execution.Execution.{Execution}
 use Rattle.order_formula.specs.Worlds.{World}
 use Rattle.cnf_core.specs.Clauses.{Formula, Valuation, satisfies, value_in}
 use Rattle.bit_order.specs.Layouts.{Layout}
@@ -26,6 +26,7 @@ use Rattle.clap_solve.proofs.orders_are_runs.Systems.{grows, possible_is_lawful}
 use Rattle.clap_solve.specs.Clauses.{blasted_by}
 use Rattle.clap_solve.specs.Posed.{IsGiven, Posed, posed_of}
 use Rattle.clap_solve.specs.Solved.{IsWithin}
+use Rattle.clap_solve.proofs.Found.{with_more}
 use Rattle.clap_solve.proofs.Meaning as solve
 use Rattle.switch_clauses.specs.switch_runs.Worlds.{world_switches}
 use Rattle.switch_clauses.proofs.Meaning.{IsSaid, ready, says}
@@ -53,8 +54,8 @@ module _ (buffered : Bool) (bound : Binding) (code : Code) (log : Log) (lawful :
   pub says_so : IsSaid buffered bound code log lawful h.within most v
   says_so = says buffered bound code log lawful h.within most v (subst (λ (f : Formula). IsTrue (satisfies v f.clauses)) h.clauses satisfied)
 
-  pub bounded_lives : b.paths.dead ≡ false
-  bounded_lives = ap (λ (p : Paths). p.dead) h.paths ∙ says_so.possible.lives
+  pub bounded_lives : b.execution.paths.dead ≡ false
+  bounded_lives = ap (λ (x : Execution). x.paths.dead) h.execution ∙ says_so.possible.lives
 
   pub bounded_few : b.layout.order.events ≤ 256
   bounded_few = subst (λ (y : Layout). y.order.events ≤ 256) (sym (h.layout bounded_lives)) (ready buffered bound code log lawful h.within).events
@@ -62,30 +63,27 @@ module _ (buffered : Bool) (bound : Binding) (code : Code) (log : Log) (lawful :
   pub world_is : (w : World) → w ≡ world_of b.layout v → w ≡ says_so.possible.world
   world_is w is = is ∙ ap (λ (y : Layout). world_of y v) (h.layout bounded_lives) ∙ sym says_so.world
 
-  pub bounded_switches : (w : World) → w ≡ world_of b.layout v → world_switches b.paths w ≤ most
+  pub bounded_switches : (w : World) → w ≡ world_of b.layout v → world_switches b.execution.paths w ≤ most
   bounded_switches w is =
-      subst (λ (x : World). world_switches b.paths x ≤ most) (sym (world_is w is))
-      (subst (λ (p : Paths). world_switches p says_so.possible.world ≤ most) (sym h.paths) says_so.few)
+      subst (λ (x : World). world_switches b.execution.paths x ≤ most) (sym (world_is w is))
+      (subst (λ (x : Execution). world_switches x.paths says_so.possible.world ≤ most) (sym h.execution) says_so.few)
 
 pub bounded_decodable : {B : Type 0} (ops : BufferOps B) (model : Model) (bound : Binding) (code : Code) (log : Log) → Laws ops model bound
     → (given : IsGiven code log) (most : ℕ) (b : Bounded) → IsBounded ops.buffered bound code log most b → (values : List Bool)
     → IsTrue (satisfies (value_in values) b.clauses.clauses) → (w : World) → w ≡ world_of b.layout (value_in values)
-    → IsDecodable ops model bound code b.paths b.symbolic b.terms w
+    → IsDecodable ops model bound code b.execution w
 bounded_decodable ops model bound code log laws given most b h values satisfied w is =
     let v = value_in values in
     let said = says_so ops.buffered bound code log given.lawful most b h v satisfied in
     let setting = setting_of ops model bound code log laws given.lawful given.is_log in
-    let more = grows setting given.within.fits in
     record {
       laws = laws;
       code_is = given.lawful;
       log = log;
       log_is = given.is_log;
       first = [];
-      more = more.0;
-      paths_are = h.paths;
-      symbolic_is = h.symbolic;
-      nodes_are = h.terms ∙ more.1;
+      more = (grows setting given.within.fits).0;
+      is = h.execution ∙ with_more setting given.within.fits;
       lawful = subst (IsLawfulWorld setting []) (sym (world_is ops.buffered bound code log given.lawful most b h v satisfied w is))
           (possible_is_lawful setting given.within.fits said.possible);
     }

@@ -12,10 +12,9 @@ use Rattle.store_buffers.specs.Pending.{Binding}
 use Rattle.schedule_decode.specs.run_follows.Follow.{moves_for}
 use Rattle.run_log.specs.Logs.{is_log}
 use Rattle.path_walk.specs.Fits.{Fits}
-use Rattle.path_walk.specs.Paths.{Paths, paths_of}
+use Rattle.path_walk.specs.Paths.{paths_of}
 use Rattle.schedule_file.specs.declared.schedule.Schedule.{Schedule}
-use Rattle.sym_terms.specs.declared.node.Node.{Node}
-use Rattle.sym_exec.specs.Executed.{Symbolic}
+use Rattle.path_execution.specs.declared.execution.Execution.{Execution}
 use Rattle.order_formula.specs.Worlds.{World}
 use Rattle.schedule_decode.specs.path_laws.Setting.{setting_of}
 use Rattle.schedule_decode.specs.world_plan.Plan.{plan}
@@ -43,24 +42,24 @@ use Rattle.least_switch.specs.declared.stages.Found.TheVariants as found
 use Rattle.least_switch.specs.helpers.Bounded.{IsBounded}
 use Rattle.least_switch.specs.helpers.Found.{IfSat, IsFirst, IsFoundBy, IsFoundOn, IsOfWorld, IsSaid}
 
-module _ {B : Type 0} (ops : BufferOps B) (model : Model) (bound : Binding) (code : Code) (paths : Paths) (symbolic : Symbolic) (nodes : List Node)
-    (w : World) (d : IsDecodable ops model bound code paths symbolic nodes w) (small : All (λ p. p < 256) w.positions) where
+module _ {B : Type 0} (ops : BufferOps B) (model : Model) (bound : Binding) (code : Code) (y : Execution) (w : World)
+    (d : IsDecodable ops model bound code y w) (small : All (λ p. p < 256) w.positions) where
   -- the moves of a world's plan have as many switches as the world
-  world_count : (moves : List Move) → moves ≡ moves_for bound (plan ops.buffered code paths w) → switches ops code moves ≡ world_switches paths w
+  world_count : (moves : List Move) → moves ≡ moves_for bound (plan ops.buffered code y.paths w) → switches ops code moves ≡ world_switches y.paths w
   world_count moves is =
       ap (switches ops code) is
-      ∙ subst (λ (p : Paths). switches ops code (moves_for bound (plan ops.buffered code p w)) ≡ world_switches p w) (sym d.paths_are)
+      ∙ subst (λ (z : Execution). switches ops code (moves_for bound (plan ops.buffered code z.paths w)) ≡ world_switches z.paths w) (sym d.is)
       (of_runs.worlds (setting_of ops model bound code d.log d.laws d.code_is d.log_is) d.first w d.lawful small)
 
   pub of_world : (buffered : Bool) → buffered ≡ ops.buffered → (s : Schedule) (count : ℕ) (x : World) → s.model ≡ model
-      → s.moves.items ≡ moves_for bound (plan buffered code paths w)
-      → ((log : Log) → is_log log ≡ true → Fits code log → paths_of code log ≡ paths → Reproduces ops code log s.moves.items)
-      → count ≡ world_switches paths w → count ≤ 255 → IsOfWorld ops model code paths w (record { schedule = s; switches = count; world = x })
+      → s.moves.items ≡ moves_for bound (plan buffered code y.paths w)
+      → ((log : Log) → is_log log ≡ true → Fits code log → paths_of code log ≡ y.paths → Reproduces ops code log s.moves.items)
+      → count ≡ world_switches y.paths w → count ≤ 255 → IsOfWorld ops model code y.paths w (record { schedule = s; switches = count; world = x })
   of_world buffered same s count x of_model planned again counted few = record {
     has = λ log is fits of. record {
       model_is = of_model;
       reproduces = again log is fits of;
-      count_is = world_count s.moves.items (planned ∙ ap (λ (b : Bool). moves_for bound (plan b code paths w)) same) ∙ sym counted;
+      count_is = world_count s.moves.items (planned ∙ ap (λ (b : Bool). moves_for bound (plan b code y.paths w)) same) ∙ sym counted;
       few = few;
     };
     count = counted;

@@ -1,17 +1,15 @@
 //! The best schedule so far.
-ghost use Rattle.std.specs.Prelude.{◌≡◌, ◌≤◌, ◌<◌, All, IfOk};
+ghost use Rattle.std.specs.Prelude.{◌<◌, All, IfOk};
 ghost use Rattle.schedule_decode.specs.Decodable.{HaveRoom, IsDecodable};
 ghost use Rattle.least_switch.specs.helpers.Found.{IsOfWorld};
 
 use crate::events::count;
 use order_formula::World;
-use path_walk::Paths;
+use path_execution::Execution;
 use schedule_decode::decode;
 use schedule_file::Schedule;
 use std::alloc::{AllocError, Global};
 use store_buffers::MemoryModel;
-use sym_exec::Symbolic;
-use sym_terms::Terms;
 use tc_code::Code;
 
 /// A schedule of a log, with its number of context switches, and the world from which it was made.
@@ -26,18 +24,16 @@ pub(crate) struct Best {
 pub(crate) fn best_of<M: MemoryModel>(
     alloc: Global,
     code: &Code,
-    paths: &Paths,
-    symbolic: &Symbolic,
-    terms: &Terms,
+    execution: &Execution,
     world: World,
 ) -> Result<Best, AllocError>
-    requires lawful { IsDecodable M.ops M.MODEL M.bound code.now paths.now symbolic.now terms.now world }
-    requires room { HaveRoom paths.now }
+    requires lawful { IsDecodable M.ops M.MODEL M.bound code.now execution.now world }
+    requires room { HaveRoom execution.now.paths }
     requires small { All (λ p. p < 256) world.positions }
-    ensures { IfOk result (IsOfWorld M.ops M.MODEL code.now paths.now world) }
+    ensures { IfOk result (IsOfWorld M.ops M.MODEL code.now execution.now.paths world) }
 {
-    let schedule = decode::<M>(alloc, code, paths, symbolic, terms, &world)?;
-    let switches = count(alloc, paths, &world)?;
+    let schedule = decode::<M>(alloc, code, execution, &world)?;
+    let switches = count(alloc, &execution.paths, &world)?;
     Ok(Best {
         schedule,
         switches,

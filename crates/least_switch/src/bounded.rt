@@ -1,11 +1,7 @@
 //! The clauses of a log with a bound on context switches.
-ghost use Rattle.std.specs.Prelude.{◌≡◌, ◌≤◌, ◌<◌, false, length, IfOk, IfErr, OnOk};
-ghost use Rattle.std.specs.List.{All};
-ghost use Rattle.schedule_file.specs.tc_limits.declared.limits.TheConstants.{EVENTS};
-ghost use Rattle.order_formula.specs.Formulas.{IsOf};
-ghost use Rattle.order_formula.specs.Orders.{ConjunctIsIn};
-ghost use Rattle.order_events.specs.lawful_order.Events.{all_events};
+ghost use Rattle.std.specs.Prelude.{◌≡◌, ◌≤◌, IfOk, IfErr};
 ghost use Rattle.clap_system.specs.Faults.{IsBuildFault};
+ghost use Rattle.clap_system.specs.Systems.{system_from};
 ghost use Rattle.least_switch.specs.helpers.Bounded.{IsBounded};
 ghost use Rattle.least_switch.specs.helpers.Levels.{AreBounded, IsAskable};
 
@@ -15,21 +11,17 @@ use bit_order::Layout;
 use clap_system::{BuildFault, build};
 use cnf_core::Cnf;
 use order_formula::{Formula, Order, World};
-use path_walk::Paths;
+use path_execution::Execution;
 use run_log::Log;
 use std::alloc::{AllocError, Global};
 use store_buffers::MemoryModel;
-use sym_exec::Symbolic;
-use sym_terms::Terms;
 use tc_code::Code;
 
 /// The clauses of a log with a bound on context switches, and what a schedule is made from: the
-/// layout, by which models are read as worlds, the paths, and their execution.
+/// layout, by which models are read as worlds, and the execution of the paths.
 #[derive(Debug, Drop)]
 pub(crate) struct Bounded {
-    pub(crate) paths: Paths,
-    pub(crate) symbolic: Symbolic,
-    pub(crate) terms: Terms,
+    pub(crate) execution: Execution,
     pub(crate) layout: Layout,
     pub(crate) clauses: Cnf,
 }
@@ -47,20 +39,10 @@ pub(crate) fn pose_bounded<M: MemoryModel>(
 {
     // Lawful code.
     let _functions = code.functions();
-    let (paths, symbolic, terms, order, formula) = build::<M>(alloc, code, log)?.into_parts();
-    let (layout, clauses) = clauses(
-        alloc,
-        &paths,
-        &terms,
-        &formula,
-        order,
-        symbolic.loads(),
-        most,
-    )?;
+    let (execution, order, formula) = build::<M>(alloc, code, log)?.into_parts();
+    let (layout, clauses) = clauses(alloc, &execution, &formula, order, most)?;
     Ok(Bounded {
-        paths,
-        symbolic,
-        terms,
+        execution,
         layout,
         clauses,
     })
@@ -69,22 +51,21 @@ pub(crate) fn pose_bounded<M: MemoryModel>(
 /// The clauses of a formula with a bound on switches, or an impossible one if the paths are dead.
 fn clauses(
     alloc: Global,
-    paths: &Paths,
-    terms: &Terms,
+    execution: &Execution,
     formula: &Formula,
     order: Order,
-    loads: u32,
     most: u32,
 ) -> Result<(Layout, Cnf), AllocError>
-    requires askable { IsAskable paths.now terms.now formula.now order loads }
+    requires askable { IsAskable (system_from execution.now order formula.now) }
     requires most { most ≤ 255 }
-    ensures { IfOk result (AreBounded paths.now terms.now formula.now order loads most) }
+    ensures { IfOk result (AreBounded (system_from execution.now order formula.now) most) }
 {
-    if paths.dead() {
+    if execution.paths.dead() {
         return Ok(Blasted::impossible(alloc)?.into_parts());
     }
-    let blasted = blast_asked(alloc, terms, formula, order, loads)?;
-    with_levels(alloc, paths, blasted, most)
+    let loads = execution.symbolic.loads();
+    let blasted = blast_asked(alloc, &execution.terms, formula, order, loads)?;
+    with_levels(alloc, &execution.paths, blasted, most)
 }
 
 impl Bounded {

@@ -1,8 +1,6 @@
 //! One search: for any schedule of a log, or for one with a bound on context switches.
-ghost use Rattle.std.specs.Prelude.{◌≤◌, IfOk, IfErr, length};
-ghost use Rattle.schedule_file.specs.tc_limits.declared.limits.TheConstants.{BUDGET, EVENTS};
-ghost use Rattle.order_events.specs.lawful_order.Events.{all_events};
-ghost use Rattle.cdcl_core.specs.Solving.{Solves};
+ghost use Rattle.std.specs.Prelude.{◌≤◌, IfOk, IfErr};
+ghost use Rattle.schedule_file.specs.tc_limits.declared.limits.TheConstants.{BUDGET};
 ghost use Rattle.clap_system.specs.Faults.{IsBuildFault};
 ghost use Rattle.clap_solve.specs.Posed.{IsGiven};
 ghost use Rattle.switch_clauses.specs.Clauses.{switch_clauses};
@@ -12,10 +10,9 @@ ghost use Rattle.least_switch.specs.helpers.Found.{IfSat, IsBest, IsBestUpTo, Is
 use crate::best::{Best, best_of};
 use crate::bounded::{Bounded, pose_bounded};
 use cdcl_core::{Solved, solve_cnf};
-use clap_solve::{Posed, pose};
+use clap_solve::{Posed, pose, search};
 use clap_system::BuildFault;
 use cnf_core::Assignment;
-use first_run::first_world;
 use order_formula::World;
 use refute_check::Derivation;
 use run_log::Log;
@@ -78,23 +75,6 @@ fn searched<M: MemoryModel>(
     first_found::<M>(alloc, code, log, posed, solved)
 }
 
-/// A search of the clauses of a log that first tries the values of one run along its paths.
-fn search<M: MemoryModel>(
-    alloc: Global,
-    code: &Code,
-    posed: &Posed,
-    budget: u32,
-) -> Result<Solved, AllocError>
-    requires events { length (all_events posed.now.paths) ≤ EVENTS }
-    requires some { 1 ≤ budget }
-    requires room { budget ≤ BUDGET }
-    ensures { IfOk result (Solves posed.now.blasted.clauses budget) }
-{
-    let world = first_world::<M>(alloc, code, posed.paths(), posed.symbolic(), posed.terms())?;
-    let values = posed.blasted().first_values(alloc, &world)?;
-    solve_cnf(alloc, posed.clauses(), values.as_slice(), budget)
-}
-
 /// The result of the search for a schedule of a log.
 fn first_found<M: MemoryModel>(
     alloc: Global,
@@ -128,14 +108,7 @@ fn first_best<M: MemoryModel>(
     ensures { IfOk result (IsBest M.ops M.MODEL code.now log.now.log) }
 {
     let world = posed.blasted().world(alloc, assignment)?;
-    best_of::<M>(
-        alloc,
-        code,
-        posed.paths(),
-        posed.symbolic(),
-        posed.terms(),
-        world,
-    )
+    best_of::<M>(alloc, code, posed.execution(), world)
 }
 
 /// Searches for a schedule of a log with a bound on switches, trying values near a world first.
@@ -218,12 +191,5 @@ fn next_best<M: MemoryModel>(
     ensures { IfOk result (IsBestUpTo M.ops M.MODEL code.now log.now.log most) }
 {
     let world = bounded.layout.read_world(alloc, assignment)?;
-    best_of::<M>(
-        alloc,
-        code,
-        &bounded.paths,
-        &bounded.symbolic,
-        &bounded.terms,
-        world,
-    )
+    best_of::<M>(alloc, code, &bounded.execution, world)
 }

@@ -19,7 +19,11 @@ use Rattle.command_inputs.specs.Refusals.{program_line}
 use Rattle.command_inputs.specs.declared.refusal.Refusal.{Refusal}
 use Rattle.command_inputs.specs.declared.refusal.Refusal.TheVariants.{Program}
 use Rattle.list_command.specs.Answers.{ListAnswers}
-use Rattle.list_command.specs.Listing.{IsListed, list_of}
+use Rattle.list_command.specs.Listing.{Lists, list_of}
+
+-- this comes of a program
+abbrev IsListed : (program : List ℕ) → Result Code Refusal → Type 0
+IsListed program x = Lists (program ∷ []) x
 
 -- a program has one outcome
 one_listed : (program : List ℕ) (a b : Result Code Refusal) → IsListed program a → IsListed program b → a ≡ b

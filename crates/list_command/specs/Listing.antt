@@ -11,15 +11,10 @@ use Rattle.command_inputs.specs.Outcomes.{outcome_status, outcome_text}
 use Rattle.command_inputs.specs.declared.refusal.Refusal.{Refusal}
 use Rattle.command_inputs.specs.declared.refusal.Refusal.TheVariants.{Program}
 
--- the program's code, or why it has none
-abbrev pub IsListed : (program : List ℕ) → Result Code Refusal → Type 0
-IsListed program (Ok code) = IsCodeOf program code
-IsListed program (Err (Program fault)) = IsRefusal program fault
-IsListed program (Err _) = ⊥
-
--- the same of the bytes of its inputs
+-- what comes of the bytes of a program: its code, or why it has none
 abbrev pub Lists : Texts → Result Code Refusal → Type 0
-Lists (program ∷ []) outcome = IsListed program outcome
+Lists (program ∷ []) (Ok code) = IsCodeOf program code
+Lists (program ∷ []) (Err (Program fault)) = IsRefusal program fault
 Lists _ outcome = ⊥
 
 -- `list PROGRAM`

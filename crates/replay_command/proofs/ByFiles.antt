@@ -19,10 +19,10 @@ use Rattle.command_inputs.specs.declared.refusal.LogRefusal.{LogRefusal}
 use Rattle.command_inputs.specs.declared.refusal.Refusal.{Refusal}
 use Rattle.command_inputs.specs.declared.refusal.Refusal.TheVariants as refusal
 use Rattle.replay_command.specs.Answers.{ReplayAnswers}
-use Rattle.replay_command.specs.Causes.{IsLogRefused, IsReplay, IsReplayed, IsScheduleRefused}
+use Rattle.replay_command.specs.Causes.{IsReplayed, IsUnreplayed}
 use Rattle.replay_command.specs.Lines.{verdict_line, verdict_status}
 use Rattle.replay_command.specs.Meanings.{replay_of}
-use Rattle.replay_command.proofs.OneReplay.{one_replay}
+use Rattle.replay_command.proofs.OneReplay.{IsReplay, one_replay}
 
 -- the status of what comes of three files
 abbrev ends : Result Verdict Refusal → Status
@@ -88,7 +88,7 @@ module _ (program log schedule : List ℕ) (j k : SinkTells) where
   unread (Err _) text is put = absurd put.0
 
   unlogged : (x : Result Verdict Refusal) (text : List ℕ) → ends x ≡ status.LogRefused → IsPut x text
-      → (r : LogRefusal) × IsLogRefused program log schedule r × Wrote j k (log_line r)
+      → (r : LogRefusal) × IsUnreplayed program log schedule (refusal.Log r) × Wrote j k (log_line r)
   unlogged (Ok v) text is put = no_verdict v status.LogRefused is (λ e. cc) (λ e. cc)
   unlogged (Err (refusal.Log r)) text is put = (r, put.0, subst (Wrote j k) put.1 put.2)
   unlogged (Err (refusal.Program fault)) text is put = absurd (let bad : status.ProgramRefused ≡ status.LogRefused = is in cc)
@@ -96,7 +96,7 @@ module _ (program log schedule : List ℕ) (j k : SinkTells) where
   unlogged (Err _) text is put = absurd put.0
 
   unplanned : (x : Result Verdict Refusal) (text : List ℕ) → ends x ≡ status.InputRefused → IsPut x text
-      → (line : ℕ) × IsScheduleRefused program log schedule line × Wrote j k (schedule_line line)
+      → (line : ℕ) × IsUnreplayed program log schedule (refusal.Schedule line) × Wrote j k (schedule_line line)
   unplanned (Ok v) text is put = no_verdict v status.InputRefused is (λ e. cc) (λ e. cc)
   unplanned (Err (refusal.Schedule n)) text is put = (n, put.0, subst (Wrote j k) put.1 put.2)
   unplanned (Err (refusal.Program fault)) text is put = absurd (let bad : status.ProgramRefused ≡ status.InputRefused = is in cc)

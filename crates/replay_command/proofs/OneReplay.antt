@@ -1,5 +1,5 @@
 -- What comes of three files is one thing.
-use Rattle.std.proofs.Common.{◌≡◌, ℕ, List, refl, ap, subst, Result, Ok, Err}
+use Rattle.std.proofs.Common.{◌≡◌, ℕ, List, [], ◌∷◌, refl, ap, subst, Result, Ok, Err}
 use Rattle.command_inputs.proofs.path_log.Logs.{log_or_fault, one_fault, one_log}
 use Rattle.command_inputs.specs.path_log.Texts.{IsOfOther}
 use Rattle.run_log.specs.Logs.{StoredLog}
@@ -18,65 +18,77 @@ use Rattle.command_inputs.specs.declared.refusal.LogRefusal.{LogRefusal}
 use Rattle.command_inputs.specs.declared.refusal.LogRefusal.TheVariants.{Form, OtherProgram, Unfit}
 use Rattle.command_inputs.specs.declared.refusal.Refusal.{Refusal}
 use Rattle.command_inputs.specs.declared.refusal.Refusal.TheVariants as refusal
-use Rattle.replay_command.specs.Causes.{IsLogRefused, IsReplay, IsReplayed, IsScheduleRefused, IsUnreplayed}
+use Rattle.replay_command.specs.Causes.{IsReplayed, IsUnreplayed, Replays}
+
+-- what comes of three files
+abbrev pub IsReplay : (program log schedule : List ℕ) → Result Verdict Refusal → Type 0
+IsReplay program log schedule x = Replays (program ∷ log ∷ schedule ∷ []) x
 
 -- the verdict on what a schedule does with a log
 abbrev IsJudged : Code → StoredLog → Schedule → Verdict → Type 0
 IsJudged code run plan v = IsVerdict (buffer_of plan.model) code run.log plan.moves v
 
 module _ (program log schedule : List ℕ) where
+  abbrev IsLogRefused : LogRefusal → Type 0
+  IsLogRefused r = IsUnreplayed program log schedule (refusal.Log r)
+
+  abbrev IsScheduleRefused : ℕ → Type 0
+  IsScheduleRefused n = IsUnreplayed program log schedule (refusal.Schedule n)
+
   one_replayed : (v w : Verdict) → IsReplayed program log schedule v → IsReplayed program log schedule w → v ≡ w
   one_replayed v w f g =
-      let codes = one_code program g.code f.code g.programs f.programs in
-      let runs = one_log log g.run f.run g.logs f.logs in
-      let plans = one_schedule schedule g.plan f.plan g.schedules f.schedules in
-      let judged : IsJudged f.code f.run f.plan w = subst (λ c. IsJudged c f.run f.plan w) codes
-      (subst (λ l. IsJudged g.code l f.plan w) runs (subst (λ p. IsJudged g.code g.run p w) plans g.verdict)) in
-      one_verdict (buffer_of f.plan.model) f.code f.run.log f.plan.moves v w f.verdict judged
+      let a = f.files in
+      let b = g.files in
+      let codes = one_code program b.code a.code b.programs a.programs in
+      let runs = one_log log b.run a.run b.logs a.logs in
+      let plans = one_schedule schedule b.plan a.plan b.schedules a.schedules in
+      let judged : IsJudged a.code a.run a.plan w = subst (λ c. IsJudged c a.run a.plan w) codes
+      (subst (λ l. IsJudged b.code l a.plan w) runs (subst (λ p. IsJudged b.code b.run p w) plans g.verdict)) in
+      one_verdict (buffer_of a.plan.model) a.code a.run.log a.plan.moves v w f.verdict judged
 
-  one_log_refused : (r q : LogRefusal) → IsLogRefused program log schedule r → IsLogRefused program log schedule q → r ≡ q
+  one_log_refused : (r q : LogRefusal) → IsLogRefused r → IsLogRefused q → r ≡ q
   one_log_refused (Form o) (Form p) f g = ap (λ x. Form x) (one_fault log o p f.2 g.2)
-  one_log_refused (Form o) OtherProgram f g = absurd (log_or_fault log g.run o g.logs f.2)
-  one_log_refused OtherProgram (Form p) f g = absurd (log_or_fault log f.run p f.logs g.2)
+  one_log_refused (Form o) OtherProgram f g = absurd (log_or_fault log g.0.run o g.0.logs f.2)
+  one_log_refused OtherProgram (Form p) f g = absurd (log_or_fault log f.0.run p f.0.logs g.2)
   one_log_refused OtherProgram OtherProgram f g = refl
   one_log_refused (Unfit _ _) q f g = absurd f
   one_log_refused r (Unfit _ _) f g = absurd g
 
-  log_or_program : (r : LogRefusal) (q : TextFault) → IsLogRefused program log schedule r → IsRefusal program q → ⊥
+  log_or_program : (r : LogRefusal) (q : TextFault) → IsLogRefused r → IsRefusal program q → ⊥
   log_or_program (Form o) q f g = refused_no_code program q f.0 g f.1
-  log_or_program OtherProgram q f g = refused_no_code program q f.code g f.programs
+  log_or_program OtherProgram q f g = refused_no_code program q f.0.code g f.0.programs
   log_or_program (Unfit _ _) q f g = f
 
-  log_or_schedule : (r : LogRefusal) (n : ℕ) → IsLogRefused program log schedule r → IsScheduleRefused program log schedule n → ⊥
-  log_or_schedule (Form o) n f g = log_or_fault log g.run o g.logs f.2
-  log_or_schedule OtherProgram n f g = schedule_or_fault schedule f.plan n f.schedules g.breaks
+  log_or_schedule : (r : LogRefusal) (n : ℕ) → IsLogRefused r → IsScheduleRefused n → ⊥
+  log_or_schedule (Form o) n f g = log_or_fault log g.2 o g.3 f.2
+  log_or_schedule OtherProgram n f g = schedule_or_fault schedule f.0.plan n f.0.schedules g.4
   log_or_schedule (Unfit _ _) n f g = f
 
-  log_or_verdict : (r : LogRefusal) (v : Verdict) → IsLogRefused program log schedule r → IsReplayed program log schedule v → ⊥
-  log_or_verdict (Form o) v f g = log_or_fault log g.run o g.logs f.2
-  log_or_verdict OtherProgram v f g = g.recorded (subst (λ l. IsOfOther program l) (one_log log f.run g.run f.logs g.logs) f.other)
+  log_or_verdict : (r : LogRefusal) (v : Verdict) → IsLogRefused r → IsReplayed program log schedule v → ⊥
+  log_or_verdict (Form o) v f g = log_or_fault log g.files.run o g.files.logs f.2
+  log_or_verdict OtherProgram v f g = g.own (subst (λ l. IsOfOther program l) (one_log log f.0.run g.files.run f.0.logs g.files.logs) f.1)
   log_or_verdict (Unfit _ _) v f g = f
 
   one_unreplayed : (r q : Refusal) → IsUnreplayed program log schedule r → IsUnreplayed program log schedule q → r ≡ q
   one_unreplayed (refusal.Program r) (refusal.Program q) f g = ap (λ x. refusal.Program x) (one_refusal program r q f g)
   one_unreplayed (refusal.Program r) (refusal.Log q) f g = absurd (log_or_program q r g f)
-  one_unreplayed (refusal.Program r) (refusal.Schedule n) f g = absurd (refused_no_code program r g.code f g.programs)
+  one_unreplayed (refusal.Program r) (refusal.Schedule n) f g = absurd (refused_no_code program r g.0 f g.1)
   one_unreplayed (refusal.Log r) (refusal.Program q) f g = absurd (log_or_program r q f g)
   one_unreplayed (refusal.Log r) (refusal.Log q) f g = ap (λ x. refusal.Log x) (one_log_refused r q f g)
   one_unreplayed (refusal.Log r) (refusal.Schedule n) f g = absurd (log_or_schedule r n f g)
-  one_unreplayed (refusal.Schedule m) (refusal.Program q) f g = absurd (refused_no_code program q f.code g f.programs)
+  one_unreplayed (refusal.Schedule m) (refusal.Program q) f g = absurd (refused_no_code program q f.0 g f.1)
   one_unreplayed (refusal.Schedule m) (refusal.Log q) f g = absurd (log_or_schedule q m g f)
   one_unreplayed (refusal.Schedule m) (refusal.Schedule n) f g =
-      ap (λ x. refusal.Schedule x) (schedules.one_fault schedule m n f.breaks g.breaks)
+      ap (λ x. refusal.Schedule x) (schedules.one_fault schedule m n f.4 g.4)
   one_unreplayed (refusal.Program _) _ f g = absurd g
   one_unreplayed (refusal.Log _) _ f g = absurd g
   one_unreplayed (refusal.Schedule _) _ f g = absurd g
   one_unreplayed _ q f g = absurd f
 
   refused_or_verdict : (r : Refusal) (v : Verdict) → IsUnreplayed program log schedule r → IsReplayed program log schedule v → ⊥
-  refused_or_verdict (refusal.Program r) v f g = refused_no_code program r g.code f g.programs
+  refused_or_verdict (refusal.Program r) v f g = refused_no_code program r g.files.code f g.files.programs
   refused_or_verdict (refusal.Log r) v f g = log_or_verdict r v f g
-  refused_or_verdict (refusal.Schedule n) v f g = schedule_or_fault schedule g.plan n g.schedules f.breaks
+  refused_or_verdict (refusal.Schedule n) v f g = schedule_or_fault schedule g.files.plan n g.files.schedules f.4
   refused_or_verdict _ v f g = f
 
   pub one_replay : (a b : Result Verdict Refusal) → IsReplay program log schedule a → IsReplay program log schedule b → a ≡ b

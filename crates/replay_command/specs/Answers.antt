@@ -12,7 +12,8 @@ use Rattle.command_inputs.specs.Outcomes.{outcome_status}
 use Rattle.command_inputs.specs.Refusals.{log_line, program_line, schedule_line}
 use Rattle.command_inputs.specs.declared.refusal.LogRefusal.{LogRefusal}
 use Rattle.command_inputs.specs.declared.refusal.Refusal.{Refusal}
-use Rattle.replay_command.specs.Causes.{IsLogRefused, IsReplay, IsReplayed, IsScheduleRefused}
+use Rattle.command_inputs.specs.declared.refusal.Refusal.TheVariants.{Log, Schedule}
+use Rattle.replay_command.specs.Causes.{IsReplayed, IsUnreplayed, Replays}
 use Rattle.replay_command.specs.Lines.{verdict_line, verdict_status}
 use Rattle.replay_command.specs.Meanings.{files_of}
 
@@ -36,16 +37,17 @@ pub record ReplayAnswers (program log schedule : List ℕ) (status : ℕ)
   pub refused : status ≡ 3
       → (fault : TextFault) × IsRefusal program fault × Wrote before after (program_line fault)
   pub log_refused : status ≡ 4
-      → (r : LogRefusal) × IsLogRefused program log schedule r × Wrote before after (log_line r)
+      → (r : LogRefusal) × IsUnreplayed program log schedule (Log r)
+      × Wrote before after (log_line r)
   pub schedule_refused : status ≡ 5
-      → (line : ℕ) × IsScheduleRefused program log schedule line
+      → (line : ℕ) × IsUnreplayed program log schedule (Schedule line)
       × Wrote before after (schedule_line line)
   pub limit : status ≡ 6
       → (limit : Limit) × IsFirstTooLong program log schedule limit
       × Wrote before after (limit_line limit)
   -- what comes of files that aren't too long is what is answered
   pub exactly : (x : Result Verdict Refusal) → AreShort program log schedule
-      → IsReplay program log schedule x
+      → Replays (program ∷ log ∷ schedule ∷ []) x
       → IsStatus status (number_of (outcome_status verdict_status x))
   -- no others, but for devices and memory
   pub alone : (status ≡ 0) ⊎ (status ≡ 1) ⊎ (status ≡ 3) ⊎ (status ≡ 4) ⊎ (status ≡ 5)

@@ -1,5 +1,5 @@
 -- The moves of a lawful world are those of its plan, and they reproduce each log with its paths.
-use Rattle.std.proofs.Common.{◌≡◌, ◌∙◌, ◌++◌, true, List, sym, ap, subst}
+use Rattle.std.proofs.Common.{◌≡◌, ◌∙◌, true, List, sym, ap, subst}
 use Rattle.store_buffers.specs.tc_base.Buffers.{BufferOps}
 use Rattle.tc_code.specs.run_log.Logs.{Log}
 use Rattle.store_buffers.specs.memory_models.declared.model.Model.{Model}
@@ -11,8 +11,8 @@ use Rattle.tc_code.specs.run_log.Logs.{is_log}
 use Rattle.path_walk.specs.Fits.{Fits}
 use Rattle.path_walk.specs.Paths.{Paths, paths_of}
 use Rattle.sym_terms.specs.declared.node.Node.{Node}
-use Rattle.sym_exec.specs.Executed.{Symbolic, executed}
-use Rattle.world_moves.specs.sym_laws.Valued.{found}
+use Rattle.sym_exec.specs.Executed.{executed}
+use Rattle.path_execution.specs.declared.execution.Execution.{Execution}
 use Rattle.order_formula.specs.Worlds.{World}
 use Rattle.lawful_terms.specs.lawful_order.Lawful.{IsLawful, IsWorldOf}
 use Rattle.world_moves.specs.world_plan.Going.{IsLawfulWorld}
@@ -37,26 +37,18 @@ module _ {B : Type 0} (ops : BufferOps B) (model : Model) (bound : Binding) (cod
     lawful = subst (λ p. IsLawful s.ops.buffered s.bound s.code p (executed s.code p nodes).symbolic (executed s.code p nodes).nodes w) (sym same) l.lawful;
   }
 
-  module _ (paths : Paths) (symbolic : Symbolic) (nodes : List Node) (w : World) (d : IsDecodable ops model bound code paths symbolic nodes w) where
+  module _ (x : Execution) (w : World) (d : IsDecodable ops model bound code x w) where
     abbrev its : Setting B
     its = setting_of ops model bound code d.log d.laws d.code_is d.log_is
 
-    -- a fact on the log's paths, their execution and its terms holds for the decoded ones
-    pub of_found : (C : Paths → Symbolic → List Node → Type 0)
-        → C (paths_of code d.log) (found code d.log d.first).symbolic ((found code d.log d.first).nodes ++ d.more) → C paths symbolic nodes
-    of_found C of_log =
-        subst (λ p. C p symbolic nodes) (sym d.paths_are)
-        (subst (λ s. C (paths_of code d.log) s nodes) (sym d.symbolic_is)
-        (subst (λ ns. C (paths_of code d.log) (found code d.log d.first).symbolic ns) (sym d.nodes_are) of_log))
-
-    pub moves_are : moves_of ops.buffered bound paths symbolic nodes w ≡ moves_for bound (plan ops.buffered code paths w)
+    pub moves_are : moves_of ops.buffered bound x w ≡ moves_for bound (plan ops.buffered code x.paths w)
     moves_are =
-        of_found (λ p s ns. moves_of ops.buffered bound p s ns w ≡ moves_for bound (plan ops.buffered code p w))
+        subst (λ (y : Execution). moves_of ops.buffered bound y w ≡ moves_for bound (plan ops.buffered code y.paths w)) (sym d.is)
         (plan_made its d.first d.more w d.lawful (given its d.first w d.lawful)).moves
 
-    pub reproduce_all : (log : Log) → is_log log ≡ true → Fits code log → paths_of code log ≡ paths
-        → Reproduces ops code log (moves_for bound (plan ops.buffered code paths w))
+    pub reproduce_all : (log : Log) → is_log log ≡ true → Fits code log → paths_of code log ≡ x.paths
+        → Reproduces ops code log (moves_for bound (plan ops.buffered code x.paths w))
     reproduce_all log is fits same =
-        let l = of_paths its log is d.first w fits (same ∙ d.paths_are) d.lawful in
+        let l = of_paths its log is d.first w fits (same ∙ ap (λ (y : Execution). y.paths) d.is) d.lawful in
         subst (λ p. Reproduces ops code log (moves_for bound (plan ops.buffered code p w))) same
         (plan_reproduces (record its { log = log; log_is = is }) d.first w l (given (record its { log = log; log_is = is }) d.first w l))

@@ -25,8 +25,7 @@ use Rattle.world_moves.specs.path_laws.Deeds.{kind_of}
 use Rattle.world_moves.specs.path_laws.history.Along.{IsThread, PathThread, path_thread}
 use Rattle.sym_terms.specs.declared.node.Node.{Node}
 use Rattle.sym_exec.specs.Alone.{cell_by}
-use Rattle.sym_exec.specs.Executed.{Symbolic}
-use Rattle.world_moves.specs.sym_laws.Valued.{found}
+use Rattle.path_execution.specs.declared.execution.Execution.{Execution}
 use Rattle.plan_runs.specs.sym_steps.Next.{kind_at}
 use Rattle.order_formula.specs.Worlds.{World, position}
 use Rattle.lawful_terms.specs.lawful_order.Events.{Of, all_events, number_of, place_of}
@@ -42,6 +41,7 @@ use Rattle.plan_runs.proofs.Next.{NextIs, paths_whole}
 use Rattle.plan_runs.proofs.Steps.{kind_of_event}
 use Rattle.world_moves.specs.Moves as moves
 use Rattle.world_moves.specs.Moves.{Made, steps_of, with_moves, runs_to, event_here, past_all, last_place, own_move, drains_of, with_number, made_to}
+use Rattle.schedule_decode.specs.Decodable.{executed_with}
 use Rattle.schedule_decode.proofs.Finds.{Both, Neither, find_both}
 use Rattle.schedule_decode.proofs.Made.{IsMadeOf, made_on, others_stay}
 use Rattle.schedule_decode.proofs.Runs.{runs_on}
@@ -85,11 +85,8 @@ module _ {B : Type 0} (setting : Setting B) (nodes more : List Node) (w : World)
   abbrev paths : Paths
   paths = paths_of code log
 
-  abbrev symbolic : Symbolic
-  symbolic = (found code log nodes).symbolic
-
-  abbrev terms : List Node
-  terms = (found code log nodes).nodes ++ more
+  abbrev now : Execution
+  now = executed_with code log nodes more
 
   abbrev goes : ℕ → List Deed → ℕ → Name → List Deed
   goes m h t n = goes_on ops.buffered code paths w m h t n
@@ -168,13 +165,13 @@ module _ {B : Type 0} (setting : Setting B) (nodes more : List Node) (w : World)
           ∙ ap (λ k. moves_for bound h ++ replicate (x.step + 1 - k) (move.Run q.name)) (sym same_steps)
 
       drain_moves : (c : ℕ) → IsStoreOf setting nodes more w l t x.step c
-          → drains_of ops.buffered bound paths symbolic terms w t q.name x.step ≡ move.Drain q.name (form_of bound c) ∷ []
+          → drains_of ops.buffered bound now w t q.name x.step ≡ move.Drain q.name (form_of bound c) ∷ []
       drain_moves c s =
-          ap (λ o. option_map_or (λ d. move.Drain q.name (form_of bound (cell_by terms w.loads d)) ∷ []) o []) s.cell
+          ap (λ o. option_map_or (λ d. move.Drain q.name (form_of bound (cell_by now.terms w.loads d)) ∷ []) o []) s.cell
           ∙ ap (λ d. move.Drain q.name (form_of bound d) ∷ []) s.number
 
       abbrev written : List Move
-      written = runs_to m t q.name (x.step + 1) ++ drains_of ops.buffered bound paths symbolic terms w t q.name x.step
+      written = runs_to m t q.name (x.step + 1) ++ drains_of ops.buffered bound now w t q.name x.step
 
       pub store_made : IsMadeOf bound code log (upto ++ drains_next ops.buffered upto q.name x.step) (with_moves m t (x.step + 1) written)
       store_made =
@@ -186,7 +183,7 @@ module _ {B : Type 0} (setting : Setting B) (nodes more : List Node) (w : World)
           let its : moves_for bound (upto ++ d ∷ []) ≡ moves_for bound h ++ written =
           map-append (move_for bound) upto (d ∷ [])
           ∙ ap₂ (λ ms ns. ms ++ ns) issued_moves (sym (drain_moves c s))
-          ∙ append_assoc (moves_for bound h) (runs_to m t q.name (x.step + 1)) (drains_of ops.buffered bound paths symbolic terms w t q.name x.step) in
+          ∙ append_assoc (moves_for bound h) (runs_to m t q.name (x.step + 1)) (drains_of ops.buffered bound now w t q.name x.step) in
           subst (λ ds. IsMadeOf bound code log (upto ++ ds) (with_moves m t (x.step + 1) written)) (sym turn.3)
           (made_on bound code log setting.log_is h (upto ++ d ∷ []) m so_far t q there (x.step + 1) written its
           (omega (arith, steps_drained upto q.name q.name x.step c turn.1, reached.steps))
@@ -254,12 +251,12 @@ module _ {B : Type 0} (setting : Setting B) (nodes more : List Node) (w : World)
     -- the moves of each event are those of the plan
     pub event_made : (event : ℕ) → event ≡ number_of paths t x.step
         → IsMadeOf bound code log (with_drain ops.buffered code paths w upto q.name x)
-        (moves.with_event ops.buffered bound paths symbolic terms w m event t q x)
+        (moves.with_event ops.buffered bound now w m event t q x)
     event_made event is = by (is_pending ops.buffered x) refl
       where
         stored : Made
         stored =
-            with_moves m t (x.step + 1) (runs_to m t q.name (x.step + 1) ++ drains_of ops.buffered bound paths symbolic terms w t q.name x.step)
+            with_moves m t (x.step + 1) (runs_to m t q.name (x.step + 1) ++ drains_of ops.buffered bound now w t q.name x.step)
 
         stepped : Made
         stepped = with_moves m t (x.step + 1) (runs_to m t q.name x.step ++ own_move paths w event q.name x.kind ∷ [])
@@ -275,7 +272,7 @@ module _ {B : Type 0} (setting : Setting B) (nodes more : List Node) (w : World)
     deeds p = up_to ops.buffered code paths w p
 
     abbrev made : ℕ → Made
-    made p = made_to ops.buffered bound paths symbolic terms w p
+    made p = made_to ops.buffered bound now w p
 
     pub made_up_to : (p : ℕ) → p ≤ end → IsMadeOf bound code log (deeds p) (made p)
     made_up_to zero low = record {
@@ -289,7 +286,7 @@ module _ {B : Type 0} (setting : Setting B) (nodes more : List Node) (w : World)
         deeds_by o = option_map_or (with_event ops.buffered code paths w (deeds p)) o (deeds p)
 
         made_by : Option (ℕ × Of Event) → Made
-        made_by o = option_map_or (with_number ops.buffered bound paths symbolic terms w (made p)) o (made p)
+        made_by o = option_map_or (with_number ops.buffered bound now w (made p)) o (made p)
 
         walk_deeds : Of Event → Option Walk → List Deed
         walk_deeds e o =
@@ -297,11 +294,11 @@ module _ {B : Type 0} (setting : Setting B) (nodes more : List Node) (w : World)
             q.name e.it) o (deeds p)
 
         walk_made : ℕ → Of Event → Option Walk → Made
-        walk_made i e o = option_map_or (λ (q : Walk). moves.with_event ops.buffered bound paths symbolic terms w (made p) i e.thread q e.it) o (made p)
+        walk_made i e o = option_map_or (λ (q : Walk). moves.with_event ops.buffered bound now w (made p) i e.thread q e.it) o (made p)
 
         one : (i : ℕ) (e : Of Event) → At p i e → IsMadeOf bound code log (deeds p) (made p)
             → IsMadeOf bound code log (with_event ops.buffered code paths w (deeds p) e)
-            (with_number ops.buffered bound paths symbolic terms w (made p) (0 + i, e))
+            (with_number ops.buffered bound now w (made p) (0 + i, e))
         one i e at so_far =
             let whole = paths_whole setting nodes w l in
             let a = event_at_is paths w l.world l.of.events whole p e at.plain in

@@ -24,8 +24,8 @@ use Rattle.path_walk.specs.declared.event.Event.{Event}
 use Rattle.path_walk.specs.declared.event.EventKind.TheVariants as kind
 use Rattle.world_moves.specs.path_laws.Setting.{Setting}
 use Rattle.world_moves.specs.path_laws.history.Along.{AllAreThere, PathThread, path_thread}
-use Rattle.sym_exec.specs.Executed.{Symbolic, has_failed}
-use Rattle.world_moves.specs.sym_laws.Valued.{found}
+use Rattle.sym_exec.specs.Executed.{has_failed}
+use Rattle.path_execution.specs.declared.execution.Execution.{Execution}
 use Rattle.plan_runs.specs.sym_steps.Next.{kind_at}
 use Rattle.sym_terms.specs.declared.node.Node.{Node}
 use Rattle.world_moves.proofs.order_events.Lists.{in_front, in_back, of_filter}
@@ -46,6 +46,7 @@ use Rattle.plan_runs.proofs.Next as next
 use Rattle.plan_runs.proofs.Next.{NextIs, next_is}
 use Rattle.plan_runs.proofs.Rest.{few, quiet_unless, come, all_threads, first_rest}
 use Rattle.plan_runs.proofs.Steps.{Step, QuietAt, quiet_goes, one_more}
+use Rattle.schedule_decode.specs.Decodable.{executed_with}
 use Rattle.schedule_decode.proofs.Events.{same_end, made_up_to}
 use Rattle.schedule_decode.proofs.Made.{IsMadeOf, made_on, others_stay}
 use Rattle.schedule_decode.proofs.Runs.{own_run}
@@ -305,21 +306,18 @@ module _ {B : Type 0} (setting : Setting B) (nodes more : List Node) (w : World)
         (sym (fold-append planned before (filter (λ t. not (is_failing paths t)) range) (filter (is_failing paths) range)))
         (last_made log.failing refl)
 
-  abbrev symbolic : Symbolic
-  symbolic = (found code log nodes).symbolic
-
-  abbrev terms : List Node
-  terms = (found code log nodes).nodes ++ more
+  abbrev now : Execution
+  now = executed_with code log nodes more
 
   abbrev made_at : ℕ → Made
-  made_at p = made_to ops.buffered bound paths symbolic terms w p
+  made_at p = made_to ops.buffered bound now w p
 
   pub gone_to : (p : ℕ) → p ≤ last → Gone setting nodes w p (up_to ops.buffered code paths w p)
   gone_to =
       gone_up_to setting nodes w l g last (λ t q x there i. none_before setting nodes w l t q x there i)
 
   -- the moves of the whole plan are made
-  pub plan_made : IsMade (plan.plan ops.buffered code paths w) (spec.made ops.buffered bound paths symbolic terms w)
+  pub plan_made : IsMade (plan.plan ops.buffered code paths w) (spec.made ops.buffered bound now w)
   plan_made =
       whole_made (made_at (last_place paths w))
       (subst (λ p. IsMade before (made_at p)) (sym (same_end setting nodes more w l g))

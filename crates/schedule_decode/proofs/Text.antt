@@ -22,15 +22,14 @@ use Rattle.tc_code.specs.Code.{Code}
 use Rattle.store_buffers.specs.Laws.{model_of}
 use Rattle.store_buffers.specs.Pending.{Binding, form_of}
 use Rattle.schedule_file.specs.Schedules.{is_name, is_move, HaveText}
-use Rattle.path_walk.specs.Paths.{Walk, Paths}
+use Rattle.path_walk.specs.Paths.{Walk, paths_of}
 use Rattle.path_walk.specs.declared.event.Event.{Event}
 use Rattle.path_walk.specs.declared.event.EventKind.{EventKind}
 use Rattle.path_walk.specs.declared.event.EventKind.TheVariants as kind
 use Rattle.path_walk.specs.declared.event.Sleep.{Sleep}
-use Rattle.sym_terms.specs.declared.node.Node.{Node}
 use Rattle.sym_exec.specs.Alone.{cell_by}
-use Rattle.sym_exec.specs.Executed.{Symbolic}
 use Rattle.sym_exec.specs.declared.symbolic.Cell.{Cell}
+use Rattle.path_execution.specs.declared.execution.Execution.{Execution}
 use Rattle.order_formula.specs.Worlds.{World, is_ended}
 use Rattle.lawful_terms.specs.lawful_order.Events.{Of, all_events, all_sleeps}
 use Rattle.lawful_terms.specs.lawful_order.Memory.{cell_of, is_store}
@@ -110,54 +109,54 @@ drain_fits binds false n c is named less = absurd (false≢true is)
 drain_fits true true n c is named less = named
 drain_fits false true n c is named less = and_from (is_name n) (nat_lt c CELLS) named (lt-ltb c CELLS less)
 
-module _ (buffered : Bool) (bound : Binding) (code : Code) (paths : Paths) (symbolic : Symbolic) (nodes : List Node) (w : World)
-    (room : HaveRoom paths) (cells : length code.memory ≤ CELLS) where
+module _ (buffered : Bool) (bound : Binding) (code : Code) (x : Execution) (w : World) (room : HaveRoom x.paths)
+    (cells : length code.memory ≤ CELLS) where
   abbrev model : Model
   model = model_of buffered bound
 
   abbrev Fits : ℕ → Made → Type 0
   Fits most m = HasText model most m.moves
 
-  named : (t : ℕ) (q : Walk) → slice_get paths.threads t ≡ Some q → is_name q.name ≡ true
-  named t q at = of_all (λ (v : Walk). IsTrue (is_name v.name)) paths.threads room.names t q at
+  named : (t : ℕ) (q : Walk) → slice_get x.paths.threads t ≡ Some q → is_name q.name ≡ true
+  named t q at = of_all (λ (v : Walk). IsTrue (is_name v.name)) x.paths.threads room.names t q at
 
   -- a woken thread is one of the paths
-  woken_named : (event : ℕ) (u : Name) → woken_by paths w event ≡ Some u → is_name u ≡ true
-  woken_named event u woken = by (find (λ (s : ℕ × Of Sleep). is_ended w s.0 event) (enumerate_from 0 (all_sleeps paths))) woken
+  woken_named : (event : ℕ) (u : Name) → woken_by x.paths w event ≡ Some u → is_name u ≡ true
+  woken_named event u woken = by (find (λ (s : ℕ × Of Sleep). is_ended w s.0 event) (enumerate_from 0 (all_sleeps x.paths))) woken
     where
-      of_walk : (t : ℕ) (o : Option Walk) → slice_get paths.threads t ≡ o → option_map (λ (q : Walk). q.name) o ≡ Some u → is_name u ≡ true
+      of_walk : (t : ℕ) (o : Option Walk) → slice_get x.paths.threads t ≡ o → option_map (λ (q : Walk). q.name) o ≡ Some u → is_name u ≡ true
       of_walk t None none is = absurd (none-some u is)
       of_walk t (Some q) at is = subst (λ n. is_name n ≡ true) (same_Some q.name u is) (named t q at)
 
       by : (o : Option (ℕ × Of Sleep))
-          → option_and_then (λ (s : ℕ × Of Sleep). option_map (λ (q : Walk). q.name) (slice_get paths.threads s.1.thread)) o ≡ Some u → is_name u ≡ true
+          → option_and_then (λ (s : ℕ × Of Sleep). option_map (λ (q : Walk). q.name) (slice_get x.paths.threads s.1.thread)) o ≡ Some u → is_name u ≡ true
       by None is = absurd (none-some u is)
-      by (Some s) is = of_walk s.1.thread (slice_get paths.threads s.1.thread) refl is
+      by (Some s) is = of_walk s.1.thread (slice_get x.paths.threads s.1.thread) refl is
 
-  own_fits : (event : ℕ) (n : Name) → is_name n ≡ true → (k : EventKind) → is_move model (own_move paths w event n k) ≡ true
-  own_fits event n is (kind.Signal c) = by (woken_by paths w event) refl
+  own_fits : (event : ℕ) (n : Name) → is_name n ≡ true → (k : EventKind) → is_move model (own_move x.paths w event n k) ≡ true
+  own_fits event n is (kind.Signal c) = by (woken_by x.paths w event) refl
     where
-      by : (o : Option Name) → woken_by paths w event ≡ o → is_move model (option_map_or (move.Wake n) o (move.Run n)) ≡ true
+      by : (o : Option Name) → woken_by x.paths w event ≡ o → is_move model (option_map_or (move.Wake n) o (move.Run n)) ≡ true
       by None none = is
       by (Some u) woken = and_from (is_name n) (is_name u) is (woken_named event u woken)
   own_fits event n is k = is
 
-  drains_fit : (t : ℕ) (n : Name) (k : ℕ) → is_name n ≡ true → buffered ≡ true → IfSome (cell_of symbolic t k) (IsOfMemory code nodes w)
-      → HasText model 1 (drains_of buffered bound paths symbolic nodes w t n k)
-  drains_fit t n k is waits in_memory = by (cell_of symbolic t k) in_memory
+  drains_fit : (t : ℕ) (n : Name) (k : ℕ) → is_name n ≡ true → buffered ≡ true → IfSome (cell_of x.symbolic t k) (IsOfMemory code x.terms w)
+      → HasText model 1 (drains_of buffered bound x w t n k)
+  drains_fit t n k is waits in_memory = by (cell_of x.symbolic t k) in_memory
     where
-      by : (o : Option Cell) → IfSome o (IsOfMemory code nodes w)
-          → HasText model 1 (option_map_or (λ c. move.Drain n (form_of bound (cell_by nodes w.loads c)) ∷ []) o [])
+      by : (o : Option Cell) → IfSome o (IsOfMemory code x.terms w)
+          → HasText model 1 (option_map_or (λ c. move.Drain n (form_of bound (cell_by x.terms w.loads c)) ∷ []) o [])
       by None m = no_text model 1
       by (Some c) m =
-          one_text model (move.Drain n (form_of bound (cell_by nodes w.loads c)))
-          (drain_fits (bound false false) buffered n (cell_by nodes w.loads c) waits is (omega (arith, m.number, cells)))
+          one_text model (move.Drain n (form_of bound (cell_by x.terms w.loads c)))
+          (drain_fits (bound false false) buffered n (cell_by x.terms w.loads c) waits is (omega (arith, m.number, cells)))
 
   -- An event's moves.
-  event_fits : (p : ℕ) (e : ℕ × Of Event) → IsKnown buffered code paths symbolic nodes w p e → (most : ℕ) (m : Made) → Fits most m
-      → Fits (most + 65536) (with_number buffered bound paths symbolic nodes w m e)
+  event_fits : (p : ℕ) (e : ℕ × Of Event) → IsKnown buffered code x w p e → (most : ℕ) (m : Made) → Fits most m
+      → Fits (most + 65536) (with_number buffered bound x w m e)
   event_fits p e k most m fits =
-      subst (λ o. Fits (most + 65536) (option_map_or (λ (q : Walk). with_event buffered bound paths symbolic nodes w m e.0 t q e.1.it) o m)) (sym k.there)
+      subst (λ o. Fits (most + 65536) (option_map_or (λ (q : Walk). with_event buffered bound x w m e.0 t q e.1.it) o m)) (sym k.there)
       (by (buffered && is_store e.1.it.kind) refl)
     where
       t : ℕ
@@ -166,69 +165,69 @@ module _ (buffered : Bool) (bound : Binding) (code : Code) (paths : Paths) (symb
       n : Name
       n = k.walk.name
 
-      x : ℕ
-      x = e.1.it.step
+      step : ℕ
+      step = e.1.it.step
 
       is : is_name k.walk.name ≡ true
       is = named t k.walk k.there
 
       low : e.1.it.step + 1 ≤ 65535
-      low = let steps = of_all (λ (q : Walk). length q.places ≤ STEPS) paths.threads room.steps t k.walk k.there in omega (arith, k.step, steps)
+      low = let steps = of_all (λ (q : Walk). length q.places ≤ STEPS) x.paths.threads room.steps t k.walk k.there in omega (arith, k.step, steps)
 
       by : (b : Bool) → (buffered && is_store e.1.it.kind) ≡ b
           → Fits (most + 65536) (cond b
-          (with_moves m t (x + 1) (runs_to m t n (x + 1) ++ drains_of buffered bound paths symbolic nodes w t n x))
-          (with_moves m t (x + 1) (runs_to m t n x ++ own_move paths w e.0 n e.1.it.kind ∷ [])))
+          (with_moves m t (step + 1) (runs_to m t n (step + 1) ++ drains_of buffered bound x w t n step))
+          (with_moves m t (step + 1) (runs_to m t n step ++ own_move x.paths w e.0 n e.1.it.kind ∷ [])))
       by true waits =
-          let runs = runs_text model n is (x + 1 - steps_of m t) in
-          let drains = drains_fit t n x is (and_parts buffered (is_store e.1.it.kind) waits).0 (k.cell waits) in
-          let last = both_text model (x + 1 - steps_of m t) 1 _ _ runs drains in
-          more_text model (most + (x + 1 - steps_of m t + 1)) (most + 65536) _ (omega (arith, low))
-          (both_text model most (x + 1 - steps_of m t + 1) m.moves _ fits last)
+          let runs = runs_text model n is (step + 1 - steps_of m t) in
+          let drains = drains_fit t n step is (and_parts buffered (is_store e.1.it.kind) waits).0 (k.cell waits) in
+          let last = both_text model (step + 1 - steps_of m t) 1 _ _ runs drains in
+          more_text model (most + (step + 1 - steps_of m t + 1)) (most + 65536) _ (omega (arith, low))
+          (both_text model most (step + 1 - steps_of m t + 1) m.moves _ fits last)
       by false now =
-          let runs = runs_text model n is (x - steps_of m t) in
-          let own = one_text model (own_move paths w e.0 n e.1.it.kind) (own_fits e.0 n is e.1.it.kind) in
-          let last = both_text model (x - steps_of m t) 1 _ _ runs own in
-          more_text model (most + (x - steps_of m t + 1)) (most + 65536) _ (omega (arith, low))
-          (both_text model most (x - steps_of m t + 1) m.moves _ fits last)
+          let runs = runs_text model n is (step - steps_of m t) in
+          let own = one_text model (own_move x.paths w e.0 n e.1.it.kind) (own_fits e.0 n is e.1.it.kind) in
+          let last = both_text model (step - steps_of m t) 1 _ _ runs own in
+          more_text model (most + (step - steps_of m t + 1)) (most + 65536) _ (omega (arith, low))
+          (both_text model most (step - steps_of m t + 1) m.moves _ fits last)
 
   -- The rest of a thread's path.
-  rest_fits : (most : ℕ) (m : Made) → Fits most m → (t : ℕ) → Fits (most + 65535) (with_rest paths m t)
-  rest_fits most m fits t = by (slice_get paths.threads t) refl
+  rest_fits : (most : ℕ) (m : Made) → Fits most m → (t : ℕ) → Fits (most + 65535) (with_rest x.paths m t)
+  rest_fits most m fits t = by (slice_get x.paths.threads t) refl
     where
-      by : (o : Option Walk) → slice_get paths.threads t ≡ o
+      by : (o : Option Walk) → slice_get x.paths.threads t ≡ o
           → Fits (most + 65535) (option_map_or (λ (q : Walk). with_moves m t (length q.places) (runs_to m t q.name (length q.places))) o m)
       by None none = more_text model most (most + 65535) m.moves (omega arith) fits
       by (Some q) at =
-          let steps = of_all (λ (v : Walk). length v.places ≤ STEPS) paths.threads room.steps t q at in
+          let steps = of_all (λ (v : Walk). length v.places ≤ STEPS) x.paths.threads room.steps t q at in
           let runs = runs_text model q.name (named t q at) (length q.places - steps_of m t) in
           more_text model (most + (length q.places - steps_of m t)) (most + 65535) _ (omega (arith, steps))
           (both_text model most (length q.places - steps_of m t) m.moves _ fits runs)
 
-  passing_fits : (most : ℕ) (m : Made) → Fits most m → (t : ℕ) → Fits (most + 65535) (with_passing paths m t)
-  passing_fits most m fits t = by (is_failing paths t) (rest_fits most m fits t)
+  passing_fits : (most : ℕ) (m : Made) → Fits most m → (t : ℕ) → Fits (most + 65535) (with_passing x.paths m t)
+  passing_fits most m fits t = by (is_failing x.paths t) (rest_fits most m fits t)
     where
-      by : (b : Bool) → Fits (most + 65535) (with_rest paths m t) → Fits (most + 65535) (cond b m (with_rest paths m t))
+      by : (b : Bool) → Fits (most + 65535) (with_rest x.paths m t) → Fits (most + 65535) (cond b m (with_rest x.paths m t))
       by true rest = more_text model most (most + 65535) m.moves (omega arith) fits
       by false rest = rest
 
-  all_fit : (ts : List ℕ) (most : ℕ) (m : Made) → Fits most m → Fits (most + length ts * 65535) (fold (with_passing paths) m ts)
+  all_fit : (ts : List ℕ) (most : ℕ) (m : Made) → Fits most m → Fits (most + length ts * 65535) (fold (with_passing x.paths) m ts)
   all_fit [] most m fits = more_text model most (most + 0 * 65535) m.moves (omega arith) fits
   all_fit (t ∷ ts) most m fits =
-      let rest = all_fit ts (most + 65535) (with_passing paths m t) (passing_fits most m fits t) in
+      let rest = all_fit ts (most + 65535) (with_passing x.paths m t) (passing_fits most m fits t) in
       more_text model (most + 65535 + length ts * 65535) (most + length (t ∷ ts) * 65535) _ (omega arith) rest
 
   -- The whole schedule.
-  module _ (known : AreKnown buffered code paths symbolic nodes w) (many : length w.positions ≤ EVENTS) where
-    events_fit : (p : ℕ) → p ≤ last_place paths w → Fits (below p w.positions * 65536) (made_to buffered bound paths symbolic nodes w p)
+  module _ (known : AreKnown buffered code x w) (many : length w.positions ≤ EVENTS) where
+    events_fit : (p : ℕ) → p ≤ last_place x.paths w → Fits (below p w.positions * 65536) (made_to buffered bound x w p)
     events_fit zero low = no_text model (below 0 w.positions * 65536)
-    events_fit (suc p) low = by (event_here paths w p) refl (events_fit p (omega (arith, low)))
+    events_fit (suc p) low = by (event_here x.paths w p) refl (events_fit p (omega (arith, low)))
       where
         m : Made
-        m = made_to buffered bound paths symbolic nodes w p
+        m = made_to buffered bound x w p
 
-        by : (o : Option (ℕ × Of Event)) → event_here paths w p ≡ o → Fits (below p w.positions * 65536) m
-            → Fits (below (suc p) w.positions * 65536) (option_map_or (with_number buffered bound paths symbolic nodes w m) o m)
+        by : (o : Option (ℕ × Of Event)) → event_here x.paths w p ≡ o → Fits (below p w.positions * 65536) m
+            → Fits (below (suc p) w.positions * 65536) (option_map_or (with_number buffered bound x w m) o m)
         by None none fits =
             let rises = below_rises p w.positions in
             more_text model (below p w.positions * 65536) (below (suc p) w.positions * 65536) m.moves (omega (arith, rises)) fits
@@ -238,39 +237,39 @@ module _ (buffered : Bool) (bound : Binding) (code : Code) (paths : Paths) (symb
             more_text model (below p w.positions * 65536 + 65536) (below (suc p) w.positions * 65536) _ (omega (arith, rises))
             (event_fits p e k (below p w.positions * 65536) m fits)
 
-    passing_made_fits : Fits (256 * 65536 + 16 * 65535) (made_passing buffered bound paths symbolic nodes w)
+    passing_made_fits : Fits (256 * 65536 + 16 * 65535) (made_passing buffered bound x w)
     passing_made_fits =
-        let end = last_place paths w in
+        let end = last_place x.paths w in
         let few = count_by-le-length (λ x. nat_lt x end) w.positions in
-        let ts = range_with_len 0 (length paths.threads) in
+        let ts = range_with_len 0 (length x.paths.threads) in
         more_text model (below end w.positions * 65536 + length ts * 65535) (256 * 65536 + 16 * 65535) _
-        (omega (arith, few, many, room.threads, length-range_with_len 0 (length paths.threads)))
-        (all_fit ts (below end w.positions * 65536) (made_to buffered bound paths symbolic nodes w end) (events_fit end (omega arith)))
+        (omega (arith, few, many, room.threads, length-range_with_len 0 (length x.paths.threads)))
+        (all_fit ts (below end w.positions * 65536) (made_to buffered bound x w end) (events_fit end (omega arith)))
 
-    made_fits : Fits (256 * 65536 + 17 * 65535) (made buffered bound paths symbolic nodes w)
-    made_fits = by (place_in paths.failing)
+    made_fits : Fits (256 * 65536 + 17 * 65535) (made buffered bound x w)
+    made_fits = by (place_in x.paths.failing)
       where
         passed : Made
-        passed = made_passing buffered bound paths symbolic nodes w
+        passed = made_passing buffered bound x w
 
-        by : (o : Option ℕ) → Fits (256 * 65536 + 17 * 65535) (option_map_or (with_rest paths passed) o passed)
+        by : (o : Option ℕ) → Fits (256 * 65536 + 17 * 65535) (option_map_or (with_rest x.paths passed) o passed)
         by None = more_text model (256 * 65536 + 16 * 65535) (256 * 65536 + 17 * 65535) passed.moves (omega arith) passing_made_fits
         by (Some t) =
             more_text model (256 * 65536 + 16 * 65535 + 65535) (256 * 65536 + 17 * 65535) _ (omega arith)
             (rest_fits (256 * 65536 + 16 * 65535) passed passing_made_fits t)
 
-    pub moves_have_text : HaveText model (moves_of buffered bound paths symbolic nodes w)
+    pub moves_have_text : HaveText model (moves_of buffered bound x w)
     moves_have_text = let m = made_fits in (omega (arith, m.few), m.each)
 
-module _ {B : Type 0} (ops : BufferOps B) (model : Model) (bound : Binding) (code : Code) (paths : Paths) (symbolic : Symbolic) (nodes : List Node)
-    (w : World) (d : IsDecodable ops model bound code paths symbolic nodes w) (room : HaveRoom paths) where
+module _ {B : Type 0} (ops : BufferOps B) (model : Model) (bound : Binding) (code : Code) (x : Execution) (w : World)
+    (d : IsDecodable ops model bound code x w) (room : HaveRoom x.paths) where
   few_events : length w.positions ≤ EVENTS
   few_events =
-      let same = ap (λ p. length (all_events p)) d.paths_are in
+      let same : length (all_events x.paths) ≡ length (all_events (paths_of code d.log)) = ap (λ (y : Execution). length (all_events y.paths)) d.is in
       omega (arith, d.lawful.of.events, same, room.events)
 
-  pub have_text : HaveText model (moves_of ops.buffered bound paths symbolic nodes w)
+  pub have_text : HaveText model (moves_of ops.buffered bound x w)
   have_text =
-      subst (λ m. HaveText m (moves_of ops.buffered bound paths symbolic nodes w)) (sym d.laws.form_law)
-      (moves_have_text ops.buffered bound code paths symbolic nodes w room d.code_is.cells
-      (all_known ops model bound code paths symbolic nodes w d) few_events)
+      subst (λ m. HaveText m (moves_of ops.buffered bound x w)) (sym d.laws.form_law)
+      (moves_have_text ops.buffered bound code x w room d.code_is.cells
+      (all_known ops model bound code x w d) few_events)

@@ -11,9 +11,8 @@ use Rattle.schedule_file.specs.Schedules.{HaveText}
 use Rattle.world_moves.specs.run_follows.Follow.{moves_for}
 use Rattle.tc_code.specs.run_log.Logs.{is_log}
 use Rattle.path_walk.specs.Fits.{Fits}
-use Rattle.path_walk.specs.Paths.{Paths, paths_of}
-use Rattle.sym_terms.specs.declared.node.Node.{Node}
-use Rattle.sym_exec.specs.Executed.{Symbolic}
+use Rattle.path_walk.specs.Paths.{paths_of}
+use Rattle.path_execution.specs.declared.execution.Execution.{Execution}
 use Rattle.order_formula.specs.Worlds.{World}
 use Rattle.world_moves.specs.world_plan.Plan.{plan}
 use Rattle.world_moves.specs.Moves.{moves_of}
@@ -23,25 +22,25 @@ use Rattle.schedule_decode.proofs.Decoded.{moves_are, reproduce_all}
 use Rattle.schedule_decode.proofs.Tellable.{are_tellable}
 use Rattle.schedule_decode.proofs.Text.{have_text}
 
-module _ {B : Type 0} (ops : BufferOps B) (model : Model) (bound : Binding) (code : Code) (paths : Paths) (symbolic : Symbolic) (nodes : List Node)
-    (w : World) (d : IsDecodable ops model bound code paths symbolic nodes w) (buffered : Bool) (same : buffered ≡ ops.buffered) where
-  pub tellable : HaveRoom paths → AreTellable buffered paths symbolic nodes w
+module _ {B : Type 0} (ops : BufferOps B) (model : Model) (bound : Binding) (code : Code) (x : Execution) (w : World)
+    (d : IsDecodable ops model bound code x w) (buffered : Bool) (same : buffered ≡ ops.buffered) where
+  pub tellable : HaveRoom x.paths → AreTellable buffered x w
   tellable room =
-      subst (λ b. AreTellable b paths symbolic nodes w) (sym same) (are_tellable ops model bound code paths symbolic nodes w d room)
+      subst (λ b. AreTellable b x w) (sym same) (are_tellable ops model bound code x w d room)
 
-  module _ (moves : List Move) (told : moves ≡ moves_of buffered bound paths symbolic nodes w) where
-    told_by : moves ≡ moves_of ops.buffered bound paths symbolic nodes w
-    told_by = told ∙ ap (λ b. moves_of b bound paths symbolic nodes w) same
+  module _ (moves : List Move) (told : moves ≡ moves_of buffered bound x w) where
+    told_by : moves ≡ moves_of ops.buffered bound x w
+    told_by = told ∙ ap (λ b. moves_of b bound x w) same
 
-    by_plan : moves ≡ moves_for bound (plan ops.buffered code paths w)
-    by_plan = told_by ∙ moves_are ops model bound code paths symbolic nodes w d
+    by_plan : moves ≡ moves_for bound (plan ops.buffered code x.paths w)
+    by_plan = told_by ∙ moves_are ops model bound code x w d
 
-    pub planned : moves ≡ moves_for bound (plan buffered code paths w)
-    planned = by_plan ∙ ap (λ b. moves_for bound (plan b code paths w)) (sym same)
+    pub planned : moves ≡ moves_for bound (plan buffered code x.paths w)
+    planned = by_plan ∙ ap (λ b. moves_for bound (plan b code x.paths w)) (sym same)
 
-    pub text : HaveRoom paths → (named : Model) → named ≡ model → HaveText named moves
+    pub text : HaveRoom x.paths → (named : Model) → named ≡ model → HaveText named moves
     text room named is =
-        subst (λ m. HaveText m moves) (sym is) (subst (HaveText model) (sym told_by) (have_text ops model bound code paths symbolic nodes w d room))
+        subst (λ m. HaveText m moves) (sym is) (subst (HaveText model) (sym told_by) (have_text ops model bound code x w d room))
 
-    pub reproduces : (log : Log) → is_log log ≡ true → Fits code log → paths_of code log ≡ paths → Reproduces ops code log moves
-    reproduces log is fits of = subst (Reproduces ops code log) (sym by_plan) (reproduce_all ops model bound code paths symbolic nodes w d log is fits of)
+    pub reproduces : (log : Log) → is_log log ≡ true → Fits code log → paths_of code log ≡ x.paths → Reproduces ops code log moves
+    reproduces log is fits of = subst (Reproduces ops code log) (sym by_plan) (reproduce_all ops model bound code x w d log is fits of)

@@ -13,7 +13,7 @@ use Rattle.schedule_file.specs.Schedules.{is_name}
 use Rattle.path_walk.specs.Paths.{Paths, paths_of}
 use Rattle.world_moves.specs.path_laws.Setting.{setting_of}
 use Rattle.sym_terms.specs.declared.node.Node.{Node}
-use Rattle.sym_exec.specs.Executed.{Symbolic}
+use Rattle.path_execution.specs.declared.execution.Execution.{Execution}
 use Rattle.world_moves.specs.sym_laws.Valued.{found}
 use Rattle.order_formula.specs.Worlds.{World}
 use Rattle.lawful_terms.specs.lawful_order.Events.{all_events}
@@ -26,17 +26,23 @@ pub record HaveRoom (paths : Paths) : Type 0 where
   pub names : All (λ q. IsTrue (is_name q.name)) paths.threads
   pub events : length (all_events paths) ≤ EVENTS
 
--- a lawful world of a log's paths; `symbolic` and the first of `nodes` come from their execution
+-- the paths of a log, executed over terms, with more terms added later
+abbrev pub executed_with : Code → Log → (first more : List Node) → Execution
+executed_with code log first more = record {
+  paths = paths_of code log;
+  symbolic = (found code log first).symbolic;
+  terms = (found code log first).nodes ++ more;
+}
+
+-- a lawful world of the executed paths of some log
 pub record IsDecodable {B : Type 0} (ops : BufferOps B) (model : Model) (bound : Binding)
-    (code : Code) (paths : Paths) (symbolic : Symbolic)
-    (nodes : List Node) (w : World) : Type 0 where
+    (code : Code) (x : Execution) (w : World)
+    : Type 0 where
   pub laws : Laws ops model bound
   pub code_is : IsLawful code
   pub log : Log
   pub log_is : is_log log ≡ true
   pub first : List Node
   pub more : List Node
-  pub paths_are : paths ≡ paths_of code log
-  pub symbolic_is : symbolic ≡ (found code log first).symbolic
-  pub nodes_are : nodes ≡ (found code log first).nodes ++ more
+  pub is : x ≡ executed_with code log first more
   pub lawful : IsLawfulWorld (setting_of ops model bound code log laws code_is log_is) first w

@@ -10,12 +10,10 @@ ghost use Rattle.world_moves.specs.world_plan.Plan.{plan};
 ghost use Rattle.schedule_decode.specs.Decodable.{HaveRoom, IsDecodable};
 
 use order_formula::World;
-use path_walk::Paths;
+use path_execution::Execution;
 use schedule_file::Schedule;
 use std::alloc::{AllocError, Global};
 use store_buffers::MemoryModel;
-use sym_exec::Symbolic;
-use sym_terms::Terms;
 use tc_code::Code;
 use world_moves::moves_of;
 
@@ -26,20 +24,18 @@ use world_moves::moves_of;
 pub fn decode<M: MemoryModel>(
     alloc: Global,
     code: &Code,
-    paths: &Paths,
-    symbolic: &Symbolic,
-    terms: &Terms,
+    execution: &Execution,
     world: &World,
 ) -> Result<Schedule, AllocError>
-    requires lawful { IsDecodable M.ops M.MODEL M.bound code.now paths.now symbolic.now terms.now world.now }
-    requires room { HaveRoom paths.now }
+    requires lawful { IsDecodable M.ops M.MODEL M.bound code.now execution.now world.now }
+    requires room { HaveRoom execution.now.paths }
     ensures model { IfOk result (λ schedule. schedule.model ≡ M.MODEL) }
-    ensures moves { IfOk result (λ schedule. schedule.moves.items ≡ moves_for M.bound (plan M.BUFFERED code.now paths.now world.now)) }
-    ensures reproduces { IfOk result (λ schedule. (log : Log) → is_log log ≡ true → Fits code.now log → paths_of code.now log ≡ paths.now
+    ensures moves { IfOk result (λ schedule. schedule.moves.items ≡ moves_for M.bound (plan M.BUFFERED code.now execution.now.paths world.now)) }
+    ensures reproduces { IfOk result (λ schedule. (log : Log) → is_log log ≡ true → Fits code.now log → paths_of code.now log ≡ execution.now.paths
         → Reproduces M.ops code.now log schedule.moves.items) }
 {
     Ok(Schedule {
         model: M::MODEL,
-        moves: moves_of::<M>(alloc, paths, symbolic, terms, world)?,
+        moves: moves_of::<M>(alloc, execution, world)?,
     })
 }

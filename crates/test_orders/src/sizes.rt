@@ -8,7 +8,8 @@ use std::mem::drop;
 pub(crate) fn formula(alloc: Global, given: &str) -> Result<String> {
     let (model, given) = split(given)?;
     let system = system(alloc, model, given)?;
-    let (events, loads) = (system.paths().events(), system.symbolic().loads());
+    let execution = system.execution();
+    let (events, loads) = (execution.paths.events(), execution.symbolic.loads());
     let conjuncts = system.formula().conjuncts().len();
     drop(system);
     Ok(format!(in alloc; "{events} events, {loads} loads, {conjuncts} conjuncts")?)

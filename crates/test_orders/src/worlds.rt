@@ -53,10 +53,10 @@ fn is_lawful(alloc: Global, system: &System, words: Words) -> Result<bool> {
 
 /// The world of words.
 fn world(alloc: Global, system: &System, words: Words) -> Result<World> {
-    let names = Names::of(alloc, system.paths())?;
+    let names = Names::of(alloc, &system.execution().paths)?;
     let places = names.places(alloc, words.order)?;
     let loads = numbers_of(alloc, words.loads)?;
-    if loads.len() != system.symbolic().loads() as usize {
+    if loads.len() != system.execution().symbolic.loads() as usize {
         bail!("not the loads of the log");
     }
     let enders = names.enders(alloc, words.enders)?;

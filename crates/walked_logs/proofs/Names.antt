@@ -34,20 +34,14 @@ none_below [] (k ∷ ks) e = let never : Greater ≡ Less = e in cc
 none_below (x ∷ n) ks e =
     none_below n ks (sym (ap (λ o. ordering_then o (by_name (n ++ ks) n)) (tied_itself nat_cmp_total x)) ∙ e)
 
--- two names of children are of one parent, with one number
-last_of_two : (a b : ℕ) (xs : List ℕ) → a ∷ [] ≡ b ∷ xs → (a ≡ b) × ([] ≡ xs)
-last_of_two a b xs e = (cc, cc)
-
 parts : (a b : ℕ) (xs ys : List ℕ) → a ∷ xs ≡ b ∷ ys → (a ≡ b) × (xs ≡ ys)
 parts a b xs ys e = (cc, cc)
-
-not_nil : (x : ℕ) (n : Name) (k : ℕ) → [] ≡ x ∷ child n k → ⊥
-not_nil x n k e = absurd cc
 
 pub child_not_nil : (n : Name) (k : ℕ) → [] ≡ child n k → ⊥
 child_not_nil [] k e = absurd cc
 child_not_nil (x ∷ n) k e = absurd cc
 
+-- two names of children are of one parent, with one number
 pub same_child : (m n : Name) (j k : ℕ) → child m j ≡ child n k → (m ≡ n) × (j ≡ k)
 same_child [] [] j k e = (refl, (parts j k [] [] e).0)
 same_child [] (y ∷ n) j k e = absurd (child_not_nil n k (parts j y [] (child n k) e).1)

@@ -12,9 +12,8 @@ use Rattle.path_walk.specs.Paths.{Walk, Paths}
 use Rattle.path_walk.specs.declared.event.Event.{Event}
 use Rattle.path_walk.specs.declared.event.EventKind.{EventKind}
 use Rattle.path_walk.specs.declared.event.EventKind.TheVariants as kind
-use Rattle.sym_terms.specs.declared.node.Node.{Node}
 use Rattle.sym_exec.specs.Alone.{cell_by}
-use Rattle.sym_exec.specs.Executed.{Symbolic}
+use Rattle.path_execution.specs.declared.execution.Execution.{Execution}
 use Rattle.order_formula.specs.Worlds.{World, position}
 use Rattle.order_cells.specs.lawful_order.Events.{Of, all_events}
 use Rattle.order_cells.specs.lawful_order.Memory.{cell_of, is_store}
@@ -68,41 +67,40 @@ module _ (paths : Paths) (w : World) where
   own_move g n (kind.Signal c) = option_map_or (move.Wake n) (woken_by paths w g) (move.Run n)
   own_move g n _ = move.Run n
 
-module _ (buffered : Bool) (bound : Binding) (paths : Paths) (symbolic : Symbolic)
-    (nodes : List Node) (w : World) where
+module _ (buffered : Bool) (bound : Binding) (x : Execution) (w : World) where
   -- the drain of the store in a thread's step
   abbrev pub drains_of : (thread : ℕ) → Name → (step : ℕ) → List Move
   drains_of t n k =
-      option_map_or (λ c. move.Drain n (form_of bound (cell_by nodes w.loads c)) ∷ [])
-      (cell_of symbolic t k) []
+      option_map_or (λ c. move.Drain n (form_of bound (cell_by x.terms w.loads c)) ∷ [])
+      (cell_of x.symbolic t k) []
 
   -- appends an event: its thread's steps up to and including it, and the drain of a buffered store
   abbrev pub with_event : Made → (number thread : ℕ) → Walk → Event → Made
-  with_event m g t q x =
-      if buffered && is_store x.kind
-      then with_moves m t (x.step + 1)
-      (runs_to m t q.name (x.step + 1) ++ drains_of t q.name x.step)
-      else with_moves m t (x.step + 1)
-      (runs_to m t q.name x.step ++ own_move paths w g q.name x.kind ∷ [])
+  with_event m g t q e =
+      if buffered && is_store e.kind
+      then with_moves m t (e.step + 1)
+      (runs_to m t q.name (e.step + 1) ++ drains_of t q.name e.step)
+      else with_moves m t (e.step + 1)
+      (runs_to m t q.name e.step ++ own_move x.paths w g q.name e.kind ∷ [])
 
   abbrev pub with_number : Made → ℕ × Of Event → Made
   with_number m e =
       option_map_or (λ (q : Walk). with_event m e.0 e.1.thread q e.1.it)
-      (slice_get paths.threads e.1.thread) m
+      (slice_get x.paths.threads e.1.thread) m
 
   -- the moves for the events at the first p positions
   abbrev pub made_to : ℕ → Made
-  made_to zero = record { steps = replicate (length paths.threads) 0; moves = [] }
-  made_to (suc p) = option_map_or (with_number (made_to p)) (event_here paths w p) (made_to p)
+  made_to zero = record { steps = replicate (length x.paths.threads) 0; moves = [] }
+  made_to (suc p) = option_map_or (with_number (made_to p)) (event_here x.paths w p) (made_to p)
 
   -- then the remaining steps of all threads except the failing one, and at last of that one
   abbrev pub made_passing : Made
   made_passing =
-      fold (with_passing paths) (made_to (last_place paths w))
-      (range_with_len 0 (length paths.threads))
+      fold (with_passing x.paths) (made_to (last_place x.paths w))
+      (range_with_len 0 (length x.paths.threads))
 
   abbrev pub made : Made
-  made = option_map_or (with_rest paths made_passing) (place_in paths.failing) made_passing
+  made = option_map_or (with_rest x.paths made_passing) (place_in x.paths.failing) made_passing
 
   abbrev pub moves_of : List Move
   moves_of = made.moves

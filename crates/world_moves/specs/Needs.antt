@@ -1,12 +1,11 @@
 -- What a world's events must satisfy so that their moves can be computed.
 use Rattle.std.specs.Prelude.{◌≡◌, ◌<◌, ◌^◌, ◌+◌, ℕ, Bool, true, ◌&&◌, List, length, Some}
 use Rattle.std.specs.Option.{IfSome}
-use Rattle.path_walk.specs.Paths.{Paths}
 use Rattle.path_walk.specs.declared.event.Event.{Event}
 use Rattle.sym_terms.specs.declared.node.Node.{Node}
 use Rattle.sym_exec.specs.Alone.{cell_by}
-use Rattle.sym_exec.specs.Executed.{Symbolic}
 use Rattle.sym_exec.specs.declared.symbolic.Cell.{Cell}
+use Rattle.path_execution.specs.declared.execution.Execution.{Execution}
 use Rattle.order_formula.specs.Worlds.{World}
 use Rattle.order_cells.specs.Terms.{CellIsOf}
 use Rattle.order_cells.specs.lawful_order.Events.{Of}
@@ -19,14 +18,14 @@ pub record IsNumbered (nodes : List Node) (w : World) (c : Cell) : Type 0 where
   pub number : cell_by nodes w.loads c < 2 ^ 32
 
 -- the next step's number fits in 64 bits, and the cell of a store in a buffer is numbered
-pub record IsTellable (buffered : Bool) (symbolic : Symbolic) (nodes : List Node) (w : World)
-    (thread : ℕ) (x : Event) : Type 0 where
-  pub next : x.step + 1 < 2 ^ 64
-  pub cell : (buffered && is_store x.kind) ≡ true
-      → IfSome (cell_of symbolic thread x.step) (IsNumbered nodes w)
+pub record IsTellable (buffered : Bool) (x : Execution) (w : World) (thread : ℕ)
+    (e : Event) : Type 0 where
+  pub next : e.step + 1 < 2 ^ 64
+  pub cell : (buffered && is_store e.kind) ≡ true
+      → IfSome (cell_of x.symbolic thread e.step) (IsNumbered x.terms w)
 
 -- each event before the failing one satisfies this
-abbrev pub AreTellable : Bool → Paths → Symbolic → List Node → World → Type 0
-AreTellable buffered paths symbolic nodes w =
-    (p : ℕ) (e : ℕ × Of Event) → p < last_place paths w → event_here paths w p ≡ Some e
-    → IsTellable buffered symbolic nodes w e.1.thread e.1.it
+abbrev pub AreTellable : Bool → Execution → World → Type 0
+AreTellable buffered x w =
+    (p : ℕ) (e : ℕ × Of Event) → p < last_place x.paths w → event_here x.paths w p ≡ Some e
+    → IsTellable buffered x w e.1.thread e.1.it

@@ -1,5 +1,5 @@
 //! The moves of a lawful world.
-ghost use Rattle.std.specs.Prelude.{◌≡◌, ◌<◌, ◌≤◌, ◌+◌, ◌^◌, ◌++◌, ◌∷◌, [], fold, true, length, IfOk, OnOk};
+ghost use Rattle.std.specs.Prelude.{◌≡◌, ◌<◌, ◌≤◌, ◌+◌, ◌^◌, ◌++◌, ◌∷◌, [], fold, length, IfOk, OnOk};
 ghost use Rattle.std.specs.List.{range_with_len};
 ghost use Rattle.std.specs.Option.{IfSome, option_map_or};
 ghost use Rattle.path_walk.specs.tc_limits.declared.limits.TheConstants.{EVENTS};
@@ -15,31 +15,28 @@ use crate::events::{cell_number, cell_of, event_at, is_store, last_place, woken_
 use crate::made::Made;
 use order_events::{Events, Placed, Sleeps};
 use order_formula::World;
+use path_execution::Execution;
 use path_walk::{EventKind, Paths};
 use std::alloc::{AllocError, Global};
 use store_buffers::MemoryModel;
-use sym_exec::Symbolic;
-use sym_terms::{Terms, Values};
+use sym_terms::Values;
 use tc_base::{Failing, Move, ThreadName};
 
 /// The moves of a world under a memory model: each event of the world takes its turn, up to the
 /// failing one if there is one, and then each thread goes to the end of its path.
 pub fn moves_of<M: MemoryModel>(
     alloc: Global,
-    paths: &Paths,
-    symbolic: &Symbolic,
-    terms: &Terms,
+    execution: &Execution,
     world: &World,
 ) -> Result<Vec<Move>, AllocError>
-    requires events { length (all_events paths.now) ≤ EVENTS }
-    requires tellable { AreTellable M.BUFFERED paths.now symbolic.now terms.now world.now }
-    ensures { IfOk result (λ moves. moves.items ≡ spec.moves_of M.BUFFERED M.bound paths.now symbolic.now terms.now world.now) }
+    requires events { length (all_events execution.now.paths) ≤ EVENTS }
+    requires tellable { AreTellable M.BUFFERED execution.now world.now }
+    ensures { IfOk result (λ moves. moves.items ≡ spec.moves_of M.BUFFERED M.bound execution.now world.now) }
 {
+    let paths = &execution.paths;
     let sleeps = Sleeps::of(alloc, paths)?;
     let told = Told {
-        paths,
-        symbolic,
-        terms,
+        execution,
         world,
         sleeps: &sleeps,
     };
@@ -112,9 +109,7 @@ fn form<M: MemoryModel>(cell: u32) -> Option<u32>
 /// A world, with everything that determines its moves.
 #[derive(Clone, Copy, Debug)]
 struct Told<'a> {
-    paths: &'a Paths,
-    symbolic: &'a Symbolic,
-    terms: &'a Terms,
+    execution: &'a Execution,
     world: &'a World,
     sleeps: &'a Sleeps,
 }
@@ -122,16 +117,16 @@ struct Told<'a> {
 impl Told<'_> {
     /// The moves for the events before the failing one.
     fn events_made<M: MemoryModel>(&self, alloc: Global) -> Result<Made, AllocError>
-        requires sleeps { self.now.sleeps.now ≡ all_sleeps self.now.paths.now }
-        requires events { length (all_events self.now.paths.now) ≤ EVENTS }
-        requires tellable { AreTellable M.BUFFERED self.now.paths.now self.now.symbolic.now self.now.terms.now self.now.world.now }
-        ensures made { IfOk result (λ made. made ≡ spec.made_to M.BUFFERED M.bound self.now.paths.now self.now.symbolic.now self.now.terms.now
-            self.now.world.now (spec.last_place self.now.paths.now self.now.world.now)) }
-        ensures threads { IfOk result (λ made. length made.steps ≡ length self.now.paths.now.threads) }
+        requires sleeps { self.now.sleeps.now ≡ all_sleeps self.now.execution.now.paths }
+        requires events { length (all_events self.now.execution.now.paths) ≤ EVENTS }
+        requires tellable { AreTellable M.BUFFERED self.now.execution.now self.now.world.now }
+        ensures made { IfOk result (λ made. made ≡ spec.made_to M.BUFFERED M.bound self.now.execution.now self.now.world.now
+            (spec.last_place self.now.execution.now.paths self.now.world.now)) }
+        ensures threads { IfOk result (λ made. length made.steps ≡ length self.now.execution.now.paths.threads) }
     {
-        let events = Events::of(alloc, self.paths)?;
-        let mut values = Values::new(alloc, self.terms, self.world.loads())?;
-        let mut made = Made::nothing(alloc, self.paths.threads().len())?;
+        let events = Events::of(alloc, &self.execution.paths)?;
+        let mut values = Values::new(alloc, &self.execution.terms, self.world.loads())?;
+        let mut made = Made::nothing(alloc, self.execution.paths.threads().len())?;
         for position in 0..last_place(&events, self.world) {
             self.add_at::<M>(&mut made, &events, position, &mut values)?;
         }
@@ -146,16 +141,16 @@ impl Told<'_> {
         position: usize,
         values: &mut Values,
     ) -> Result<(), AllocError>
-        requires sleeps { self.now.sleeps.now ≡ all_sleeps self.now.paths.now }
-        requires events { events.now ≡ all_events self.now.paths.now }
-        requires threads { length made.old.steps ≡ length self.now.paths.now.threads }
-        requires tellable { AreTellable M.BUFFERED self.now.paths.now self.now.symbolic.now self.now.terms.now self.now.world.now }
-        requires before { position < spec.last_place self.now.paths.now self.now.world.now }
-        requires table { Serves self.now.terms.now self.now.world.now values.old }
-        ensures made { OnOk result (made.new ≡ option_map_or (spec.with_number M.BUFFERED M.bound self.now.paths.now self.now.symbolic.now
-            self.now.terms.now self.now.world.now made.old) (spec.event_here self.now.paths.now self.now.world.now position) made.old) }
-        ensures threads { OnOk result (length made.new.steps ≡ length self.now.paths.now.threads) }
-        ensures table { OnOk result (Serves self.now.terms.now self.now.world.now values.new) }
+        requires sleeps { self.now.sleeps.now ≡ all_sleeps self.now.execution.now.paths }
+        requires events { events.now ≡ all_events self.now.execution.now.paths }
+        requires threads { length made.old.steps ≡ length self.now.execution.now.paths.threads }
+        requires tellable { AreTellable M.BUFFERED self.now.execution.now self.now.world.now }
+        requires before { position < spec.last_place self.now.execution.now.paths self.now.world.now }
+        requires table { Serves self.now.execution.now.terms self.now.world.now values.old }
+        ensures made { OnOk result (made.new ≡ option_map_or (spec.with_number M.BUFFERED M.bound self.now.execution.now self.now.world.now made.old)
+            (spec.event_here self.now.execution.now.paths self.now.world.now position) made.old) }
+        ensures threads { OnOk result (length made.new.steps ≡ length self.now.execution.now.paths.threads) }
+        ensures table { OnOk result (Serves self.now.execution.now.terms self.now.world.now values.new) }
     {
         match event_at(events, self.world, position) {
             Some((number, placed)) => self.add_event::<M>(made, number, placed, values),
@@ -171,16 +166,16 @@ impl Told<'_> {
         placed: &Placed,
         values: &mut Values,
     ) -> Result<(), AllocError>
-        requires sleeps { self.now.sleeps.now ≡ all_sleeps self.now.paths.now }
-        requires threads { length made.old.steps ≡ length self.now.paths.now.threads }
-        requires tellable { IsTellable M.BUFFERED self.now.symbolic.now self.now.terms.now self.now.world.now placed.now.thread placed.now.it }
-        requires table { Serves self.now.terms.now self.now.world.now values.old }
-        ensures made { OnOk result (made.new ≡ spec.with_number M.BUFFERED M.bound self.now.paths.now self.now.symbolic.now self.now.terms.now
-            self.now.world.now made.old (number, placed.now)) }
-        ensures threads { OnOk result (length made.new.steps ≡ length self.now.paths.now.threads) }
-        ensures table { Serves self.now.terms.now self.now.world.now values.new }
+        requires sleeps { self.now.sleeps.now ≡ all_sleeps self.now.execution.now.paths }
+        requires threads { length made.old.steps ≡ length self.now.execution.now.paths.threads }
+        requires tellable { IsTellable M.BUFFERED self.now.execution.now self.now.world.now placed.now.thread placed.now.it }
+        requires table { Serves self.now.execution.now.terms self.now.world.now values.old }
+        ensures made { OnOk result (made.new ≡ spec.with_number M.BUFFERED M.bound self.now.execution.now self.now.world.now made.old
+            (number, placed.now)) }
+        ensures threads { OnOk result (length made.new.steps ≡ length self.now.execution.now.paths.threads) }
+        ensures table { Serves self.now.execution.now.terms self.now.world.now values.new }
     {
-        let Some(walk) = self.paths.threads().get(placed.thread) else {
+        let Some(walk) = self.execution.paths.threads().get(placed.thread) else {
             return Ok(());
         };
         if M::BUFFERED && is_store(placed.event.kind) {
@@ -200,19 +195,18 @@ impl Told<'_> {
     ) -> Result<(), AllocError>
         requires thread { placed.now.thread < length made.old.steps }
         requires next { placed.now.it.step + 1 < 2 ^ 64 }
-        requires cell { IfSome (memory.cell_of self.now.symbolic.now placed.now.thread placed.now.it.step)
-            (IsNumbered self.now.terms.now self.now.world.now) }
-        requires table { Serves self.now.terms.now self.now.world.now values.old }
+        requires cell { IfSome (memory.cell_of self.now.execution.now.symbolic placed.now.thread placed.now.it.step)
+            (IsNumbered self.now.execution.now.terms self.now.world.now) }
+        requires table { Serves self.now.execution.now.terms self.now.world.now values.old }
         ensures made { OnOk result (made.new ≡ spec.with_moves made.old placed.now.thread (placed.now.it.step + 1)
             (spec.runs_to made.old placed.now.thread name.now (placed.now.it.step + 1)
-            ++ spec.drains_of M.BUFFERED M.bound self.now.paths.now self.now.symbolic.now self.now.terms.now self.now.world.now placed.now.thread
-            name.now placed.now.it.step)) }
-        ensures table { Serves self.now.terms.now self.now.world.now values.new }
+            ++ spec.drains_of M.BUFFERED M.bound self.now.execution.now self.now.world.now placed.now.thread name.now placed.now.it.step)) }
+        ensures table { Serves self.now.execution.now.terms self.now.world.now values.new }
     {
         let step = placed.event.step;
         made.run_to(placed.thread, name, step + 1)?;
-        if let Some(cell) = cell_of(self.symbolic, placed.thread, step) {
-            let number = cell_number(self.terms, cell, self.world, values);
+        if let Some(cell) = cell_of(&self.execution.symbolic, placed.thread, step) {
+            let number = cell_number(&self.execution.terms, cell, self.world, values);
             made.push(Move::Drain(name.clone()?, form::<M>(number)))?;
         }
         made.reach(placed.thread, step + 1);
@@ -227,12 +221,12 @@ impl Told<'_> {
         placed: &Placed,
         name: &ThreadName,
     ) -> Result<(), AllocError>
-        requires sleeps { self.now.sleeps.now ≡ all_sleeps self.now.paths.now }
+        requires sleeps { self.now.sleeps.now ≡ all_sleeps self.now.execution.now.paths }
         requires thread { placed.now.thread < length made.old.steps }
         requires next { placed.now.it.step + 1 < 2 ^ 64 }
         ensures { OnOk result (made.new ≡ spec.with_moves made.old placed.now.thread (placed.now.it.step + 1)
             (spec.runs_to made.old placed.now.thread name.now placed.now.it.step
-            ++ spec.own_move self.now.paths.now self.now.world.now number name.now placed.now.it.kind ∷ [])) }
+            ++ spec.own_move self.now.execution.now.paths self.now.world.now number name.now placed.now.it.kind ∷ [])) }
     {
         let step = placed.event.step;
         made.run_to(placed.thread, name, step)?;
@@ -243,11 +237,11 @@ impl Told<'_> {
 
     /// The move of the event `number`, which wakes the thread whose sleep it ends, if any.
     fn own_move(&self, number: u32, name: &ThreadName, kind: EventKind) -> Result<Move, AllocError>
-        requires { self.now.sleeps.now ≡ all_sleeps self.now.paths.now }
-        ensures { IfOk result (λ own. own ≡ spec.own_move self.now.paths.now self.now.world.now number name.now kind) }
+        requires { self.now.sleeps.now ≡ all_sleeps self.now.execution.now.paths }
+        ensures { IfOk result (λ own. own ≡ spec.own_move self.now.execution.now.paths self.now.world.now number name.now kind) }
     {
         if let EventKind::Signal(_) = kind {
-            if let Some(waiter) = woken_by(self.paths, self.sleeps, self.world, number) {
+            if let Some(waiter) = woken_by(&self.execution.paths, self.sleeps, self.world, number) {
                 return Ok(Move::Wake(name.clone()?, waiter.clone()?));
             }
         }

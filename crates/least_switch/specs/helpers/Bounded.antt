@@ -3,9 +3,8 @@ use Rattle.std.specs.Prelude.{◌≡◌, ℕ, ◌≤◌, Bool, false}
 use Rattle.run_log.specs.Logs.{Log}
 use Rattle.tc_code.specs.Code.{Code}
 use Rattle.store_buffers.specs.Pending.{Binding}
-use Rattle.path_walk.specs.Paths.{paths_of}
 use Rattle.bit_order.specs.Layouts.{base}
-use Rattle.clap_system.specs.Systems.{system_of}
+use Rattle.clap_system.specs.Systems.{execution_of, system_of}
 use Rattle.clap_solve.specs.Solved.{IsWithin}
 use Rattle.switch_clauses.specs.Clauses.{clauses_over_all_pairs, switch_clauses}
 use Rattle.least_switch.specs.declared.bounded.Bounded.{Bounded}
@@ -13,10 +12,8 @@ use Rattle.least_switch.specs.declared.bounded.Bounded.{Bounded}
 pub record IsBounded (buffered : Bool) (bound : Binding) (code : Code) (log : Log) (most : ℕ)
     (b : Bounded) : Type 0 where
   pub within : IsWithin code log
-  pub paths : b.paths ≡ paths_of code log
-  pub symbolic : b.symbolic ≡ (system_of buffered bound code log).symbolic
-  pub terms : b.terms ≡ (system_of buffered bound code log).nodes
-  pub layout : b.paths.dead ≡ false
+  pub execution : b.execution ≡ execution_of (system_of buffered bound code log)
+  pub layout : b.execution.paths.dead ≡ false
       → b.layout ≡ (clauses_over_all_pairs (system_of buffered bound code log)).layout
-  pub variables : b.paths.dead ≡ false → (base b.layout).vars ≤ b.clauses.vars
+  pub variables : b.execution.paths.dead ≡ false → (base b.layout).vars ≤ b.clauses.vars
   pub clauses : b.clauses ≡ switch_clauses buffered bound code log most

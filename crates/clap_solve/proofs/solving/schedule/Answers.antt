@@ -1,12 +1,11 @@
-use Rattle.std.proofs.Common.{◌≡◌, ◌∙◌, ◌<◌, Bool, true, List, ap, arith, subst, sym}
+use Rattle.std.proofs.Common.{◌≡◌, ◌∙◌, ◌<◌, Bool, true, ap, arith, subst, sym}
 use Rattle.std.specs.Prelude.{IfOk}
 use Rattle.run_log.specs.Logs.{Log}
 use Rattle.tc_code.specs.Run.{Reproduces}
 use Rattle.run_log.specs.Logs.{is_log}
 use Rattle.path_walk.specs.Fits.{Fits}
-use Rattle.path_walk.specs.Paths.{Paths, paths_of}
-use Rattle.sym_terms.specs.declared.node.Node.{Node}
-use Rattle.sym_exec.specs.Executed.{Symbolic}
+use Rattle.path_walk.specs.Paths.{paths_of}
+use Rattle.path_execution.specs.declared.execution.Execution.{Execution}
 use Rattle.bit_blast.specs.bit_order.Readings.{world_of}
 use Rattle.bit_blast.specs.Blasted.{Blasted}
 use Rattle.cnf_core.specs.Clauses.{value_in}
@@ -38,20 +37,18 @@ decode-requires-clause-lawful g c =
     let said = c.in_ok-world.ensures ∙ ap (λ (b : Blasted). world_of b.layout (value_in c.args.assignment.now)) c.blasted.ensures in
     let own = decodable ops model bound code r.log g.met.M.MemoryModel.laws r.given.lawful r.given.is_log r.given.within posed
     (subst (λ (b : Bool). posed ≡ posed_of b bound code r.log) g.met.M.MemoryModel.buffered r.posed) c.args.assignment.now c.requires.satisfies world said in
-    subst (λ (ps : Paths). IsDecodable ops model bound code ps c.symbolic.result.now c.terms.result.now world) (sym c.paths.ensures)
-    (subst (λ (x : Symbolic). IsDecodable ops model bound code posed.paths x c.terms.result.now world) (sym c.symbolic.ensures)
-    (subst (λ (ns : List Node). IsDecodable ops model bound code posed.paths posed.symbolic ns world) (sym c.terms.ensures) own))
+    subst (λ (x : Execution). IsDecodable ops model bound code x world) (sym c.execution.ensures) own
 
 pub decode-requires-clause-room : goal.decode-requires-clause-room
 decode-requires-clause-room g c =
     let r = c.requires.posed in
-    subst HaveRoom (sym (c.paths.ensures ∙ ap (λ (q : Posed). q.paths) r.posed))
+    subst HaveRoom (sym (ap (λ (x : Execution). x.paths) c.execution.ensures ∙ ap (λ (q : Posed). q.paths) r.posed))
     (have_room c.args.code.now r.log r.given.is_log r.given.within r.given.steps)
 
 pub returns-clause-reproduces : goal.returns-clause-reproduces
 returns-clause-reproduces g c =
     let ops = g.M.MemoryModel.ops in
     let code = c.args.code.now in
-    subst (λ (ps : Paths). IfOk c.decode.result (λ schedule. (log : Log) → is_log log ≡ true → Fits code log → paths_of code log ≡ ps
+    subst (λ (x : Execution). IfOk c.decode.result (λ schedule. (log : Log) → is_log log ≡ true → Fits code log → paths_of code log ≡ x.paths
     → Reproduces ops code log schedule.moves.items))
-    c.paths.ensures c.decode.ensures.reproduces
+    c.execution.ensures c.decode.ensures.reproduces

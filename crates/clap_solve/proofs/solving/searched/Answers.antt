@@ -1,4 +1,4 @@
-use Rattle.std.proofs.Common.{◌≤◌, ap, length, subst, sym}
+use Rattle.std.proofs.Common.{◌≤◌, ap, length, refl, subst, sym}
 use Rattle.std.proofs.lemmas.Result.{IfOk-weaker}
 use Rattle.schedule_file.specs.tc_limits.declared.limits.TheConstants.{EVENTS}
 use Rattle.path_walk.specs.Paths.{Paths}
@@ -12,8 +12,8 @@ use Rattle.clap_solve.proofs.Posing.{own_clauses}
 use Rattle.clap_solve.proofs.Room.{have_room}
 use Rattle.clap_solve.proofs.solving.searched.Goals as goal
 
-pub first_values-requires : goal.first_values-requires
-first_values-requires g c =
+pub search-requires-clause-events : goal.search-requires-clause-events
+search-requires-clause-events g c =
     let r = c.requires.posed in
     subst (λ (p : Paths). length (all_events p) ≤ EVENTS) (sym (ap (λ (p : Posed). p.paths) r.posed))
     (have_room c.args.code.now r.log r.given.is_log r.given.within r.given.steps).events
@@ -24,7 +24,7 @@ answer-requires g c =
     let solved = c.in_ok-solved.solved in
     searched g.M.MemoryModel.BUFFERED g.M.MemoryModel.bound c.args.code.now r.log c.args.posed.now c.args.budget solved r.given r.posed r.variables
     (subst (λ (f : Formula). Solves f c.args.budget solved)
-    (own_clauses g.M.MemoryModel.BUFFERED g.M.MemoryModel.bound c.args.code.now r.log c.args.posed.now c.clauses.result.now c.clauses.ensures r.posed)
+    (own_clauses g.M.MemoryModel.BUFFERED g.M.MemoryModel.bound c.args.code.now r.log c.args.posed.now c.args.posed.now.blasted.clauses refl r.posed)
     c.in_ok-solved.ensures)
 
 pub returns : goal.returns
@@ -34,7 +34,7 @@ returns g c =
     (IsFoundOn g.M.MemoryModel.ops c.args.code.now c.args.posed.now g.M.MemoryModel.MODEL c.args.budget)
     (λ answer answers. record {
       solved = solved;
-      solves = subst (λ (f : Formula). Solves f c.args.budget solved) c.clauses.ensures c.in_ok-solved.ensures;
+      solves = c.in_ok-solved.ensures;
       answers = answers;
     })
     c.answer.ensures

@@ -1,8 +1,6 @@
-use Rattle.std.proofs.Common.{◌≡◌, ◌∙◌, ◌<◌, Bool, List, ap, arith, subst, sym}
+use Rattle.std.proofs.Common.{◌≡◌, ◌∙◌, ◌<◌, Bool, ap, arith, subst, sym}
 use Rattle.std.proofs.lemmas.Result.{IfOk-weaker}
-use Rattle.path_walk.specs.Paths.{Paths}
-use Rattle.sym_terms.specs.declared.node.Node.{Node}
-use Rattle.sym_exec.specs.Executed.{Symbolic}
+use Rattle.path_execution.specs.declared.execution.Execution.{Execution}
 use Rattle.cnf_core.specs.Clauses.{value_in}
 use Rattle.bit_order.specs.Readings.{world_of}
 use Rattle.bit_blast.specs.Blasted.{Blasted}
@@ -36,14 +34,12 @@ best_of-requires-clause-lawful g c =
     let own = decodable ops model bound code c.args.log.now.log g.met.M.MemoryModel.laws r.given.lawful r.given.is_log r.given.within posed
     (subst (λ (b : Bool). posed ≡ posed_of b bound code c.args.log.now.log) g.met.M.MemoryModel.buffered r.posed) c.args.assignment.now r.satisfies world
     said in
-    subst (λ (ps : Paths). IsDecodable ops model bound code ps c.symbolic.result.now c.terms.result.now world) (sym c.paths.ensures)
-    (subst (λ (x : Symbolic). IsDecodable ops model bound code posed.paths x c.terms.result.now world) (sym c.symbolic.ensures)
-    (subst (λ (ns : List Node). IsDecodable ops model bound code posed.paths posed.symbolic ns world) (sym c.terms.ensures) own))
+    subst (λ (x : Execution). IsDecodable ops model bound code x world) (sym c.execution.ensures) own
 
 pub best_of-requires-clause-room : goal.best_of-requires-clause-room
 best_of-requires-clause-room g c =
     let given = c.requires.given in
-    subst HaveRoom (sym (c.paths.ensures ∙ ap (λ (q : Posed). q.paths) c.requires.posed))
+    subst HaveRoom (sym (ap (λ (x : Execution). x.paths) c.execution.ensures ∙ ap (λ (q : Posed). q.paths) c.requires.posed))
     (have_room c.args.code.now c.args.log.now.log given.is_log given.within given.steps)
 
 pub best_of-requires-clause-small : goal.best_of-requires-clause-small
@@ -62,5 +58,7 @@ pub returns : goal.returns
 returns g c =
     let given = c.requires.given in
     IfOk-weaker c.best_of.result _ _
-    (λ b of. of.has c.args.log.now.log given.is_log given.within.fits (sym (c.paths.ensures ∙ ap (λ (q : Posed). q.paths) c.requires.posed)))
+    (λ b of.
+    of.has c.args.log.now.log given.is_log given.within.fits
+    (sym (ap (λ (x : Execution). x.paths) c.execution.ensures ∙ ap (λ (q : Posed). q.paths) c.requires.posed)))
     c.best_of.ensures

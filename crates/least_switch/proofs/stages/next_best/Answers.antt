@@ -1,5 +1,6 @@
-use Rattle.std.proofs.Common.{Bool, arith, subst, sym}
+use Rattle.std.proofs.Common.{Bool, ap, arith, subst, sym}
 use Rattle.std.proofs.lemmas.Result.{IfOk-weaker}
+use Rattle.path_execution.specs.declared.execution.Execution.{Execution}
 use Rattle.cnf_core.specs.Clauses.{value_in}
 use Rattle.schedule_decode.specs.Decodable.{HaveRoom}
 use Rattle.clap_solve.proofs.Room.{have_room}
@@ -35,7 +36,8 @@ best_of-requires-clause-lawful g c =
 pub best_of-requires-clause-room : goal.best_of-requires-clause-room
 best_of-requires-clause-room g c =
     let r = c.requires in
-    subst HaveRoom (sym r.bounded.paths) (have_room c.args.code.now c.args.log.now.log r.given.is_log r.given.within r.given.steps)
+    subst HaveRoom (sym (ap (λ (x : Execution). x.paths) r.bounded.execution))
+    (have_room c.args.code.now c.args.log.now.log r.given.is_log r.given.within r.given.steps)
 
 pub best_of-requires-clause-small : goal.best_of-requires-clause-small
 best_of-requires-clause-small g c =
@@ -52,4 +54,8 @@ returns g c =
     let few = bounded_switches g.M.MemoryModel.BUFFERED g.M.MemoryModel.bound c.args.code.now c.args.log.now.log r.given.lawful c.args.most
     c.args.bounded.now r.bounded v r.satisfies c.in_ok-world.world c.in_ok-world.ensures in
     IfOk-weaker c.best_of.result _ _
-    (λ b of. (of.has c.args.log.now.log r.given.is_log r.given.within.fits (sym r.bounded.paths), omega (arith, of.count, few))) c.best_of.ensures
+    (λ b of. (
+      of.has c.args.log.now.log r.given.is_log r.given.within.fits (sym (ap (λ (x : Execution). x.paths) r.bounded.execution)),
+      omega (arith, of.count, few),
+    ))
+    c.best_of.ensures

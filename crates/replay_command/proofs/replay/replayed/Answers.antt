@@ -4,13 +4,15 @@ use Rattle.replay_command.proofs.replay.replayed.Goals as goal
 
 pub returns-clause-verdict : goal.returns-clause-verdict
 returns-clause-verdict c = record {
-  code = c.in_ok-code.code;
-  run = c.in_ok-code.log;
-  plan = record { model = c.in_ok-schedule.schedule.model; moves = c.in_ok-schedule.schedule.moves.items };
-  programs = c.in_ok-code.ensures.code;
-  logs = c.in_ok-code.ensures.log;
-  schedules = record { have_text = c.in_ok-schedule.schedule.has_text; text = c.in_ok-schedule.ensures.found };
-  recorded = c.in_ok-refuse_other.ensures.same;
+  files = record {
+    code = c.in_ok-code.code;
+    run = c.in_ok-code.log;
+    plan = record { model = c.in_ok-schedule.schedule.model; moves = c.in_ok-schedule.schedule.moves.items };
+    programs = c.in_ok-code.ensures.code;
+    logs = c.in_ok-code.ensures.log;
+    schedules = record { have_text = c.in_ok-schedule.schedule.has_text; text = c.in_ok-schedule.ensures.found };
+  };
+  own = c.in_ok-refuse_other.ensures.same;
   verdict = c.in_ok-verdict.ensures;
 }
 

@@ -1,0 +1,4 @@
+pub mod Cuts
+pub mod Stages
+pub mod Outcomes
+pub mod LineTexts

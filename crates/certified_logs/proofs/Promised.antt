@@ -1,0 +1,63 @@
+-- What refuted logs show.
+use Rattle.std.proofs.Common.{◌≡◌, Bool, true, false, ◌&&◌, List}
+use Rattle.std.specs.Bool.{MatchBool}
+use Rattle.memory_models.specs.declared.model.Model.{Model}
+use Rattle.memory_models.specs.declared.model.Model.TheVariants.{Sc, Tso, Pso}
+use Rattle.run_log.specs.Logs.{Log, is_log}
+use Rattle.tc_code.specs.Code.{Code}
+use Rattle.tc_code.specs.Lawful.{IsLawful}
+use Rattle.store_buffers.specs.Buffers.{BufferOf, buffer_of}
+use Rattle.store_buffers.specs.Laws.{Laws}
+use Rattle.store_buffers.specs.helpers.Partial.{pso_laws}
+use Rattle.store_buffers.specs.helpers.Sequential.{sc_laws}
+use Rattle.store_buffers.specs.helpers.Total.{tso_laws}
+use Rattle.walked_logs.specs.run_follows.Machine.{Machine}
+use Rattle.clap_system.specs.path_walk.declared.fault.WalkFault.{WalkFault}
+use Rattle.clap_system.specs.Faults.{IsBuildFault}
+use Rattle.clap_system.specs.declared.fault.BuildFault.TheVariants as build
+use Rattle.clap_solve.specs.Clauses.{bound_of, model_clauses}
+use Rattle.clap_solve.specs.Solved.{IsImpossible, IsWithin}
+use Rattle.clap_solve.proofs.Meaning.{closed_is_impossible}
+use Rattle.refute_check.specs.Refutations.{IsClosed}
+use Rattle.refute_check.specs.declared.line.Line.{Line}
+use Rattle.log_walk.specs.declared.bounds.LeftOut.{LeftOut}
+use Rattle.none_certificates.specs.declared.header.Header.{Header}
+use Rattle.find_failures.specs.LeftOut.{is_over}
+use Rattle.find_failures.specs.Runs.{NoneEnds, NoneEndsWithin}
+use Rattle.find_failures.proofs.Runs.{none_if_whole, none_in_bounds}
+use Rattle.find_failures.proofs.Tried.{unfit_by}
+use Rattle.certified_logs.specs.Logs.{AllAreRefuted, NoneRuns}
+
+-- each memory model obeys its laws
+pub model_laws : (m : Model) → Laws (buffer_of m) m (bound_of m)
+model_laws Sc = sc_laws
+model_laws Tso = tso_laws
+model_laws Pso = pso_laws
+
+-- the machine under a memory model
+abbrev pub machine : (m : Model) (code : Code) → IsLawful code → Machine (BufferOf m)
+machine m code lawful =
+    record { ops = buffer_of m; model = m; bound = bound_of m; laws = model_laws m; code = code; lawful = lawful }
+
+module _ (code : Code) (lawful : IsLawful code) where
+  -- no moves reproduce a log that doesn't fit
+  pub unfit_so : (m : Model) (log : Log) (fault : WalkFault) → IsBuildFault code log (build.Walk fault)
+      → IsImpossible (buffer_of m) code log
+  unfit_so m log fault is = unfit_by (machine m code lawful) log fault is
+
+  -- nor one whose clauses are refuted
+  pub refuted_so : (m : Model) (log : Log) (lines : List Line) → is_log log ≡ true → IsWithin code log
+      → IsClosed (model_clauses m code log) lines → IsImpossible (buffer_of m) code log
+  refuted_so m log lines is within closed =
+      closed_is_impossible (buffer_of m) m (bound_of m) code log (model_laws m) lawful is within lines closed
+
+  -- if none reproduce any log, no run ends as the certificate says
+  pub none_runs : (h : Header) (out : LeftOut) → AllAreRefuted code h out → is_over out ≡ false → (h.whole && out.outcomes) ≡ false
+      → NoneRuns code h
+  none_runs h out done within whole = by h.whole whole
+    where
+      by : (b : Bool) → (b && out.outcomes) ≡ false
+          → MatchBool b (NoneEnds (buffer_of h.model) code h.bounds.kind)
+          (NoneEndsWithin (buffer_of h.model) code h.bounds.kind h.bounds.most)
+      by true cut = none_if_whole (machine h.model code lawful) h.bounds.kind h.bounds.most out done within cut
+      by false cut = none_in_bounds (machine h.model code lawful) h.bounds.kind h.bounds.most out done within

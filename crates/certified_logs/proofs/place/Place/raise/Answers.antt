@@ -1,0 +1,16 @@
+use Rattle.std.proofs.Common.{◌∙◌, refl, sym, arith}
+use Rattle.certified_logs.proofs.Places.{all_done, less_than_most, raised}
+use Rattle.certified_logs.proofs.place.Place.raise.Goals as goal
+
+pub returns-then-is_last : goal.returns-then-is_last
+returns-then-is_last c = λ code at done. all_done code c.args.header c.args.self.now at c.args.out done (sym c.is_last.ensures ∙ c.if-is_last.true)
+
+pub overflow_add-level : goal.overflow_add-level
+overflow_add-level c =
+    let r = c.requires in
+    let less = less_than_most r.0 c.args.header c.args.self.now r.1 c.args.out r.2 (sym c.is_last.ensures ∙ c.if-is_last.false) in
+    omega (arith, less)
+
+pub returns : goal.returns
+returns c = λ code at done.
+    raised code c.args.header c.args.self.now _ at c.args.out done (sym c.is_last.ensures ∙ c.if-is_last.false) refl refl
