@@ -1,5 +1,5 @@
 -- From a certificate that was read to its end to the verdict on it.
-use Rattle.std.proofs.Common.{◌≡◌, ◌∙◌, ℕ, ◌+◌, ℤ, Bool, true, false, cond, ◌&&◌, List, [], ◌∷◌, length, Result, Ok, Err, inl, inr, refl, sym, ap, subst}
+use Rattle.std.proofs.Common.{◌≡◌, ◌∙◌, ℕ, ℤ, Bool, true, false, cond, ◌&&◌, List, [], ◌∷◌, Result, Ok, Err, inl, refl, sym, ap}
 use Rattle.std.specs.List.{fold}
 use Rattle.std.proofs.lemmas.Bool.{false≢true, and_parts}
 use Rattle.refute_check.specs.cnf_core.Clauses.{Formula}
@@ -14,19 +14,18 @@ use Rattle.certified_logs.specs.find_failures.clap_solve.Clauses.{model_clauses}
 use Rattle.certified_logs.specs.find_failures.LeftOut.{is_over}
 use Rattle.log_walk.specs.declared.bounds.LeftOut.{LeftOut}
 use Rattle.none_certificates.specs.declared.header.Header.{Header}
-use Rattle.certified_logs.specs.Logs.{AllAreRefuted, IsNext}
-use Rattle.certified_logs.proofs.Promised.{none_runs}
+use Rattle.certified_logs.specs.Logs.{IsNext}
+use Rattle.slot_liveness.specs.pure_turns.Live.{Liveness, IsClosed as IsLive}
+use Rattle.certified_logs.specs.Places.{AllAreDone}
+use Rattle.certified_logs.proofs.Promised.{all_refuted, none_runs}
 use Rattle.certificate_input.specs.Checked.{IsChecked, IsOpen}
 use Rattle.certificate_input.specs.Checked.IsLineRefused.{ByLine, ByHeader}
-use Rattle.certificate_input.specs.Cuts.{Cut, HasHeader}
+use Rattle.certificate_input.specs.Cuts.{HasHeader}
 use Rattle.certificate_input.specs.Wrong.{IsWrong}
-use Rattle.certificate_input.specs.declared.checks.Checks.{Checks}
-use Rattle.certificate_input.specs.declared.incoming.Stage.{Stage}
-use Rattle.certificate_input.specs.declared.incoming.Stage.TheVariants.{Begins, Follows}
 use Rattle.certificate_input.specs.declared.verdict.Verdict.TheVariants as verdict
 use Rattle.certificate_input.specs.declared.wrong.Wrong.{Wrong}
 use Rattle.certificate_input.specs.declared.wrong.Wrong.TheVariants.{Refused, Form, Limit}
-use Rattle.certificate_input.specs.helpers.Incoming.{IsStage, IsUnrefuted, ended, judged}
+use Rattle.certificate_input.specs.helpers.Incoming.{IsUnrefuted, ended, judged}
 
 -- before any line nothing is closed
 starts_open : (cs : List (List ℤ)) (s : Checking) → verdict_on (fold keep s cs) ≡ verdict_on s
@@ -56,20 +55,20 @@ module _ (code : Code) (bytes : List ℕ) where
       record { header = h; has = has; log = log; next = next; lines = []; unclosed = not_closed_yet (model_clauses h.model code log) }
 
   -- the verdict if each log is refuted, except those left out
-  pub judged_so : IsLawful code → (h : Header) (out : LeftOut) → HasHeader bytes h → AllAreRefuted code h out
-      → IsChecked code bytes (judged h out)
-  judged_so lawful h out has done = by_over (is_over out) refl
+  pub judged_so : IsLawful code → (h : Header) (out : LeftOut) → HasHeader bytes h
+      → (live : Liveness) → IsLive code live → AllAreDone code live h out → IsChecked code bytes (judged h out)
+  judged_so lawful h out has live closed done = by_over (is_over out) refl
     where
       by_whole : (b : Bool) → (h.whole && out.outcomes) ≡ b → is_over out ≡ false
           → IsChecked code bytes (cond b (verdict.LineRefused 1) (verdict.Holds h))
       by_whole true is over =
           let parts = and_parts h.whole out.outcomes is in
-          ByHeader h refl has (record { whole = parts.0; out = out; cut = parts.1; done = done })
-      by_whole false is over = (has, none_runs code lawful h out done over is)
+          ByHeader h refl has (record { whole = parts.0; out = out; cut = parts.1; done = all_refuted code live closed h out done })
+      by_whole false is over = (has, none_runs code lawful live closed h out done over is)
 
       by_over : (b : Bool) → is_over out ≡ b
           → IsChecked code bytes (cond b (verdict.LeftOut out) (cond (h.whole && out.outcomes) (verdict.LineRefused 1) (verdict.Holds h)))
-      by_over true over = (h, has, over, done)
+      by_over true over = (h, has, over, all_refuted code live closed h out done)
       by_over false over = by_whole (h.whole && out.outcomes) refl over
 
   -- the verdict on one with a wrong line
@@ -77,23 +76,3 @@ module _ (code : Code) (bytes : List ℕ) where
   ended_so n Refused is = ByLine is
   ended_so n Form is = inl is
   ended_so n (Limit which count limit) is = (n, is)
-
-  -- there is no whole line
-  pub begins_unended : (rest : List ℕ) (n : ℕ) (stage : Stage) → stage ≡ Begins → IsStage code bytes rest n stage
-      → IsChecked code bytes (verdict.Form n)
-  begins_unended rest n stage e was =
-      let is = subst (IsStage code bytes rest n) e was in
-      inr (record {
-        counted = is.1 ∙ ap (λ (c : Cut). length c.lines + 1) (sym is.0);
-        unended = λ none. ap (λ (c : Cut). c.lines) is.0;
-      })
-
-  -- the last line has no end
-  pub follows_unended : (rest : List ℕ) (n : ℕ) (stage : Stage) (c : Checks) → stage ≡ Follows c → (rest ≡ [] → ⊥)
-      → IsStage code bytes rest n stage → IsChecked code bytes (verdict.Form n)
-  follows_unended rest n stage c e some was =
-      let is = subst (IsStage code bytes rest n) e was in
-      inr (record {
-        counted = is.counted ∙ ap (λ (c : Cut). length c.lines + 1) (sym is.is_cut);
-        unended = λ none. absurd (some (sym (ap (λ (c : Cut). c.rest) is.is_cut) ∙ none));
-      })
