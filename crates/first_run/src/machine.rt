@@ -186,7 +186,7 @@ impl<'a> Machine<'a> {
     /// The index of a thread's child with this number.
     pub fn child(&self, parent: &Walk, number: u32) -> Option<usize> {
         for (place, thread) in self.threads.iter().enumerate() {
-            if is_child(parent, number, thread.walk) {
+            if thread.walk.is_child_of(parent, number) {
                 return Some(place);
             }
         }
@@ -278,14 +278,6 @@ fn is_silent<M: MemoryModel>(kind: EventKind) -> bool {
         | EventKind::Join(_)
         | EventKind::Unlock(_) => true,
         _ => false,
-    }
-}
-
-/// Whether a thread is the child of another with this number.
-fn is_child(parent: &Walk, number: u32, thread: &Walk) -> bool {
-    match thread.name().children().split_last() {
-        Some((last, before)) => *last == number && before == parent.name().children(),
-        None => false,
     }
 }
 

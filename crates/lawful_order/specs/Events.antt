@@ -8,11 +8,11 @@ use Rattle.sym_exec.specs.path_walk.declared.event.Region.{Region}
 use Rattle.sym_exec.specs.path_walk.declared.event.Sleep.{Sleep}
 use Rattle.sym_exec.specs.path_walk.declared.event.Link.{Link}
 use Rattle.order_formula.specs.Worlds.{World, position}
+use Rattle.lawful_order.specs.declared.item.Of as item
 
 -- an item of a thread, with the thread's index in the paths
-pub record Of (X : Type 0) : Type 0 where
-  pub thread : ℕ
-  pub it : X
+abbrev pub Of : Type 0 → Type 0
+Of X = item.Of X
 
 -- the items of all threads, one thread after another
 abbrev pub all_from : {W X : Type 0} → (W → List X) → ℕ → List W → List (Of X)

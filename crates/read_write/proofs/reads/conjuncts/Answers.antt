@@ -74,17 +74,16 @@ loop-load-preserved c =
       nodes = c.loop-load.invariant.made;
       grown = c.loop-load.invariant.grown;
     } in
-    let takes = ap (λ (a : Of Access). a.it.takes) (sym c.load.view_is) in
     let after : Stand code events all first (k + 1) c.match-load.terms c.match-load.conjuncts.items = elim c.match-load.branch [
       | in-Some+in_ok-conjunct+in_ok-push w ↦
           subst (λ ns. Stand code events all first (k + 1) ns c.match-load.conjuncts.items) (sym w.terms-is)
           (load_on code events all first have k x within is mid before stand w.in-Some.number w.conjunct.new.terms w.in_ok-conjunct.field-0
-          c.match-load.conjuncts.items (takes ∙ w.in-Some.is) (ap (λ v. v.items) w.conjuncts-is ∙ w.in_ok-push.ensures.items)
+          c.match-load.conjuncts.items w.in-Some.is (ap (λ v. v.items) w.conjuncts-is ∙ w.in_ok-push.ensures.items)
           w.in_ok-conjunct.ensures.conjunct w.in_ok-conjunct.ensures.made w.in_ok-conjunct.ensures.grown)
       | in_default w ↦
           subst (λ ns. Stand code events all first (k + 1) ns c.match-load.conjuncts.items) (sym w.terms-is)
           (subst (λ cs. Stand code events all first (k + 1) mid cs) (sym (ap (λ v. v.items) w.conjuncts-is))
-          (other_on code events all first have k x within is mid before stand (takes ∙ w.in_default.is)))
+          (other_on code events all first have k x within is mid before stand w.in_default.is))
     ] in
     record { conjuncts = after.conjuncts; made = after.nodes; grown = after.grown }
 

@@ -20,27 +20,25 @@ loop-number-preserved c =
     let x = c.placed-item.result in
     let mid = c.loop-number.literals.items in
     let own = unended events number x.it.condition in
-    let thread : c.placed.inside.thread ≡ x.thread = ap (λ e. e.thread) c.placed.view_is in
-    let sleep : c.placed.inside.sleep ≡ x.it = ap (λ e. e.it) c.placed.view_is in
     let all = c.all-placed-items.ensures in
     each_more sleeps number x (omega (arith, c.loop-number-test.true, ap length all)) (c.placed-item.is ∙ ap (λ xs. get_or xs number x) all)
     [] mid c.if-placed-thread.literals.items (sleeping events t k) c.loop-number.invariant
     (elim c.if-placed-thread.branch [
       | then-placed-thread+then-placed-step+in_ok-enders+in_ok-push_unended w ↦
           let is : (x.thread == t && x.it.step == k) ≡ true =
-          and_from (x.thread == t) (x.it.step == k) (eq-eqb x.thread t (sym thread ∙ w.if-placed-thread.true))
-          (eq-eqb x.it.step k (sym (ap (λ s. s.step) sleep) ∙ w.if-placed-step.true)) in
+          and_from (x.thread == t) (x.it.step == k) (eq-eqb x.thread t w.if-placed-thread.true)
+          (eq-eqb x.it.step k w.if-placed-step.true) in
           let whole : map (not_ended_literal number) w.as_slice.result.now ≡ own =
-          ap (map (not_ended_literal number)) (w.as_slice.ensures.value ∙ w.in_ok-enders.ensures) ∙ ap (λ s. unended events number s.condition) sleep in
+          ap (map (not_ended_literal number)) (w.as_slice.ensures.value ∙ w.in_ok-enders.ensures) in
           let same = ap (λ zs. mid ++ zs) whole ∙ ap (λ b. mid ++ cond b own []) (sym is) in
           let pushed = w.in_ok-push_unended.ensures in cc
       | else-placed-thread w ↦
           let next = λ (other : (x.thread == t && x.it.step == k) ≡ false). sym (append-nil mid) ∙ ap (λ b. mid ++ cond b own []) (sym other) in
           elim w.else-placed-thread.branch [
             | else-placed-thread-via-then-placed-thread+else-placed-step v ↦
-                let apart = ne_eqb x.it.step k (λ e. v.if-placed-step.false (ap (λ s. s.step) sleep ∙ e)) in
+                let apart = ne_eqb x.it.step k v.if-placed-step.false in
                 let same = next (and_right (x.thread == t) (x.it.step == k) apart) in cc
             | else-placed-thread-via-else-placed-thread v ↦
-                let same = next (and_left (x.thread == t) (x.it.step == k) (ne_eqb x.thread t (λ e. v.if-placed-thread.false (thread ∙ e)))) in cc
+                let same = next (and_left (x.thread == t) (x.it.step == k) (ne_eqb x.thread t v.if-placed-thread.false)) in cc
           ]
     ])

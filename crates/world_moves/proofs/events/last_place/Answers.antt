@@ -14,7 +14,7 @@ returns-then-is_failure c =
     ∙ ap (λ o. option_map_or (λ e. position c.args.world.now e.0) o (fold (λ n p. max n (p + 1)) 0 c.args.world.now.positions))
     (sym (found (λ e. is_failure e.1.it.kind) c.args.events.now c.loop-placed.placed-index x c.loop-placed.invariant.none
     (omega (arith, c.loop-placed-test.true, ap length all)) (c.placed-item.is ∙ ap (λ es. get_or es c.loop-placed.placed-index x) all)
-    (ap (λ e. is_failure e.it.kind) (sym c.placed.view_is) ∙ sym c.is_failure.ensures ∙ c.if-is_failure.true)))
+    (sym c.is_failure.ensures ∙ c.if-is_failure.true)))
 
 pub loop-placed-preserved : goal.loop-placed-preserved
 loop-placed-preserved c =
@@ -24,7 +24,7 @@ loop-placed-preserved c =
       number = omega (arith, c.loop-placed.invariant.number);
       none = passed (λ e. is_failure e.1.it.kind) c.args.events.now c.loop-placed.placed-index x c.loop-placed.invariant.none
           (omega (arith, c.loop-placed-test.true, ap length all)) (c.placed-item.is ∙ ap (λ es. get_or es c.loop-placed.placed-index x) all)
-          (ap (λ e. is_failure e.it.kind) (sym c.placed.view_is) ∙ sym c.is_failure.ensures ∙ c.if-is_failure.false);
+          (sym c.is_failure.ensures ∙ c.if-is_failure.false);
     }
 
 pub returns : goal.returns

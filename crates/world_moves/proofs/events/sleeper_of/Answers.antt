@@ -1,4 +1,4 @@
-use Rattle.std.proofs.Common.{◌∙◌, Some, ap, sym, length, get_or, arith}
+use Rattle.std.proofs.Common.{◌∙◌, ap, sym, length, get_or, arith}
 use Rattle.std.specs.Prelude.{option_map}
 use Rattle.order_formula.specs.Worlds.{is_ended}
 use Rattle.world_moves.proofs.Finds.{found, passed, nowhere}
@@ -8,8 +8,7 @@ pub returns-then-is_ended : goal.returns-then-is_ended
 returns-then-is_ended c =
     let x = c.placed-item.result in
     let all = c.all-placed-items.ensures in
-    ap (λ e. Some e.thread) c.placed.view_is
-    ∙ ap (option_map (λ s. s.1.thread)) (sym (found (λ s. is_ended c.args.world.now s.0 c.args.event) c.args.sleeps.now c.loop-number.number x
+    ap (option_map (λ s. s.1.thread)) (sym (found (λ s. is_ended c.args.world.now s.0 c.args.event) c.args.sleeps.now c.loop-number.number x
     c.loop-number.invariant.none (omega (arith, c.loop-number-test.true, ap length all))
     (c.placed-item.is ∙ ap (λ es. get_or es c.loop-number.number x) all) (sym c.is_ended.ensures ∙ c.if-is_ended.true)))
 
