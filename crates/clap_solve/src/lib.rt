@@ -11,7 +11,7 @@ mod posed;
 mod solving;
 
 pub use answer::Answer;
-pub use checking::{check_impossible, check_start};
+pub use checking::check_start;
 pub use fault::CheckImpossibleFault;
 pub use imported::Imported;
 pub use importing::take_answer;

@@ -109,10 +109,6 @@ module _ (paths : Paths) where
   formula_kept : (o : Order) (formula : List Conjunct) → HasEnders o → All (λ c. BodyAsks c.body) formula → HasEnders (with_formula o formula)
   formula_kept = all_kept with_conjunct (λ (c : Conjunct). BodyAsks c.body) (λ o c. body_kept o c.body)
 
-  -- the parts of the formula
-  before_asks : (t k u j : ℕ) → LiteralAsks (comes_before (all_events paths) t k u j)
-  before_asks t k u j = tt
-
   pub own_asks : (buffered : Bool) (bound : Binding) (symbolic : Symbolic) (nodes : List Node) (c : Conjunct)
       → Contains (own_formula buffered bound paths symbolic nodes) c → Has LiteralAsks c
   own_asks buffered bound symbolic nodes c i = by (of_formula buffered bound paths symbolic nodes c i)

@@ -1,19 +1,12 @@
 //! A thread that runs ahead alone.
+ghost use Rattle.std.specs.Prelude.{◌<◌};
+ghost use Rattle.first_run.specs.declared.tuned.TheConstants.{EVENTS_AHEAD};
 
-use crate::machine::Machine;
-use crate::thread::{Place, Thread, wants_drained};
-use crate::values::Values;
-use crate::written::Written;
+use crate::tuned::{EVENTS_AHEAD, TERMS_AHEAD, TESTS_AHEAD};
 use path_walk::EventKind;
-use std::alloc::{AllocError, Global};
+use run_simulation::{Machine, Place, ThreadNumber, Values};
 use store_buffers::MemoryModel;
 use sym_exec::Access;
-
-/// The greatest number of events that a thread runs ahead.
-pub(crate) const AHEAD: u32 = 10;
-
-/// The greatest number of tests that a thread passes between two events ahead.
-const TESTS: usize = 40;
 
 /// The outcome of an event of a thread that runs ahead.
 #[derive(Clone, Copy, PartialEq, Eq)]
@@ -36,25 +29,36 @@ pub(crate) enum Reads {
     /// The current value, or unknown if another thread may still write to the cell; the first event
     /// ahead always takes the current value.
     Sure,
-    /// The current value, except that the read with this number, from 1, takes this value.
-    Instead { read: u32, value: i32 },
+    /// The current value, except that the event with this number ahead, from 0, takes this value.
+    Instead { event: usize, value: i32 },
 }
+
+/// A read ahead, or an event ahead that may be one: its number, from 0, and its cell.
+#[derive(Clone, Copy)]
+pub(crate) struct Read {
+    pub event: usize,
+    pub cell: u32,
+}
+
+/// A write ahead, with its value if that is known.
+#[derive(Clone, Copy)]
+pub(crate) struct Write {
+    pub cell: u32,
+    pub value: Option<i32>,
+}
+
+/// What each event ahead wrote, if it wrote.
+pub(crate) type Writes = [Option<Write>; EVENTS_AHEAD];
 
 /// A thread that runs ahead alone, while the other threads don't move.
 #[derive(Drop)]
 pub(crate) struct Ahead<'m, 'a> {
     machine: &'m Machine<'a>,
-    number: usize,
-    thread: &'m Thread<'a>,
+    thread: ThreadNumber,
     taken: Reads,
-    pub at: Place,
-    /// The number of events done ahead, and how many of them read.
-    pub events: u32,
-    pub reads: u32,
-    /// The cell of the last read.
-    pub last: Option<u32>,
-    /// Its writes that weren't in memory before, including its pending stores.
-    pub written: Written,
+    pub at: Place<'a>,
+    pub last: Option<Read>,
+    pub writes: Writes,
     has_mutex: bool,
     has_pending: bool,
     /// Whether it wrote something that other threads see now or will see.
@@ -66,74 +70,73 @@ pub(crate) struct Ahead<'m, 'a> {
 impl<'m, 'a> Ahead<'m, 'a> {
     /// A thread that has done nothing ahead yet; `None` if it hasn't begun.
     pub fn new(
-        alloc: Global,
         machine: &'m Machine<'a>,
-        number: usize,
+        thread: ThreadNumber,
         taken: Reads,
-    ) -> Result<Option<Ahead<'m, 'a>>, AllocError> {
-        let Some(thread) = machine.threads.get(number) else {
-            return Ok(None);
-        };
-        if !thread.has_begun {
-            return Ok(None);
+    ) -> Option<Ahead<'m, 'a>> {
+        if !machine.thread(thread).has_begun {
+            return None;
         }
-        Ok(Some(Ahead {
+        Some(Ahead {
             machine,
-            number,
             thread,
             taken,
-            at: thread.at,
-            events: 0,
-            reads: 0,
+            at: machine.place(thread),
             last: None,
-            written: Written::pending(alloc, &thread.pending)?,
-            has_mutex: machine.has_mutex(number),
-            has_pending: !thread.pending.is_empty(),
+            writes: [None; EVENTS_AHEAD],
+            has_mutex: machine.has_mutex(thread),
+            has_pending: machine.has_pending(thread),
             changes: false,
             is_seen: false,
-        }))
+        })
     }
 
-    /// Goes on as far as it can, for at most `AHEAD` events.
-    pub fn run<M: MemoryModel>(&mut self, values: &mut Values) -> Result<Pace, AllocError> {
-        for _ in 0..AHEAD {
-            let pace = self.go::<M>(values)?;
-            if pace != Pace::On {
-                return Ok(pace);
+    /// Goes on as far as it can, for at most `EVENTS_AHEAD` events. Returns the event ahead after
+    /// which it leaves its path, if it does.
+    pub fn run<M: MemoryModel>(&mut self, values: &mut Values) -> Option<usize> {
+        for event in 0..EVENTS_AHEAD {
+            match self.go::<M>(values, event) {
+                Pace::On => {}
+                Pace::End | Pace::Wait => return None,
+                Pace::Leave => return Some(event),
             }
         }
-        Ok(Pace::On)
+        None
     }
 
-    /// Does the next event.
-    pub fn go<M: MemoryModel>(&mut self, values: &mut Values) -> Result<Pace, AllocError> {
-        let Some(event) = self.thread.event(self.at) else {
-            return Ok(Pace::End);
+    /// Does the next event, which has this number ahead.
+    pub fn go<M: MemoryModel>(&mut self, values: &mut Values, event: usize) -> Pace
+        requires { event < EVENTS_AHEAD }
+    {
+        let Some(next) = self.at.event() else {
+            return Pace::End;
         };
-        if matches!(event.kind, EventKind::Fail) {
-            return Ok(Pace::End);
+        if matches!(next.kind, EventKind::Fail) {
+            return Pace::End;
         }
-        if self.waits(event.kind) {
-            return Ok(Pace::Wait);
+        if self.waits(next.kind, event) {
+            return Pace::Wait;
         }
-        self.does::<M>(values, event.kind)?;
-        let arrival = self.thread.past(self.at, values, TESTS);
+        self.does::<M>(values, next.kind, event);
+        self.arrive(values)
+    }
+
+    /// Takes the thread to its next event.
+    fn arrive(&mut self, values: &Values) -> Pace {
+        let arrival = self.at.past(values, TESTS_AHEAD);
         self.at = arrival.place;
-        self.events = self.events.saturating_add(1);
-        Ok(match (arrival.is_on_path, arrival.is_there) {
+        match (arrival.is_on_path, arrival.is_there) {
             (false, _) => Pace::Leave,
             (true, true) => Pace::On,
             (true, false) => Pace::End,
-        })
+        }
     }
 
     /// Drains its stores, if there are any and the next event needs an empty buffer.
     pub fn drain(&mut self) {
-        if let Some(event) = self.thread.event(self.at) {
-            if self.has_pending && wants_drained(event.kind) {
-                self.has_pending = false;
-                self.show();
-            }
+        if self.has_pending && self.at.needs_empty_buffer() {
+            self.has_pending = false;
+            self.show();
         }
     }
 
@@ -144,25 +147,28 @@ impl<'m, 'a> Ahead<'m, 'a> {
     }
 
     /// Whether it has to wait at an event. Nothing wakes it from a sleep that it begins ahead.
-    fn waits(&self, kind: EventKind) -> bool {
+    fn waits(&self, kind: EventKind, event: usize) -> bool {
+        let machine = self.machine;
         match kind {
-            EventKind::Lock(mutex) => !self.machine.is_free(mutex),
+            EventKind::Lock(mutex) => !machine.is_free(mutex),
             EventKind::Wake { mutex, .. } => {
-                self.events > 0 || self.thread.waits_on.is_some() || !self.machine.is_free(mutex)
+                event > 0
+                    || machine.thread(self.thread).waits_on.is_some()
+                    || !machine.is_free(mutex)
             }
-            EventKind::Join(child) => !self.machine.is_child_done(self.thread.walk, child),
+            EventKind::Join(child) => !machine.is_child_done(self.thread, child),
             _ => false,
         }
     }
 
     /// Does an event.
-    fn does<M: MemoryModel>(
-        &mut self,
-        values: &mut Values,
-        kind: EventKind,
-    ) -> Result<(), AllocError> {
+    fn does<M: MemoryModel>(&mut self, values: &mut Values, kind: EventKind, event: usize)
+        requires { event < EVENTS_AHEAD }
+    {
         match kind {
-            EventKind::Load | EventKind::Store | EventKind::Exchange => self.access::<M>(values)?,
+            EventKind::Load | EventKind::Store | EventKind::Exchange => {
+                self.accesses::<M>(values, event);
+            }
             EventKind::Lock(_) | EventKind::Wake { .. } => self.has_mutex = true,
             EventKind::Unlock(_) | EventKind::Sleep { .. } => {
                 self.has_mutex = false;
@@ -171,67 +177,67 @@ impl<'m, 'a> Ahead<'m, 'a> {
             EventKind::Signal(_) | EventKind::Broadcast(_) => self.show(),
             _ => {}
         }
-        Ok(())
     }
 
-    /// Does an access, if its cell is known.
-    fn access<M: MemoryModel>(&mut self, values: &mut Values) -> Result<(), AllocError> {
-        if let Some(access) = self.thread.access(self.at) {
+    /// Does an access. If its cell isn't known, it takes an unknown value and writes nothing.
+    fn accesses<M: MemoryModel>(&mut self, values: &mut Values, event: usize)
+        requires { event < EVENTS_AHEAD }
+    {
+        if let Some(access) = self.at.access() {
             match values.cell(access.cell) {
-                Some(cell) => self.access_cell::<M>(values, access, cell)?,
+                Some(cell) => self.access_cell::<M>(values, access, Read { event, cell }),
                 None => {
                     if let Some(load) = access.takes {
-                        values.suppose(load, None);
+                        values.set(load, None, TERMS_AHEAD);
                     }
                 }
             }
         }
-        Ok(())
     }
 
-    fn access_cell<M: MemoryModel>(
-        &mut self,
-        values: &mut Values,
-        access: Access,
-        cell: u32,
-    ) -> Result<(), AllocError> {
-        let found = self.found(cell);
+    /// Does an access to a cell.
+    fn access_cell<M: MemoryModel>(&mut self, values: &mut Values, access: Access, read: Read)
+        requires { read.event < EVENTS_AHEAD }
+    {
+        let found = self.found(read);
         if let Some(load) = access.takes {
-            let taken = self.take(cell, found);
-            values.suppose(load, taken);
+            self.last = Some(read);
+            values.set(load, self.taken(read, found), TERMS_AHEAD);
         }
         if let Some(term) = access.writes {
+            let cell = read.cell;
             let value = values.of(term);
-            self.written.push(cell, value)?;
+            self.writes[read.event] = Some(Write { cell, value });
             if M::BUFFERED && access.takes.is_none() {
                 self.has_pending = true;
             } else if value != found {
                 self.show();
             }
         }
-        Ok(())
     }
 
     /// The value that it finds in a cell, if that is known.
-    fn found(&self, cell: u32) -> Option<i32> {
-        if self.events > 0
+    fn found(&self, read: Read) -> Option<i32> {
+        if read.event > 0
             && matches!(self.taken, Reads::Sure)
-            && self.machine.others_may_write(self.number, cell)
+            && self.machine.others_may_write(self.thread, read.cell)
         {
             return None;
         }
-        match self.written.last(cell) {
-            Some(value) => value,
-            None => Some(self.machine.cell(cell)),
+        for write in self.writes.iter().rev() {
+            if let Some(write) = write {
+                if write.cell == read.cell {
+                    return write.value;
+                }
+            }
         }
+        self.machine.found(self.thread, read.cell)
     }
 
-    /// The value that a read takes from a cell with this value.
-    fn take(&mut self, cell: u32, found: Option<i32>) -> Option<i32> {
-        self.reads = self.reads.saturating_add(1);
-        self.last = Some(cell);
+    /// The value that a read takes where it finds this one.
+    fn taken(&self, read: Read, found: Option<i32>) -> Option<i32> {
         match self.taken {
-            Reads::Instead { read, value } if read == self.reads => Some(value),
+            Reads::Instead { event, value } if event == read.event => Some(value),
             _ => found,
         }
     }
@@ -239,13 +245,12 @@ impl<'m, 'a> Ahead<'m, 'a> {
 
 /// Whether a thread leaves its path if it does its next event now, whatever the others do later.
 pub(crate) fn leaves<M: MemoryModel>(
-    alloc: Global,
     machine: &Machine,
     values: &mut Values,
-    number: usize,
-) -> Result<bool, AllocError> {
-    Ok(match Ahead::new(alloc, machine, number, Reads::Sure)? {
-        Some(mut ahead) => ahead.run::<M>(values)? == Pace::Leave,
+    thread: ThreadNumber,
+) -> bool {
+    match Ahead::new(machine, thread, Reads::Sure) {
+        Some(mut ahead) => ahead.run::<M>(values).is_some(),
         None => false,
-    })
+    }
 }

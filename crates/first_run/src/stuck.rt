@@ -1,124 +1,147 @@
 //! Which threads are stuck.
 
-use crate::ahead::{Ahead, Pace, Reads};
-use crate::machine::Machine;
-use crate::values::Values;
-use crate::written::Written;
-use std::alloc::{AllocError, Global};
+use crate::ahead::{Ahead, Read, Reads, Writes};
+use run_simulation::{Machine, ThreadNumber, Values};
 use store_buffers::MemoryModel;
+use tc_limits::limits::THREADS;
 
 /// What a thread does if it goes on alone.
-#[derive(Drop)]
+#[derive(Clone, Copy)]
 struct Trip {
-    /// The number of events after which it leaves its path, if it does.
-    leaves: Option<u32>,
-    /// The number of its reads up to there, and the cell of the last.
-    reads: u32,
-    last: Option<u32>,
-    written: Written,
+    /// The event ahead after which it leaves its path, if it does, and its last read up to there.
+    leaves: Option<usize>,
+    last: Option<Read>,
+    writes: Writes,
+}
+
+/// The trip of each thread that has begun.
+type Trips = [Option<Trip>; THREADS];
+
+/// A thread that leaves its path soon: after which event ahead, and its last read up to there.
+#[derive(Clone, Copy)]
+struct Leaving {
+    thread: ThreadNumber,
+    event: usize,
+    last: Read,
 }
 
 /// How many threads are stuck. A thread is stuck under three conditions: the machine lets it go on;
 /// it leaves its path within `near` events if it goes on alone; and no value that another thread is
 /// about to write to the cell that it read last keeps it on its path there.
 pub(crate) fn count_stuck<M: MemoryModel>(
-    alloc: Global,
     machine: &Machine,
     values: &mut Values,
-    near: u32,
-) -> Result<usize, AllocError> {
-    let mut trips = Vec::new(alloc);
-    for number in 0..machine.threads.len() {
-        trips.push(trip_of::<M>(alloc, machine, values, number, Reads::Now)?)?;
+    near: usize,
+) -> usize {
+    let mut trips: Trips = [None; THREADS];
+    for number in 0..THREADS {
+        trips[number] = trip_of::<M>(machine, values, ThreadNumber::new(number), Reads::Now);
     }
-    let mut count: usize = 0;
-    for number in 0..machine.threads.len() {
-        if is_stuck::<M>(alloc, machine, values, &trips, number, near)? {
-            count = count.saturating_add(1);
+    let mut stuck = [false; THREADS];
+    for number in 0..THREADS {
+        if let Some(own) = leaves_soon(machine, &trips, ThreadNumber::new(number), near) {
+            stuck[number] = !is_kept::<M>(machine, values, &trips, &own);
         }
     }
-    Ok(count)
+    stuck.iter().filter(|found| **found).count()
 }
 
 /// What a thread does if it goes on alone, if it has begun.
 fn trip_of<M: MemoryModel>(
-    alloc: Global,
     machine: &Machine,
     values: &mut Values,
-    number: usize,
+    thread: ThreadNumber,
     taken: Reads,
-) -> Result<Option<Trip>, AllocError> {
-    let Some(mut ahead) = Ahead::new(alloc, machine, number, taken)? else {
-        return Ok(None);
-    };
-    let pace = ahead.run::<M>(values)?;
-    Ok(Some(Trip {
-        leaves: if pace == Pace::Leave {
-            Some(ahead.events)
-        } else {
-            None
-        },
-        reads: ahead.reads,
+) -> Option<Trip> {
+    let mut ahead = Ahead::new(machine, thread, taken)?;
+    let leaves = ahead.run::<M>(values);
+    Some(Trip {
+        leaves,
         last: ahead.last,
-        written: ahead.written,
-    }))
+        writes: ahead.writes,
+    })
 }
 
-/// Whether a thread is stuck.
-fn is_stuck<M: MemoryModel>(
-    alloc: Global,
+/// A thread, if it can go on and leaves its path within `near` events, of which one reads.
+fn leaves_soon(
+    machine: &Machine,
+    trips: &Trips,
+    thread: ThreadNumber,
+    near: usize,
+) -> Option<Leaving> {
+    let trip = trips[thread.index()]?;
+    let event = trip.leaves?;
+    let last = trip.last?;
+    if event < near && machine.lets(thread) {
+        Some(Leaving {
+            thread,
+            event,
+            last,
+        })
+    } else {
+        None
+    }
+}
+
+/// Whether some other thread is about to write a value that keeps a thread on its path for longer.
+fn is_kept<M: MemoryModel>(
     machine: &Machine,
     values: &mut Values,
-    trips: &[Option<Trip>],
-    number: usize,
-    near: u32,
-) -> Result<bool, AllocError> {
-    let Some(Some(own)) = trips.get(number) else {
-        return Ok(false);
-    };
-    if !machine.lets(number) || !own.leaves.is_some_and(|events| events <= near) {
-        return Ok(false);
-    }
-    for (other, trip) in trips.iter().enumerate() {
-        if let Some(trip) = trip {
-            if other != number && is_kept::<M>(alloc, machine, values, number, own, trip)? {
-                return Ok(false);
+    trips: &Trips,
+    own: &Leaving,
+) -> bool {
+    for number in 0..THREADS {
+        let other = ThreadNumber::new(number);
+        if let Some(trip) = trips[number] {
+            if other != own.thread && is_kept_by::<M>(machine, values, other, &trip.writes, own) {
+                return true;
             }
         }
     }
-    Ok(own.last.is_some())
+    false
 }
 
-/// Whether a thread stays on its path for longer if its last read takes a value that another thread
-/// is about to write there.
-fn is_kept<M: MemoryModel>(
-    alloc: Global,
+/// Whether a pending store of another thread, or one of these writes ahead of it, keeps a thread on
+/// its path for longer.
+fn is_kept_by<M: MemoryModel>(
     machine: &Machine,
     values: &mut Values,
-    number: usize,
-    own: &Trip,
-    other: &Trip,
-) -> Result<bool, AllocError> {
-    for (cell, value) in other.written.as_slice() {
-        if let (true, Some(value)) = (own.last == Some(*cell), value) {
-            let taken = Reads::Instead {
-                read: own.reads,
-                value: *value,
-            };
-            if let Some(trip) = trip_of::<M>(alloc, machine, values, number, taken)? {
-                if is_later(trip.leaves, own.leaves) {
-                    return Ok(true);
+    other: ThreadNumber,
+    writes: &Writes,
+    own: &Leaving,
+) -> bool {
+    for store in machine.stores() {
+        if store.is_of(other) && stays_with::<M>(machine, values, own, store.cell, store.value) {
+            return true;
+        }
+    }
+    for write in writes.iter() {
+        if let Some(write) = write {
+            if let Some(value) = write.value {
+                if stays_with::<M>(machine, values, own, write.cell, value) {
+                    return true;
                 }
             }
         }
     }
-    Ok(false)
+    false
 }
 
-/// Whether a thread leaves its path after more events than these, or not at all.
-fn is_later(leaves: Option<u32>, events: Option<u32>) -> bool {
-    match (leaves, events) {
-        (Some(leaves), Some(events)) => leaves > events,
-        (leaves, _) => leaves.is_none(),
+/// Whether a thread stays on its path for longer if its last read finds this value in this cell.
+fn stays_with<M: MemoryModel>(
+    machine: &Machine,
+    values: &mut Values,
+    own: &Leaving,
+    cell: u32,
+    value: i32,
+) -> bool {
+    if cell != own.last.cell {
+        return false;
+    }
+    let event = own.last.event;
+    let taken = Reads::Instead { event, value };
+    match trip_of::<M>(machine, values, own.thread, taken) {
+        Some(trip) => trip.leaves.map_or(true, |event| event > own.event),
+        None => false,
     }
 }

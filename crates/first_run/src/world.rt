@@ -3,14 +3,12 @@ ghost use Rattle.std.specs.Prelude.{◌≡◌, ◌≤◌, length, IfOk};
 ghost use Rattle.tc_code.specs.tc_limits.declared.limits.TheConstants.{EVENTS};
 ghost use Rattle.order_events.specs.lawful_order.Events.{all_events, all_sleeps};
 
-use crate::machine::Machine;
 use crate::run::Run;
-use crate::told::Told;
-use crate::values::Values;
 use bit_ranks::ranks;
-use order_events::{Events, Sleeps};
+use order_events::{Events, PlacedSleep, Sleeps};
 use order_formula::World;
 use path_walk::Paths;
+use run_simulation::{Account, Deed, Simulation, Values};
 use std::alloc::{AllocError, Global};
 use store_buffers::MemoryModel;
 use sym_exec::Symbolic;
@@ -37,47 +35,39 @@ pub fn first_world<M: MemoryModel>(
 {
     let events = Events::of(alloc, paths)?;
     let sleeps = Sleeps::of(alloc, paths)?;
-    let sleeps = sleeps.all().len();
-    let run = further::<M>(alloc, code, paths, symbolic, terms, sleeps)?;
-    world_of(alloc, &run, events.all().len(), symbolic.loads(), sleeps)
+    let run = further::<M>(Simulation::new(alloc, code, paths, symbolic, terms)?)?;
+    world_of(alloc, &run.simulation, &events, &sleeps, symbolic.loads())
 }
 
-/// The world of a run, with this number of events, loads and sleeps.
+/// The world of what was done, with values of this number of loads.
 fn world_of(
     alloc: Global,
-    run: &Run,
-    events: usize,
+    done: &Simulation,
+    events: &Events,
+    sleeps: &Sleeps,
     loads: u32,
-    sleeps: usize,
 ) -> Result<World, AllocError>
-    requires { events ≤ EVENTS }
-    ensures positions { IfOk result (λ world. length world.positions ≡ events) }
+    requires { length events.now ≤ EVENTS }
+    ensures positions { IfOk result (λ world. length world.positions ≡ length events.now) }
     ensures loads { IfOk result (λ world. length world.loads ≡ loads) }
-    ensures enders { IfOk result (λ world. length world.enders ≡ sleeps) }
+    ensures enders { IfOk result (λ world. length world.enders ≡ length sleeps.now) }
 {
-    let times = times(alloc, &run.told, events)?;
+    let times = times(alloc, &done.account, events)?;
     Ok(World::new(
         ranks(alloc, &times)?,
-        values_of(alloc, &run.values, loads)?,
-        enders(alloc, &run.told, sleeps)?,
+        values_of(alloc, &done.values, loads)?,
+        enders(alloc, &done.account, events, sleeps)?,
     ))
 }
 
 /// The run that gives the world: the careful one, or the eager one, which reads first, if a thread
 /// left its path in the careful one and stayed longer in the eager one.
-fn further<'a, M: MemoryModel>(
-    alloc: Global,
-    code: &Code,
-    paths: &'a Paths,
-    symbolic: &'a Symbolic,
-    terms: &'a Terms,
-    sleeps: usize,
-) -> Result<Run<'a>, AllocError> {
-    let careful = run::<M>(alloc, code, paths, symbolic, terms, sleeps, false)?;
+fn further<'a, M: MemoryModel>(start: Simulation<'a>) -> Result<Run<'a>, AllocError> {
+    let careful = Run::new::<M>(start.clone()?, false)?;
     if careful.is_whole() {
         return Ok(careful);
     }
-    let eager = run::<M>(alloc, code, paths, symbolic, terms, sleeps, true)?;
+    let eager = Run::new::<M>(start, true)?;
     Ok(if eager.is_further(&careful) {
         eager
     } else {
@@ -85,47 +75,50 @@ fn further<'a, M: MemoryModel>(
     })
 }
 
-/// A run from beginning to end.
-fn run<'a, M: MemoryModel>(
-    alloc: Global,
-    code: &Code,
-    paths: &'a Paths,
-    symbolic: &'a Symbolic,
-    terms: &'a Terms,
-    sleeps: usize,
-    is_eager: bool,
-) -> Result<Run<'a>, AllocError> {
-    let events = paths.events();
-    let mut run = Run::new(
-        Machine::new(alloc, code, paths, symbolic)?,
-        Values::new(alloc, terms, symbolic.loads())?,
-        Told::new(alloc, events, sleeps)?,
-        is_eager,
-    );
-    // Each step does an event, or a store that was issued before reaches memory.
-    run.go_on::<M>(alloc, events.saturating_mul(2))?;
-    Ok(run)
-}
-
 /// The time of each event.
-fn times(alloc: Global, told: &Told, events: usize) -> Result<Vec<u8>, AllocError>
-    ensures { IfOk result (λ v. length v.items ≡ events) }
+fn times(alloc: Global, account: &Account, events: &Events) -> Result<Vec<u8>, AllocError>
+    ensures { IfOk result (λ v. length v.items ≡ length events.now) }
 {
-    (0..events).map(|event| told.time(event)).collect(alloc)
+    events
+        .all()
+        .iter()
+        .map(|placed| account.time(Deed {
+            thread: placed.thread,
+            step: placed.event.step,
+        }))
+        .collect(alloc)
 }
 
-/// The value that each load took.
+/// The value that each load took; 0 if it took none.
 fn values_of(alloc: Global, values: &Values, loads: u32) -> Result<Vec<i32>, AllocError>
     ensures { IfOk result (λ v. length v.items ≡ loads) }
 {
     (0..loads)
-        .map(|load| values.load(load as usize).unwrap_or(0))
+        .map(|load| values.load(load).unwrap_or(0))
         .collect(alloc)
 }
 
 /// The event that ended each sleep.
-fn enders(alloc: Global, told: &Told, sleeps: usize) -> Result<Vec<Option<u32>>, AllocError>
-    ensures { IfOk result (λ v. length v.items ≡ sleeps) }
+fn enders(
+    alloc: Global,
+    account: &Account,
+    events: &Events,
+    sleeps: &Sleeps,
+) -> Result<Vec<Option<u32>>, AllocError>
+    ensures { IfOk result (λ v. length v.items ≡ length sleeps.now) }
 {
-    (0..sleeps).map(|sleep| told.ender(sleep)).collect(alloc)
+    sleeps
+        .all()
+        .iter()
+        .map(|placed| ender(account, events, placed))
+        .collect(alloc)
+}
+
+/// The number of the event that ended a sleep, if one did.
+fn ender(account: &Account, events: &Events, placed: &PlacedSleep) -> Option<u32> {
+    let by = account.ender(Deed {
+        thread: placed.thread,
+        step: placed.sleep.step,
+    })?;
+    Some(events.number(by.thread, by.step))
 }

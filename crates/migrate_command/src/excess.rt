@@ -1,9 +1,9 @@
 //! The limits that a log meets if its paths can be walked.
 ghost use Rattle.std.specs.Prelude.{◌≡◌, None, OnOk, IfErr};
-ghost use Rattle.migrate_command.specs.Migrated.{IsExcess, excess_of, too_deep};
+ghost use Rattle.migrate_command.specs.Migrated.{IsExcess, excess_of};
 
 use command_inputs::{LogPart, Refusal};
-use run_log::{Log, ThreadPath};
+use run_log::Log;
 use tc_limits::limits::{DEPTH, THREADS};
 
 /// A limit that a log exceeds, and the number that it has.
@@ -35,19 +35,9 @@ fn excess_of(log: &Log) -> Option<Excess>
             number: count as u64,
         });
     }
-    let depth = too_deep(log.threads())?;
+    let depth = log.first_deeper(DEPTH)?;
     Some(Excess {
         part: LogPart::Depth,
         number: depth as u64,
     })
-}
-
-/// The depth of the first thread name that is too deep.
-fn too_deep(threads: &[ThreadPath]) -> Option<usize>
-    ensures { result ≡ too_deep threads.now }
-{
-    threads
-        .iter()
-        .map(|thread| thread.name().children().len())
-        .find(|depth| *depth > DEPTH)
 }

@@ -20,10 +20,8 @@ use Rattle.plan_runs.proofs.run_history.of_pending.In.{In, in_at, in_mapped, in_
 use Rattle.plan_runs.proofs.run_history.of_pending.Own.{stores_have_drained}
 use Rattle.plan_runs.specs.path_walk.Paths.{Walk, Paths, paths_of}
 use Rattle.plan_runs.specs.path_walk.declared.event.Event.{Event}
-use Rattle.plan_runs.specs.path_walk.declared.event.EventKind.{EventKind}
 use Rattle.plan_runs.specs.path_walk.declared.event.EventKind.TheVariants as kind
 use Rattle.plan_runs.specs.path_laws.Setting.{Setting}
-use Rattle.plan_runs.specs.path_laws.Deeds.{kind_of}
 use Rattle.plan_runs.specs.path_laws.history.Along.{IsThread, HistoryAlong}
 use Rattle.plan_runs.specs.path_laws.events.Done.{IsDoneIn}
 use Rattle.plan_runs.proofs.path_laws.of_events.Lists.{contains_in, in_contains}
@@ -57,10 +55,6 @@ use Rattle.plan_runs.proofs.End.{failure_is, failure_of}
 use Rattle.plan_runs.proofs.of_memory.Issued.{step_named}
 use Rattle.run_lawful.proofs.of_own.Requests.{store_writes}
 use Rattle.plan_runs.proofs.path_laws.of_history.Logged.{history_again}
-
-abbrev asked_of : Deed → Option EventKind
-asked_of (Did n k r v o) = kind_of r o
-asked_of _ = None
 
 none_found : {X Y : Type 0} (f : X → Option Y) (xs : List X) → ((x : X) → In x xs → f x ≡ None) → filter_map f xs ≡ []
 none_found f [] none = refl

@@ -75,9 +75,6 @@ after_site t i [] false h p q = record { slots = sym q; values = rw h refl }
 after_site t i (v ∷ vs) true h p q = record { slots = p ∙ sym q; values = rw h refl }
 after_site t i (v ∷ vs) false h p q = record { slots = sym q; values = rw h refl }
 
-branch_slots : (t : Local) (e : Expr) (to : ℕ) (v w : ℤ) → (local_after t (Branch e to) v).slots ≡ (local_after t (Branch e to) w).slots
-branch_slots t e to v w = refl
-
 pub after_is : (t : Local) (i : Instr) (vs : List ℤ) → After t i vs (after_request t i vs (request t i))
 after_is t (Inside len i) vs = after_site t (Inside len i) vs (is_within len (value_in t i)) refl refl refl
 after_is t (Holds m) vs = after_site t (Holds m) vs (holds t m) refl refl refl

@@ -42,7 +42,7 @@ use Rattle.sym_laws.proofs.Names.{parent_before, others_before}
 use Rattle.sym_laws.proofs.Steps.{Begins, next}
 use Rattle.sym_laws.proofs.Beside.{IsDone}
 use Rattle.sym_laws.proofs.Executed.{IsFoundAt, found_at_place, course_of, whole as found_from}
-use Rattle.sym_laws.proofs.Follows.{Follows, GoesOnPath, FoundAt, found_at_log, walks, walk_at, asked_more, others_asked, begins_at, done, next_is}
+use Rattle.sym_laws.proofs.Follows.{Follows, GoesOnPath, found_at_log, walks, walk_at, asked_more, others_asked, begins_at, done, next_is}
 
 -- a create hands over its arguments
 gives_arguments : (t : Local) (i : Instr) (f : ℕ) → request t i ≡ Start f → given_by t i ≡ arguments_of t i ∷ []
@@ -85,9 +85,6 @@ module _ (code : Code) (log : Log) (nodes : List Node) (lawful : IsLawful code) 
         accesses = refl;
         before = tt;
       }
-
-  abbrev at_log : ℕ → ThreadPath → Type 0
-  at_log j p = FoundAt code log nodes lawful is terms j p
 
   abbrev found_of : (ws : List Walk) → Executed
   found_of ws = found_from code lawful (paths_of code log) nodes terms ws

@@ -98,7 +98,7 @@ fn run_end(alloc: Global, code: &Code, seed: u64) -> Result<RunEnd, AllocError>
     ensures { IfOk result (λ end. end ≡ told_of code.now seed) }
 {
     match run_seeded::<TsoModel>(alloc, code, seed, MOVES) {
-        Ok(Seeded::Failed(_, _)) => Ok(RunEnd::Failed),
+        Ok(Seeded::Failed(_, _, _)) => Ok(RunEnd::Failed),
         Ok(Seeded::Finished(_)) => Ok(RunEnd::Finished),
         Ok(Seeded::Deadlock(_, _)) => Ok(RunEnd::Deadlock),
         Ok(Seeded::StepLimit(_)) => Ok(RunEnd::StepLimit),

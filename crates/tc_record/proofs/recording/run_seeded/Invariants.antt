@@ -4,7 +4,7 @@ use Rattle.rand_xoshiro.specs.SplitMix64.{splitmix_steps}
 use Rattle.tc_code.specs.Run.{run}
 use Rattle.tc_record.specs.Seeded.{with_moves_before, seeded_from, seeded_run}
 use Rattle.tc_record.proofs.Runs.{words}
-use Rattle.tc_record.proofs.recording.record_run.Given as goal
+use Rattle.tc_record.proofs.recording.run_seeded.Given as goal
 
 abbrev pub invariant-loop : goal.invariant-loop
 invariant-loop g l = record {

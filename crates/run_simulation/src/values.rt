@@ -5,15 +5,15 @@ use std::alloc::{AllocError, Global};
 use sym_exec::Cell;
 use sym_terms::{Id, Node, Terms};
 
-/// The number of terms that a look ahead evaluates.
-const SUPPOSED: usize = 200;
+/// A limit that no number of tests or terms reaches.
+pub const NO_LIMIT: usize = usize::MAX;
 
 /// The values that loads took, and those of the terms over them.
 ///
 /// A thread's terms over a load are made after the load's symbol and before the next one's. So each
 /// load that takes a value changes only the terms between the two.
-#[derive(Drop)]
-pub(crate) struct Values<'a> {
+#[derive(Clone, Drop)]
+pub struct Values<'a> {
     nodes: &'a [Node],
     /// The place of each load's symbol, in order.
     symbols: Vec<usize>,
@@ -23,7 +23,11 @@ pub(crate) struct Values<'a> {
 
 impl<'a> Values<'a> {
     /// The values before any load has taken one.
-    pub fn new(alloc: Global, terms: &'a Terms, loads: u32) -> Result<Values<'a>, AllocError> {
+    pub(crate) fn new(
+        alloc: Global,
+        terms: &'a Terms,
+        loads: u32,
+    ) -> Result<Values<'a>, AllocError> {
         let nodes = terms.nodes();
         let mut values = Values {
             nodes,
@@ -41,8 +45,8 @@ impl<'a> Values<'a> {
     }
 
     /// The value that a load took, if it is known.
-    pub fn load(&self, load: usize) -> Option<i32> {
-        *self.loads.get(load)?
+    pub fn load(&self, load: u32) -> Option<i32> {
+        *self.loads.get(load as usize)?
     }
 
     /// The number of a cell, if it is known and inside its array.
@@ -64,30 +68,20 @@ impl<'a> Values<'a> {
         }
     }
 
-    /// Gives a load its value.
-    pub fn take(&mut self, load: u32, value: i32) {
-        self.set(load as usize, Some(value), usize::MAX);
-    }
-
-    /// Gives a load a value, or an unknown one, for a look ahead; so it evaluates only the next
-    /// terms.
-    pub fn suppose(&mut self, load: u32, value: Option<i32>) {
-        self.set(load as usize, value, SUPPOSED);
-    }
-
-    /// Sets the value of a load, and renews at most `terms` terms that it may change.
-    fn set(&mut self, load: usize, value: Option<i32>, terms: usize) {
-        if let Some(taken) = self.loads.get_mut(load) {
+    /// Gives a load a value, or an unknown one, and evaluates at most `limit` of the terms that it
+    /// may change.
+    pub fn set(&mut self, load: u32, value: Option<i32>, limit: usize) {
+        if let Some(taken) = self.loads.get_mut(load as usize) {
             *taken = value;
         }
-        let from = self.symbol(load);
-        let to = self.symbol(load.saturating_add(1));
-        self.renew(from, to.min(from.saturating_add(terms)));
+        let from = self.symbol(load as usize);
+        let to = self.symbol(load as usize + 1);
+        self.renew(from, to, limit);
     }
 
     /// Evaluates all terms again, which is needed when a parent hands terms to a child.
-    pub fn renew_all(&mut self) {
-        self.renew(0, self.nodes.len());
+    pub(crate) fn renew_all(&mut self) {
+        self.renew(0, self.nodes.len(), NO_LIMIT);
     }
 
     /// The place of a load's symbol, or the end of the terms if there is none.
@@ -95,9 +89,9 @@ impl<'a> Values<'a> {
         self.symbols.get(load).copied().unwrap_or(self.nodes.len())
     }
 
-    /// Evaluates the terms from one place up to another again.
-    fn renew(&mut self, from: usize, to: usize) {
-        for place in from..to {
+    /// Evaluates the terms from one place up to another again, but at most `limit` of them.
+    fn renew(&mut self, from: usize, to: usize, limit: usize) {
+        for place in (from..to).take(limit) {
             let value = self.worked_out(place);
             if let Some(known) = self.known.get_mut(place) {
                 *known = value;
@@ -109,7 +103,7 @@ impl<'a> Values<'a> {
     fn worked_out(&self, place: usize) -> Option<i32> {
         match *self.nodes.get(place)? {
             Node::Constant(number) => Some(number),
-            Node::Symbol(load) => self.load(load as usize),
+            Node::Symbol(load) => self.load(load),
             Node::Unary(op, a) => Some(arith::unary(op, self.of(a)?)),
             Node::Binary(op, a, b) => Some(arith::binary(op, self.of(a)?, self.of(b)?)),
         }
