@@ -9,9 +9,10 @@ ghost use Rattle.clap_solve.specs.Clauses.{blasted_by, clauses_of};
 ghost use Rattle.clap_solve.specs.Posed.{IsGiven, posed_of};
 ghost use Rattle.clap_solve.specs.Solved.{IsWithin};
 
-use bit_blast::{Blasted, blast};
+use bit_blast::{Blasted, blast_draft};
 use clap_system::{BuildFault, build};
 use cnf_core::Cnf;
+use mutex_states::add_states;
 use order_formula::{Formula, Order};
 use path_execution::Execution;
 use path_walk::Paths;
@@ -102,7 +103,7 @@ pub fn pose<M: MemoryModel>(alloc: Global, code: &Code, log: &Log) -> Result<Pos
     let _functions = code.functions();
     let _threads = log.threads();
     let (execution, order, formula) = build::<M>(alloc, code, log)?.into_parts();
-    let blasted = blasted(alloc, &execution, &formula, order)?;
+    let blasted = blasted(alloc, code, &execution, &formula, order)?;
     Ok(Posed {
         execution,
         formula,
@@ -126,6 +127,7 @@ pub fn clauses<M: MemoryModel>(alloc: Global, code: &Code, log: &Log) -> Result<
 /// The clauses of a formula, or of an impossible one if the paths are dead.
 fn blasted(
     alloc: Global,
+    code: &Code,
     execution: &Execution,
     formula: &Formula,
     order: Order,
@@ -140,5 +142,7 @@ fn blasted(
         return Blasted::impossible(alloc);
     }
     let loads = execution.symbolic.loads();
-    blast(alloc, &execution.terms, formula, order, loads)
+    let mut draft = blast_draft(alloc, &execution.terms, formula, order, loads)?;
+    add_states(alloc, &mut draft, code, execution, formula)?;
+    draft.asserted()
 }
