@@ -14,7 +14,7 @@ import sys
 import machine
 
 TOP = os.path.dirname(os.path.dirname(os.path.abspath(__file__)))
-USED = {"store", "storeat", "swap", "cas", "unlock", "sleep", "signal", "broadcast", "create"}
+USED = machine.EXCHANGES | {"store", "storeat", "unlock", "sleep", "signal", "broadcast", "create"}
 BLOCKING = {"lock", "wake", "join"}
 LONGEST = 3000
 

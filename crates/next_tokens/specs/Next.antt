@@ -39,7 +39,7 @@ sample k = kind_word k 0 0 (record { line = 1; col = 1 })
 
 -- some program begins with these words and then a token of this kind
 abbrev pub GoesOnWith : List Word → TokenKind → Type 0
-GoesOnWith before k = Begins 3 (before ++ sample k ∷ [])
+GoesOnWith before k = Begins 4 (before ++ sample k ∷ [])
 
 -- the second list has those items of the first that have this property, in the same order
 abbrev pub ArePicked : {A : Type 0} → (A → Type 0) → List A → List A → Type 0
@@ -50,12 +50,12 @@ ArePicked {A} P (x ∷ xs) picked =
 
 -- the words are a program
 abbrev pub AreProgram : List Word → Type 0
-AreProgram words = (p : Program) × IsSpelled 3 words p
+AreProgram words = (p : Program) × IsSpelled 4 words p
 
 -- no program goes on with the word at this place; the kinds possible there are those with which
 -- some program goes on
 pub record IsStuck (words : List Word) (stuck : Stuck) : Type 0 where
-  pub fault : IsSyntaxFault 3 words stuck.place
+  pub fault : IsSyntaxFault 4 words stuck.place
   pub kinds : ArePicked (GoesOnWith (take stuck.place words)) all_kinds stuck.kinds.items
   -- the text may end there exactly if the words before it are a program
   pub end : (stuck.may_end ≡ true) ↔ AreProgram (take stuck.place words)

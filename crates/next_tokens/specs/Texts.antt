@@ -14,6 +14,6 @@ use Rattle.next_tokens.specs.declared.stuck.Stuck.{Stuck}
 abbrev pub Tells : (text : List ℕ) → TextFault → Option Stuck → Type 0
 Tells text (Parse (Syntax place)) None = ⊥
 Tells text (Parse (Syntax place)) (Some stuck) =
-    (tokens : List Token) × AreTokens 3 text tokens × IsStuck (words_of tokens) stuck
+    (tokens : List Token) × AreTokens 4 text tokens × IsStuck (words_of 4 text tokens) stuck
     × (place ≡ place_at text tokens stuck.place)
 Tells text fault stuck = stuck ≡ None

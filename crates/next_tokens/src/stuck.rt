@@ -46,7 +46,7 @@ fn words_left(alloc: Global, words: &[Word]) -> Result<Option<usize>, AllocError
 
 /// The kinds of tokens that are possible at a place where words stop being a program's.
 fn stuck_at(alloc: Global, words: &[Word], place: usize) -> Result<Stuck, AllocError>
-    requires { IsSyntaxFault 3 words.now place }
+    requires { IsSyntaxFault 4 words.now place }
     ensures { IfOk result (IsStuck words.now) }
 {
     let before = &words[..place];
@@ -124,7 +124,7 @@ fn sample(kind: TokenKind) -> Word
 
 /// Whether some program begins with these words: then none of them is left at their fault.
 fn begins_program(alloc: Global, words: &[Word]) -> Result<bool, AllocError>
-    ensures { IfOk result (λ begins. (begins ≡ true) ↔ Begins 3 words.now) }
+    ensures { IfOk result (λ begins. (begins ≡ true) ↔ Begins 4 words.now) }
 {
     let left = words_left(alloc, words)?;
     Ok(left.unwrap_or(0) == 0)

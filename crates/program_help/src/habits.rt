@@ -44,8 +44,6 @@ const ARRAY_VALUE: &str = "an array has no first values: each element begins as 
 const FIRST_VALUE: &str =
     "a global begins as a number, with or without `-`: compute anything else in main";
 
-const ELEMENT: &str = "`swap` and `cas` work on a variable, not on an element of an array";
-
 const CAS: &str =
     "`cas` gives the old value: write `r = cas(x, old, new);`, where r is an int of the body";
 
@@ -60,7 +58,7 @@ const CHAIN: &str = "an assignment has no value: write two statements";
 
 /// Tokens, each row with a hint what to write instead. `@` marks the token with which no program
 /// goes on; `NAME` is any name, and `_` any token.
-static HABITS: [(&str, &str); 77] = [
+static HABITS: [(&str, &str); 75] = [
     ("int @main", MAIN),
     ("main @(", MAIN),
     ("int NAME @(", FUNCTION),
@@ -111,8 +109,6 @@ static HABITS: [(&str, &str); 77] = [
     ("int NAME = @_", FIRST_VALUE),
     ("int NAME = _ @_", FIRST_VALUE),
     ("int NAME = - _ @_", FIRST_VALUE),
-    ("cas ( NAME @[", ELEMENT),
-    ("swap ( NAME @[", ELEMENT),
     ("lock ( NAME @[", MUTEX_ARRAY),
     ("unlock ( NAME @[", MUTEX_ARRAY),
     ("signal ( NAME @[", MUTEX_ARRAY),

@@ -10,16 +10,16 @@ use Rattle.next_tokens.specs.declared.stuck.Stuck.{Stuck}
 
 -- the text has tokens with this property
 abbrev pub HasTokens : (text : List ℕ) → (List Token → Type 0) → Type 0
-HasTokens text P = (tokens : List Token) × AreTokens 3 text tokens × P tokens
+HasTokens text P = (tokens : List Token) × AreTokens 4 text tokens × P tokens
 
 -- the result of the search: the place where tokens stop being a program's, or none if they are one
 abbrev pub IsSearched : (text : List ℕ) → Option Stuck → Type 0
 IsSearched text stuck = MatchOption stuck
-    (HasTokens text (λ tokens. AreProgram (words_of tokens)))
-    (λ s. HasTokens text (λ tokens. IsStuck (words_of tokens) s))
+    (HasTokens text (λ tokens. AreProgram (words_of 4 text tokens)))
+    (λ s. HasTokens text (λ tokens. IsStuck (words_of 4 text tokens) s))
 
 -- `left` is the number of words from their fault on, or none if they are a program
 abbrev pub IsLeft : List Word → Option ℕ → Type 0
 IsLeft words left =
     MatchOption left (AreProgram words)
-    (λ n. (n ≤ length words) × IsSyntaxFault 3 words (length words - n))
+    (λ n. (n ≤ length words) × IsSyntaxFault 4 words (length words - n))

@@ -6,5 +6,5 @@ use Rattle.next_tokens.proofs.stuck.goes_on_with.Goals as goal
 
 pub returns : goal.returns
 returns c =
-    subst (λ (ws : List Word). IfOk c.begins_program.result (λ begins. (begins ≡ true) ↔ Begins 3 ws)) (c.as_slice.ensures.value ∙ c.in_ok-words.ensures)
+    subst (λ (ws : List Word). IfOk c.begins_program.result (λ begins. (begins ≡ true) ↔ Begins 4 ws)) (c.as_slice.ensures.value ∙ c.in_ok-words.ensures)
     c.begins_program.ensures

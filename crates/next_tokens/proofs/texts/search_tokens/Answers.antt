@@ -7,7 +7,7 @@ use Rattle.next_tokens.proofs.texts.search_tokens.Goals as goal
 
 pub returns : goal.returns
 returns c =
-    let words : c.as_slice-2.result.now ≡ words_of c.args.tokens.now =
-    c.as_slice-2.ensures.value ∙ c.in_ok-words.ensures ∙ ap words_of c.as_slice.ensures in
+    let words : c.as_slice-2.result.now ≡ words_of 4 c.args.text.now c.args.tokens.now =
+    c.as_slice-2.ensures.value ∙ c.in_ok-words.ensures ∙ ap (words_of 4 c.args.text.now) c.as_slice.ensures in
     searched c.args.text.now c.args.tokens.now c.find_stuck.result c.requires
     (subst (λ (ws : List Word). IfOk c.find_stuck.result (λ stuck. MatchOption stuck (AreProgram ws) (IsStuck ws))) words c.find_stuck.ensures)
