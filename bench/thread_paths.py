@@ -3,8 +3,9 @@
 
   thread_paths.py [--examples] > ROWS    of the programs below; with --examples, of the programs of examples/ instead
 
-All prefixes of paths are made, each is judged by what docs and definitions say of a path that may be taken, and those that
-may are sorted: outcomes decide first, a false before a true and fewer before more, and then steps.
+All prefixes of paths are made that have no pure turn (pure_turns.py), each is judged by what docs and definitions say of a
+path that may be taken, and those that may are sorted: outcomes decide first, a false before a true and fewer before more, and
+then steps.
 """
 import glob
 import os
@@ -12,6 +13,7 @@ import re
 import sys
 
 import machine
+from pure_turns import Turns
 
 TOP = os.path.dirname(os.path.dirname(os.path.abspath(__file__)))
 USED = {"store", "storeat", "swap", "cas", "unlock", "sleep", "signal", "broadcast", "create"}
@@ -41,6 +43,26 @@ PROGRAMS = {
         "main { int r; while (x) { r = r + 1; } assert(r); }",
         "main { int r; while (r < 3) { x = r; r = r + 1; } }",
         "main { if (x) { if (a[0]) { x = 1; } else { x = 2; } } else { lock(m); } }",
+    ],
+    "rounds that change nothing": [
+        "main { while (x == 0) { } x = 1; }",
+        "main { while (x == 0) { fence(); } assert(x); }",
+        "main { int again; int r; again = 1; while (again) { r = x; again = r & 1; } x = r; }",
+        "main { int r; r = cas(x, 0, 1); while (r) { r = cas(x, 0, 1); } x = 2; }",
+        "main { int r; r = 1; while (r != 0) { r = cas(x, 0, 1); } x = 2; }",
+    ],
+    "rounds that change something": [
+        "main { while (x == 0) { a[0] = 1; } x = 1; }",
+        "main { int n; while (x == 0) { n = 1; } assert(!n); }",
+        "main { int n; while (x == 0) { n = a[0]; } assert(!n); }",
+        "main { int r; while (a[0] == 0) { r = cas(x, 0, 1); } x = 2; }",
+        "main { int r; while (a[0] == 0) { r = cas(x, 1, 2); r = cas(x, 0, 1); } x = 2; }",
+        "main { int r; while (a[0] == 0) { r = swap(x, 1); } x = 2; }",
+        "main { int r; r = cas(x, 0, 1); while (r == 0) { r = cas(x, 0, 1); } x = 2; }",
+        "main { while (x == 0) { stbar(); } x = 1; }",
+        "main { lock(m); while (x == 0) { wait(c, m); } x = 1; }",
+        "main { while (x == 0) { signal(c); } x = 1; }",
+        "thread g() { } main { tid t; while (x == 0) { t = create g(); } x = 1; }",
     ],
 }
 AIMS = [("exit", False), ("used", False), ("open", True), ("rest", False)]
@@ -102,28 +124,31 @@ def may_take(instrs, end, may_fail, steps, place):
 
 
 def prefixes(instrs, most):
-    """Each path of at most that many outcomes: the place after it, outcomes, instructions."""
-    ways = [(0, (), ())]
+    """Each path without a pure turn and of at most that many outcomes: the place after it, outcomes, instructions, and whether
+    a turn ends with it, so that no such path goes on."""
+    turns = Turns(instrs)
+    ways = [(0, (), (), ())]
     while ways:
-        place, outcomes, steps = ways.pop()
-        yield place, outcomes, steps
-        if place >= len(instrs) or len(steps) >= LONGEST:
+        place, outcomes, steps, places = ways.pop()
+        ends = turns.ends(places + (place,))
+        yield place, outcomes, steps, ends
+        if place >= len(instrs) or len(steps) >= LONGEST or ends:
             continue
-        i = instrs[place]
+        i, places = instrs[place], places + (place,)
         if i[0] != "branch":
-            ways.append((i[1] if i[0] == "goto" else place + 1, outcomes, steps + (i,)))
+            ways.append((i[1] if i[0] == "goto" else place + 1, outcomes, steps + (i,), places))
         elif len(outcomes) < most:
-            ways.append((place + 1, outcomes + (1,), steps + (i,)))
-            ways.append((i[2], outcomes + (0,), steps + (i,)))
+            ways.append((place + 1, outcomes + (1,), steps + (i,), places))
+            ways.append((i[2], outcomes + (0,), steps + (i,), places))
 
 
 def paths(instrs, end, may_fail, most):
     """The paths, in order, and whether some are left out since they have too many outcomes."""
     found, cut = [], False
-    for place, outcomes, steps in prefixes(instrs, most):
+    for place, outcomes, steps, ends in prefixes(instrs, most):
         if may_take(instrs, end, may_fail, steps, place):
             found.append((outcomes, len(steps)))
-        at_branch = place < len(instrs) and instrs[place][0] == "branch"
+        at_branch = place < len(instrs) and instrs[place][0] == "branch" and not ends
         cut = cut or at_branch and len(outcomes) == most and is_possible(steps, False)
     return sorted(found), cut
 

@@ -13,13 +13,15 @@ LAST = 2**64 - 1
 
 @dataclasses.dataclass
 class Option:
-    """An option takes one of some names, a number of a range, or the name of a file; a flag takes nothing."""
+    """An option takes one of some names, a number of a range, or the name of a file; a flag takes nothing. A fixed one is always
+    among the words of its command."""
 
     what: str
     names: tuple = ()
     range: tuple = ()
     default: str = ""
     is_flag: bool = False
+    is_fixed: bool = False
 
     def value(self):
         return "|".join(self.names) if self.names else "N" if self.range else "FILE"
@@ -55,7 +57,8 @@ class Command:
 
     def usage(self):
         words = (f"[{word}]" if word in self.optional else word for word in self.words())
-        return " ".join([*words, *(f"[{it.usage(name)}]" for name, it in self.options.items())])
+        options = (it.usage(name) if it.is_fixed else f"[{it.usage(name)}]" for name, it in self.options.items())
+        return " ".join([*words, *options])
 
 
 def model(default):
@@ -85,7 +88,7 @@ PROGRAMS = {
         "cnf": Command("writes the clauses of a log as a DIMACS text", LOGS, ("OUT",), OF_LOG),
         "import": Command("writes the schedule that another solver's answer says", (*LOGS, "ANSWER"), ("OUT",), OF_LOG),
     },
-    # it has no command: its words come at once
+    # these have no command: the words come at once, and an option may say which command is meant
     "clap_debug_show": {
         "": Command("shows what a schedule or a log did, as text or as a page; of a program alone it says what is wrong with it, "
                     "or what it has", ("PROGRAM",), (),
@@ -95,16 +98,20 @@ PROGRAMS = {
                     writes=("html",), optional=("SCHEDULE or LOG",)),
     },
     "clap_debug_find": {
-        "": Command("looks for a failure of a program without running it, and keeps the log of one, or says that no run fails",
+        "": Command("looks for a failure of a program without running it, and keeps the log of one, or a certificate that no run fails",
                     ("PROGRAM",), ("OUT",), model("tso") | {
                         "deadlock": Option("looks for a deadlock", is_flag=True),
                         "outcomes": Option("the most outcomes of branches in each thread", range=(0, 65_535), default="12"),
                         "logs": Option("the most logs that are gone through", range=(1, 2**32 - 1), default="10000"),
                         "budget": BUDGET}),
+        "--check": Command("says whether a certificate shows that no run of the program fails", ("PROGRAM", "CERTIFICATE"), (),
+                           {"check": Option("checks a certificate", is_flag=True, is_fixed=True)}),
     },
 }
-KINDS = {b"CLPL": "a log", b"clap-schedule ": "a schedule", b"clap-refutation ": "a refutation", b"p cnf ": "a list of clauses"}
-WANTED = {"PROGRAM": "a program", "LOG": "a log", "SCHEDULE": "a schedule", "REFUTATION": "a refutation", "ANSWER": "a solver's answer",
+KINDS = {b"CLPL": "a log", b"clap-schedule ": "a schedule", b"clap-refutation ": "a refutation", b"clap-none ": "a certificate",
+         b"p cnf ": "a list of clauses"}
+WANTED = {"PROGRAM": "a program", "LOG": "a log", "SCHEDULE": "a schedule", "REFUTATION": "a refutation",
+          "CERTIFICATE": "a certificate", "ANSWER": "a solver's answer",
           "SCHEDULE or LOG": "a schedule or a log"}
 
 
@@ -116,7 +123,7 @@ def split(program, words):
             return None, words, []
         command, rest = commands[words[0]], list(words[1:])
     else:
-        command, rest = commands[""], list(words)
+        command, rest = next((commands[it] for it in words if it and it in commands), commands[""]), list(words)
     plain, options = [], []
     while rest:
         word = rest.pop(0)
@@ -166,10 +173,12 @@ def wrong_words(program, words):
     command, plain, options = split(program, words)
     if not command:
         return f"there is no command {words[0]}{nearest(words[0], commands)}" if words else None
-    name = words[0] if "" not in commands else program
+    name = words[0] if "" not in commands else " ".join([program, *(it for it in words if it and it in commands)])
     for option, value in options:
         if option not in command.options:
-            return f"{name} has no option --{option}{nearest(option, command.options, '--')}"
+            is_first = command is commands.get("")
+            near = [known for it in commands.values() for known in it.options] if is_first else command.options
+            return f"{name} has no option --{option}{nearest(option, near, '--')}"
         if command.options[option].is_flag:
             if value is not None:
                 return f"--{option} takes no value"
@@ -256,7 +265,8 @@ def refusal(program, status, words):
 
 def show_help(program):
     for name, command in PROGRAMS[program].items():
-        print(f"{' '.join(filter(None, [program, name, command.usage()]))}\n    {command.what}")
+        word = name if "" not in PROGRAMS[program] else ""
+        print(f"{' '.join(filter(None, [program, word, command.usage()]))}\n    {command.what}")
         for option, it in command.options.items():
             low_high = f", {it.range[0]} to {it.range[1]}" if it.range else ""
             default = f"; {it.default} if left out" if it.default else ""

@@ -4,7 +4,7 @@ use Rattle.tc_code.specs.Code.{Code}
 use Rattle.tc_compile.specs.Programs.{IsCodeOf}
 use Rattle.tc_compile.proofs.OnePrograms.{one_refusal, refused_no_code}
 use Rattle.tc_io.specs.Outside.{Files, ShelfTells, SinkTells, bytes_at}
-use Rattle.command_ends.proofs.Ended.{Reports, declines, reported_or_declined, result_at}
+use Rattle.command_ends.proofs.Ended.{Reports, declines, reported, reported_or_declined, result_at}
 use Rattle.command_frame.specs.End.{End}
 use Rattle.command_frame.specs.Run.{Runs}
 use Rattle.command_frame.specs.declared.status.Status.TheVariants as status
@@ -15,7 +15,7 @@ use Rattle.certificate_input.specs.declared.verdict.Verdict.{Verdict}
 use Rattle.certificate_input.specs.declared.verdict.Verdict.TheVariants.{Holds, Open, LineRefused, Form, Limit, LeftOut}
 use Rattle.certificate_check.specs.Answers.{CheckAnswers, HasCode, HasNone, HasOpen, HasVerdict, HasWrong}
 use Rattle.certificate_check.specs.Lines.{verdict_status}
-use Rattle.certificate_check.specs.Meanings.{Call, ComesTo, IsUnread, check_of, inputs_of, report}
+use Rattle.certificate_check.specs.Meanings.{Check, ComesTo, IsUnread, check_of, inputs_of, report}
 
 -- a text is refused for one reason, and has no code then
 one_unread : (program : List ℕ) (r q : Refusal) → IsUnread program r → IsUnread program q → r ≡ q
@@ -27,7 +27,7 @@ unread_or_coded : (program : List ℕ) (code : Code) → IsCodeOf program code �
 unread_or_coded program code is (Program r) f = refused_no_code program r code f is
 unread_or_coded program code is _ f = f
 
-module _ (call : Call) (files : Files) (old new : ShelfTells) (number : ℕ) (before after : SinkTells) (told : old.held ≡ Some files)
+module _ (call : Check) (files : Files) (old new : ShelfTells) (number : ℕ) (before after : SinkTells) (told : old.held ≡ Some files)
     (runs : Runs (check_of call) old new number before after) where
   abbrev e : End
   e = record { status = number; held = new.held; before = before; after = after }
@@ -60,7 +60,7 @@ module _ (call : Call) (files : Files) (old new : ShelfTells) (number : ℕ) (be
   wrong_so (LeftOut out) is r = absurd (let bad : status.OverLimit ≡ status.Fails = is in cc)
 
   verdict_so : (v : Verdict) → Ends v → HasCode call files e (HasVerdict call files e)
-  verdict_so v r = (r.comes.0, r.comes.1, (v, r.comes.2, (r.held, r.wrote)))
+  verdict_so v r = (r.comes.0, r.comes.1, (v, r.comes.2, r.status, (r.held, r.wrote)))
 
   answers : CheckAnswers call files e
   answers = record {
@@ -70,6 +70,12 @@ module _ (call : Call) (files : Files) (old new : ShelfTells) (number : ℕ) (be
         let x = result_at (inputs_of call) ComesTo report files old new number before after told runs status.Fails tt is in wrong_so x.0 x.1 x.2;
     incomplete = λ is.
         let x = result_at (inputs_of call) ComesTo report files old new number before after told runs status.Open tt is in open_so x.0 x.1 x.2;
+    checked = λ code is short.
+        elim (reported (inputs_of call) ComesTo report files old new number before after told runs short
+        (unread_or_coded (bytes_at files call.program) code is)) [
+          | inl x ↦ inl (verdict_so x.0 x.1)
+          | inr fault ↦ inr fault
+        ];
     declines =
         declines (inputs_of call) ComesTo report files old new number before after told runs
         (one_unread (bytes_at files call.program)) (λ r x f w. unread_or_coded (bytes_at files call.program) w.0 w.1 r f);
@@ -81,7 +87,7 @@ module _ (call : Call) (files : Files) (old new : ShelfTells) (number : ℕ) (be
   }
 
 -- where the shelf tells what it holds
-pub by_files : (call : Call) (old new : ShelfTells) (number : ℕ) (before after : SinkTells) → Runs (check_of call) old new number before after
+pub by_files : (call : Check) (old new : ShelfTells) (number : ℕ) (before after : SinkTells) → Runs (check_of call) old new number before after
     → IfSome old.held (λ files. CheckAnswers call files (record { status = number; held = new.held; before = before; after = after }))
 by_files call old new number before after runs =
     if_told old.held (λ files. CheckAnswers call files (record { status = number; held = new.held; before = before; after = after }))

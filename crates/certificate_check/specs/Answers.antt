@@ -3,7 +3,8 @@ use Rattle.std.specs.Prelude.{◌≡◌, ◌⊎◌, ℕ, List}
 use Rattle.tc_code.specs.Code.{Code}
 use Rattle.tc_compile.specs.Programs.{IsCodeOf}
 use Rattle.tc_io.specs.Outside.{Files, bytes_at}
-use Rattle.command_ends.specs.Ends.{Declines, HasDeclined}
+use Rattle.command_ends.specs.Ends.{AreShort, Declines, HasDeclined}
+use Rattle.command_frame.specs.Answers.{IsFaultStatus, number_of}
 use Rattle.command_frame.specs.End.{End, LeavesNothing}
 use Rattle.none_certificates.specs.declared.header.Header.{Header}
 use Rattle.refutation_verdicts.specs.Verdicts.{open_line, refused_line}
@@ -11,10 +12,10 @@ use Rattle.certificate_input.specs.certified_logs.Logs.{NoneRuns}
 use Rattle.certificate_input.specs.Checked.{IsChecked, IsLineRefused, IsOpen}
 use Rattle.certificate_input.specs.Cuts.{HasHeader}
 use Rattle.certificate_input.specs.declared.verdict.Verdict.{Verdict}
-use Rattle.certificate_check.specs.Lines.{holds_line, verdict_line}
-use Rattle.certificate_check.specs.Meanings.{Call, IsUnread, inputs_of}
+use Rattle.certificate_check.specs.Lines.{holds_line, verdict_line, verdict_status}
+use Rattle.certificate_check.specs.Meanings.{Check, IsUnread, inputs_of}
 
-module _ (call : Call) (files : Files) (e : End) where
+module _ (call : Check) (files : Files) (e : End) where
   abbrev pub program : List ℕ
   program = bytes_at files call.program
 
@@ -39,10 +40,11 @@ module _ (call : Call) (files : Files) (e : End) where
   HasWrong code =
       (n : ℕ) × IsLineRefused code certificate n × LeavesNothing files e (refused_line n)
 
-  -- another verdict was told
+  -- this verdict was told
   abbrev pub HasVerdict : Code → Type 0
   HasVerdict code =
-      (v : Verdict) × IsChecked code certificate v × LeavesNothing files e (verdict_line v)
+      (v : Verdict) × IsChecked code certificate v × (e.status ≡ number_of (verdict_status v))
+      × LeavesNothing files e (verdict_line v)
 
   -- the answers of `--check`
   pub record CheckAnswers : Type 0 where
@@ -51,7 +53,10 @@ module _ (call : Call) (files : Files) (e : End) where
     -- a line doesn't pass, or the certificate doesn't refute all logs
     pub wrong : e.status ≡ 1 → HasCode HasWrong
     pub incomplete : e.status ≡ 10 → HasCode HasOpen
+    -- with a program that isn't too long a verdict is told, but for devices and memory
+    pub checked : (code : Code) → IsCodeOf program code → AreShort (inputs_of call) files
+        → HasCode HasVerdict ⊎ IsFaultStatus e.status
     -- a text that isn't a program, or is too long, is told, but for devices and memory
     pub declines : Declines (inputs_of call) (IsUnread program) files e
-    -- otherwise a breach of the form or a limit was told, or one of these
+    -- a verdict was told, or one of these
     pub others : HasCode HasVerdict ⊎ HasDeclined (inputs_of call) (IsUnread program) files e

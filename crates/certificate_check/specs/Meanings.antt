@@ -14,15 +14,15 @@ use Rattle.certificate_check.specs.Lines.{verdict_line, verdict_status}
 use Rattle.certificate_check.specs.declared.command.CheckCertificate.{CheckCertificate}
 
 -- `PROGRAM CERTIFICATE --check`: the names of its files
-pub record Call : Type 0 where
+pub record Check : Type 0 where
   pub program : List ℕ
   pub certificate : List ℕ
 
-abbrev pub call_of : CheckCertificate → Call
-call_of check = record { program = check.program.name.now; certificate = check.certificate.now }
+abbrev pub plain_check : CheckCertificate → Check
+plain_check check = record { program = check.program.name.now; certificate = check.certificate.now }
 
 -- the files that it reads
-abbrev pub inputs_of : Call → List Wanted
+abbrev pub inputs_of : Check → List Wanted
 inputs_of call = Whole program_limit call.program ∷ InPieces call.certificate ∷ []
 
 -- why the certificate isn't checked
@@ -42,5 +42,5 @@ abbrev pub report : Report Verdict
 report = record { keeps_of = λ _. []; line_of = verdict_line; status_of = verdict_status }
 
 -- the command
-abbrev pub check_of : Call → Meaning (Result Verdict Refusal)
+abbrev pub check_of : Check → Meaning (Result Verdict Refusal)
 check_of call = command_of (inputs_of call) ComesTo report

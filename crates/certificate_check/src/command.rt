@@ -1,5 +1,5 @@
 //! The command.
-ghost use Rattle.certificate_check.specs.Meanings.{call_of, check_of};
+ghost use Rattle.certificate_check.specs.Meanings.{plain_check, check_of};
 
 use crate::line::{verdict_line, verdict_status};
 use certificate_input::{Incoming, Verdict};
@@ -19,7 +19,7 @@ pub struct CheckCertificate<'a> {
 impl<'a> Command for CheckCertificate<'a> {
     type Outcome = Result<Verdict, Refusal>;
 
-    ghost meaning = { λ check. check_of (call_of check) };
+    ghost meaning = { λ check. check_of (plain_check check) };
 
     fn keeps<'n, 'b>(
         &'n self,

@@ -5,7 +5,7 @@
 ghost use Rattle.std.specs.Prelude.{IfSome};
 ghost use Rattle.command_frame.specs.Run.{Runs};
 ghost use Rattle.certificate_check.specs.Answers.{CheckAnswers};
-ghost use Rattle.certificate_check.specs.Meanings.{call_of, check_of};
+ghost use Rattle.certificate_check.specs.Meanings.{plain_check, check_of};
 
 mod command;
 mod line;
@@ -22,8 +22,8 @@ pub fn check_certificate<H: Shelf, K: Sink>(
     shelf: &mut H,
     sink: &mut K,
 ) -> u8
-    ensures runs { Runs (check_of (call_of check.now)) (H.tells shelf.old) (H.tells shelf.new) result (K.tells sink.old) (K.tells sink.new) }
-    ensures answers { IfSome (H.tells shelf.old).held (λ files. CheckAnswers (call_of check.now) files
+    ensures runs { Runs (check_of (plain_check check.now)) (H.tells shelf.old) (H.tells shelf.new) result (K.tells sink.old) (K.tells sink.new) }
+    ensures answers { IfSome (H.tells shelf.old).held (λ files. CheckAnswers (plain_check check.now) files
         (record { status = result; held = (H.tells shelf.new).held; before = K.tells sink.old; after = K.tells sink.new })) }
 {
     run_in_pieces(alloc, check, shelf, sink)

@@ -1,15 +1,13 @@
 //! The line and the status of each verdict.
 ghost use Rattle.std.specs.Prelude.{◌≡◌, IfOk, string_bytes};
-ghost use Rattle.certificate_check.specs.Lines.{form_line, holds_line, left_line, over_line, verdict_line, verdict_status, which_text};
+ghost use Rattle.certificate_check.specs.Lines.{form_line, holds_line, left_line, verdict_line, verdict_status};
 
 use certificate_input::Verdict;
-use clap_system::Which;
 use command_frame::Status;
-use log_walk::LeftOut;
+use log_limits::{Part, part_left, part_of};
 use none_certificates::Header;
 use refutation_verdicts::{open_line, refused_line};
 use std::alloc::{AllocError, Global};
-use tc_limits::limits::{DEPTH, STEPS, THREADS};
 
 /// The line that says a verdict.
 pub(crate) fn verdict_line(alloc: Global, verdict: Verdict) -> Result<String, AllocError>
@@ -20,8 +18,8 @@ pub(crate) fn verdict_line(alloc: Global, verdict: Verdict) -> Result<String, Al
         Verdict::Open => open_line(alloc),
         Verdict::LineRefused(line) => refused_line(alloc, line),
         Verdict::Form(line) => form_line(alloc, line),
-        Verdict::Limit(which, number, limit) => over_line(alloc, which_text(which), number, limit),
-        Verdict::LeftOut(out) => left_line(alloc, out),
+        Verdict::Limit(which, number, _) => part_of(which).over_line(alloc, number),
+        Verdict::LeftOut(out) => left_line(alloc, part_left(out)),
     }
 }
 
@@ -56,33 +54,9 @@ fn form_line(alloc: Global, line: u32) -> Result<String, AllocError>
     format!(in alloc; "certificate refused: line {line}\n")
 }
 
-/// A log has this many of something, which are too many.
-fn over_line(alloc: Global, what: &str, number: u64, most: u64) -> Result<String, AllocError>
-    ensures { IfOk result (λ text. string_bytes text ≡ over_line what.now number most) }
+/// Logs with more than the limit of these were left out.
+fn left_line(alloc: Global, part: Part) -> Result<String, AllocError>
+    ensures { IfOk result (λ text. string_bytes text ≡ left_line part) }
 {
-    format!(in alloc; "limit {what} {number} of {most}\n")
-}
-
-fn which_text(which: Which) -> &'static str
-    ensures { result.now ≡ which_text which }
-{
-    match which {
-        Which::Threads => "threads",
-        Which::Depth => "depth",
-        Which::Events => "events",
-        Which::Operators => "operators",
-    }
-}
-
-/// What logs that were left out have too many of.
-fn left_line(alloc: Global, out: LeftOut) -> Result<String, AllocError>
-    ensures { IfOk result (λ text. string_bytes text ≡ left_line out) }
-{
-    if out.threads {
-        over_line(alloc, "threads", THREADS as u64 + 1, THREADS as u64)
-    } else if out.depth {
-        over_line(alloc, "depth", DEPTH as u64 + 1, DEPTH as u64)
-    } else {
-        over_line(alloc, "steps", u64::from(STEPS) + 1, u64::from(STEPS))
-    }
+    part.over_line(alloc, part.limit() + 1)
 }

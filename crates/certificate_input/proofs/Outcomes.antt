@@ -14,8 +14,10 @@ use Rattle.certified_logs.specs.find_failures.clap_solve.Clauses.{model_clauses}
 use Rattle.certified_logs.specs.find_failures.LeftOut.{is_over}
 use Rattle.log_walk.specs.declared.bounds.LeftOut.{LeftOut}
 use Rattle.none_certificates.specs.declared.header.Header.{Header}
-use Rattle.certified_logs.specs.Logs.{AllAreRefuted, IsNext}
-use Rattle.certified_logs.proofs.Promised.{none_runs}
+use Rattle.certified_logs.specs.Logs.{IsNext}
+use Rattle.slot_liveness.specs.pure_turns.Live.{Liveness, IsClosed as IsLive}
+use Rattle.certified_logs.specs.Places.{AllAreDone}
+use Rattle.certified_logs.proofs.Promised.{all_refuted, none_runs}
 use Rattle.certificate_input.specs.Checked.{IsChecked, IsOpen}
 use Rattle.certificate_input.specs.Checked.IsLineRefused.{ByLine, ByHeader}
 use Rattle.certificate_input.specs.Cuts.{Cut, HasHeader}
@@ -56,20 +58,20 @@ module _ (code : Code) (bytes : List ℕ) where
       record { header = h; has = has; log = log; next = next; lines = []; unclosed = not_closed_yet (model_clauses h.model code log) }
 
   -- the verdict if each log is refuted, except those left out
-  pub judged_so : IsLawful code → (h : Header) (out : LeftOut) → HasHeader bytes h → AllAreRefuted code h out
-      → IsChecked code bytes (judged h out)
-  judged_so lawful h out has done = by_over (is_over out) refl
+  pub judged_so : IsLawful code → (h : Header) (out : LeftOut) → HasHeader bytes h
+      → (live : Liveness) → IsLive code live → AllAreDone code live h out → IsChecked code bytes (judged h out)
+  judged_so lawful h out has live closed done = by_over (is_over out) refl
     where
       by_whole : (b : Bool) → (h.whole && out.outcomes) ≡ b → is_over out ≡ false
           → IsChecked code bytes (cond b (verdict.LineRefused 1) (verdict.Holds h))
       by_whole true is over =
           let parts = and_parts h.whole out.outcomes is in
-          ByHeader h refl has (record { whole = parts.0; out = out; cut = parts.1; done = done })
-      by_whole false is over = (has, none_runs code lawful h out done over is)
+          ByHeader h refl has (record { whole = parts.0; out = out; cut = parts.1; done = all_refuted code live closed h out done })
+      by_whole false is over = (has, none_runs code lawful live closed h out done over is)
 
       by_over : (b : Bool) → is_over out ≡ b
           → IsChecked code bytes (cond b (verdict.LeftOut out) (cond (h.whole && out.outcomes) (verdict.LineRefused 1) (verdict.Holds h)))
-      by_over true over = (h, has, over, done)
+      by_over true over = (h, has, over, all_refuted code live closed h out done)
       by_over false over = by_whole (h.whole && out.outcomes) refl over
 
   -- the verdict on one with a wrong line

@@ -22,6 +22,7 @@ use Rattle.certified_logs.specs.find_failures.clap_solve.Solved.{IsImpossible, I
 use Rattle.none_certificates.specs.Texts.{log_text}
 use Rattle.none_certificates.specs.declared.header.Header.{Header}
 use Rattle.certified_logs.specs.Logs.{line_of, IsNext}
+use Rattle.slot_liveness.specs.Tables.{liveness}
 use Rattle.certified_logs.specs.Places.{IsAt, IsOf}
 use Rattle.certified_logs.specs.declared.place.Place.{Place}
 use Rattle.certified_logs.proofs.Places.{is_next, log_is}
@@ -95,7 +96,7 @@ module _ (code : Code) where
 
   -- after the first line
   pub begun_so : (front rest : List ℕ) (n : ℕ) (stage new : Stage) → begins stage ≡ true → IsStage code front rest n stage
-      → IsBegun rest new → IsStage code (front ++ 10 ∷ []) [] (n + 1) new
+      → IsBegun code rest new → IsStage code (front ++ 10 ∷ []) [] (n + 1) new
   begun_so front rest n (Follows c) new e is begun = absurd (false≢true e)
   begun_so front rest n (Ends k w) new e is begun = absurd (false≢true e)
   begun_so front rest n Begins Begins e is begun = absurd begun
@@ -107,7 +108,7 @@ module _ (code : Code) where
       line = subst (IsLine (front ++ 10 ∷ []) 1) (sym begun.0) (line_there front [] rest 1 is.0 refl);
       has_form = begun.1;
     };
-    checking = begun.2 code;
+    checking = begun.2;
   }
   begun_so front rest n Begins (Ends k w) e is begun =
       subst (IsWrong code (front ++ 10 ∷ []) k) (sym begun.1)
@@ -156,7 +157,7 @@ module _ (code : Code) where
   -- a checker is that of the log that comes next
   module _ (h : Header) (p : Place) (at : IsAt code h p) (c : Checking) (is : IsFollowing code h p c) where
     pub next_of : IsNext code h is.log
-    next_of = is_next code h p at is.log is.of
+    next_of = is_next code (liveness p.live) h p at.reached is.log is.of
 
     -- its log isn't refuted if its lines aren't closed
     pub unrefuted : (verdict c ≡ Ok Closed → ⊥) → IsUnrefuted code h
@@ -170,7 +171,7 @@ module _ (code : Code) where
     -- no moves reproduce its log if they are
     pub refuted : IsLawful code → verdict c ≡ Ok Closed → IsImpossible (buffer_of h.model) code is.log
     refuted lawful closed =
-        refuted_so code lawful h.model is.log is.lines (log_is code h p at is.log is.of) is.within (sym (ap verdict is.follows) ∙ closed)
+        refuted_so code lawful h.model is.log is.lines (log_is code (liveness p.live) h p at.reached is.log is.of) is.within (sym (ap verdict is.follows) ∙ closed)
 
     -- after another line
     pub follows_on : (l : Line) (next : Checking) → next ≡ state_after_line c l → IsFollowing code h p next

@@ -16,6 +16,7 @@ use certified_logs::{Next, Place};
 use log_walk::LeftOut;
 use none_certificates::{Header, is_log_line};
 use refute_check::{CheckFault, Checked, Checker, LINES};
+use slot_liveness::live_slots;
 use std::alloc::{AllocError, Global};
 use tc_code::Code;
 
@@ -51,15 +52,16 @@ fn refused(fault: CheckFault) -> Result<Option<Wrong>, AllocError>
 
 impl Checks {
     /// After the header.
-    pub(crate) fn new(header: Header) -> Checks
-        ensures header { result.header ≡ header }
-        ensures checking { (code : PlainCode) → IsChecking code result }
+    pub(crate) fn new(alloc: Global, code: &Code, header: Header) -> Result<Checks, AllocError>
+        ensures header { IfOk result (λ checks. checks.header ≡ header) }
+        ensures checking { IfOk result (IsChecking code.now) }
     {
-        Checks {
+        let live = live_slots(alloc, code)?;
+        Ok(Checks {
             header,
-            place: Place::first(),
+            place: Place::first(live),
             checker: None,
-        }
+        })
     }
 
     /// Goes past the log that is refuted. Before the first log there is none. Returns false if its

@@ -126,11 +126,11 @@ fn ended(number: u32, wrong: Wrong) -> Verdict
 }
 
 /// The stage after the first line.
-fn begun(alloc: Global, line: &[u8]) -> Result<Stage, AllocError>
-    ensures { IfOk result (IsBegun line.now) }
+fn begun(alloc: Global, code: &Code, line: &[u8]) -> Result<Stage, AllocError>
+    ensures { IfOk result (IsBegun code.now line.now) }
 {
     match read_header(alloc, line)? {
-        Some(header) => Ok(Stage::Follows(Checks::new(header))),
+        Some(header) => Ok(Stage::Follows(Checks::new(alloc, code, header)?)),
         None => Ok(Stage::Ends(1, Wrong::Form)),
     }
 }
@@ -163,7 +163,7 @@ impl Stage {
         ensures { OnOk result ((front : List ℕ) → IsStage code.now front line.now number self.old → IsStage code.now (front ++ 10 ∷ []) [] (number + 1) self.new) }
     {
         if self.begins() {
-            *self = begun(alloc, line)?;
+            *self = begun(alloc, code, line)?;
             return Ok(());
         }
         self.take(alloc, code, number, line)

@@ -9,6 +9,8 @@ use Rattle.run_log.specs.declared.log.ThreadPath.{ThreadPath as LogThread}
 use Rattle.tc_code.specs.Code.{Code}
 use Rattle.tc_code.specs.tc_limits.declared.limits.TheConstants.{THREADS}
 use Rattle.store_buffers.specs.Buffers.{buffer_of}
+use Rattle.log_walk.specs.thread_paths.pure_turns.Live.{Liveness, IsClosed}
+use Rattle.log_walk.specs.Turns.{ShowTurn}
 use Rattle.log_walk.specs.Given.{Given, IsFirst, IsLeftOut, IsOne}
 use Rattle.log_walk.specs.Given.IsLeftOut.{Outcomes, Steps, Depth, Threads}
 use Rattle.log_walk.specs.Rest.{all, MakeUp}
@@ -19,13 +21,13 @@ use Rattle.log_walk.specs.declared.bounds.LeftOut.{LeftOut}
 use Rattle.clap_solve.specs.Solved.{IsImpossible}
 use Rattle.none_certificates.specs.declared.header.Header.{Header}
 use Rattle.find_failures.specs.LeftOut.{both}
-use Rattle.find_failures.specs.Runs.{NoneBelow, Records}
+use Rattle.find_failures.specs.Runs.{AreExcludedBelow, Records}
 use Rattle.find_failures.proofs.Below.{one_is_in, one_in_more, old_is_below}
-use Rattle.find_failures.proofs.Steps.{none_before}
+use Rattle.find_failures.proofs.Steps.{none_before, none_below, shown_excluded}
 use Rattle.find_failures.proofs.Through.{IsThrough, at_end, begin, go_on}
 use Rattle.find_failures.proofs.Tried.{all_ruled_out, logged, only_deadlock, records_deadlock, records_failure}
-use Rattle.certified_logs.specs.Logs.{are_new, ends_of, end_at, first_end, log_at, AreRefuted, AllAreRefuted, IsNext}
-use Rattle.certified_logs.specs.Places.{AreReached, IsAt, IsOf, last_of}
+use Rattle.certified_logs.specs.Logs.{are_new, ends_of, end_at, first_end, log_at, AreRefuted, IsNext}
+use Rattle.certified_logs.specs.Places.{AreDone, AllAreDone, AreReached, IsReachedAt, IsOf, last_of}
 use Rattle.certified_logs.specs.declared.place.Place.{Place}
 
 abbrev pub items : Option (Vec LogThread Global) → Option (List ThreadPath)
@@ -42,12 +44,19 @@ pub some_ended : (h : Header) (p : Place) (ts : List ThreadPath) → last_of p �
     → IfSome (last_of p) (λ us. ends_of h.bounds.kind us ≤ p.end)
 some_ended h p ts last le = subst (λ o. IfSome o (λ us. ends_of h.bounds.kind us ≤ p.end)) (sym last) le
 
-module _ (code : Code) (h : Header) where
+module _ (code : Code) (live : Liveness) (h : Header) where
   abbrev kind : Kind
   kind = h.bounds.kind
 
   abbrev bounds_at : ℕ → Bounds
   bounds_at level = record { kind = h.bounds.kind; most = level }
+
+  -- no path of these threads shows a pure turn
+  abbrev IsTurnless : List ThreadPath → Type 0
+  IsTurnless ts = ShowTurn code live kind (all code kind) ts → ⊥
+
+  shown : (ts : List ThreadPath) → ShowTurn code live kind (all code kind) ts → AreDone code live h ts
+  shown = shown_excluded (buffer_of h.model) h.model code live kind
 
   -- the logs of threads that have an index record an end of the kind
   records_at : (k : Kind) (ts : List ThreadPath) (n : ℕ) → n < ends_of k ts
@@ -71,9 +80,9 @@ module _ (code : Code) (h : Header) where
       by Failure each = all_ruled_out (buffer_of h.model) h.model code ts each
       by Deadlock each = only_deadlock (buffer_of h.model) h.model code ts (each 0 (omega arith))
 
-  module _ (p : Place) (at : IsAt code h p) where
-    reached_at : (ts : List ThreadPath) → last_of p ≡ Some ts → AreReached code h p.level p.end p.out ts
-    reached_at ts last = subst (λ o. IfSome o (AreReached code h p.level p.end p.out)) last at.last
+  module _ (p : Place) (at : IsReachedAt code live h p) where
+    reached_at : (ts : List ThreadPath) → last_of p ≡ Some ts → AreReached code live h p.level p.end p.out ts
+    reached_at ts last = subst (λ o. IfSome o (AreReached code live h p.level p.end p.out)) last at.last
 
     -- a log at a place is one that the search looks for, and those before it are refuted
     pub is_next : (log : Log) → IsOf h p log → IsNext code h log
@@ -107,91 +116,92 @@ module _ (code : Code) (h : Header) where
         by Deadlock less = omega (arith, less)
 
     -- past a log that no moves reproduce
-    pub past : (log : Log) → IsOf h p log → IsImpossible (buffer_of h.model) code log → IsAt code h (record p { end = p.end + 1 })
+    pub past : (log : Log) → IsOf h p log → IsImpossible (buffer_of h.model) code log → IsReachedAt code live h (record p { end = p.end + 1 })
     past log of none = record {
       level = at.level;
       below = at.below;
-      last = subst (λ o. IfSome o (AreReached code h p.level (p.end + 1) p.out)) (sym of.last)
+      last = subst (λ o. IfSome o (AreReached code live h p.level (p.end + 1) p.out)) (sym of.last)
           (record { one = r.one; first = r.first; ends = omega (arith, of.end); gone = gone; through = r.through });
     }
       where
-        r : AreReached code h p.level p.end p.out of.threads
+        r : AreReached code live h p.level p.end p.out of.threads
         r = reached_at of.threads of.last
 
         here : IsImpossible (buffer_of h.model) code (log_at h of.threads p.end)
         here = subst (IsImpossible (buffer_of h.model) code) of.is none
 
-        gone : (k : ℕ) → k < p.end + 1 → IsImpossible (buffer_of h.model) code (log_at h of.threads k)
-        gone k less = by (cases_lt k p.end)
+        gone : IsTurnless of.threads → (k : ℕ) → k < p.end + 1 → IsImpossible (buffer_of h.model) code (log_at h of.threads k)
+        gone turnless k less = by (cases_lt k p.end)
           where
             by : (k < p.end) ⊎ (p.end ≤ k) → IsImpossible (buffer_of h.model) code (log_at h of.threads k)
-            by (inl l) = r.gone k l
+            by (inl l) = r.gone turnless k l
             by (inr l) =
                 let same : p.end ≡ k = omega (arith, less, l) in
                 subst (λ j. IsImpossible (buffer_of h.model) code (log_at h of.threads j)) same here
 
-    module _ (ended : IfSome (last_of p) (λ ts. ends_of kind ts ≤ p.end)) where
+    module _ (closed : IsClosed code live) (ended : IfSome (last_of p) (λ ts. ends_of kind ts ≤ p.end)) where
       -- all logs up to the last threads are refuted, or were left out
-      through : IsThrough code (bounds_at p.level) (AreRefuted code h) (last_of p) p.out
+      through : IsThrough code (bounds_at p.level) (AreDone code live h) (last_of p) p.out
       through = by (last_of p) refl ended
         where
           by : (o : Option (List ThreadPath)) → last_of p ≡ o → IfSome o (λ ts. ends_of kind ts ≤ p.end)
-              → IsThrough code (bounds_at p.level) (AreRefuted code h) o p.out
-          by None e end = begin code (bounds_at p.level) (AreRefuted code h) p.out
+              → IsThrough code (bounds_at p.level) (AreDone code live h) o p.out
+          by None e end = begin code (bounds_at p.level) (AreDone code live h) p.out
           by (Some ts) e end =
               let r = reached_at ts e in
-              r.through (all_gone ts (λ n less. r.gone n (omega (arith, less, end))))
+              r.through (λ turnless. all_gone ts (λ n less. r.gone turnless n (omega (arith, less, end))))
 
-      module _ (given : Given) (first : IsFirst code (bounds_at p.level) (last_of p) given) where
+      module _ (given : Given) (first : IsFirst code live (bounds_at p.level) (last_of p) given) where
         -- after the last threads with so few outcomes
         pub level_done : given.threads ≡ None
-            → AllAreRefuted code (record h { bounds = record { kind = h.bounds.kind; most = p.level } }) (both p.out given.out)
+            → AllAreDone code live (record h { bounds = record { kind = h.bounds.kind; most = p.level } }) (both p.out given.out)
         level_done none ts made =
-            at_end code (bounds_at p.level) (AreRefuted code h) (last_of p) given p.out first through none ts made
+            at_end code (bounds_at p.level) (AreDone code live h) live shown (last_of p) given p.out first through none ts made
 
         module _ (us : List ThreadPath) (some : given.threads ≡ Some us) where
           one : IsOne code (bounds_at p.level) us
           one = subst (λ o. IfSome o (IsOne code (bounds_at p.level))) some first.is_one
 
           reached_by : (end : ℕ) → end ≤ ends_of kind us
-              → ((k : ℕ) → k < end → IsImpossible (buffer_of h.model) code (log_at h us k))
-              → AreReached code h p.level end (both p.out given.out) us
+              → (IsTurnless us → (k : ℕ) → k < end → IsImpossible (buffer_of h.model) code (log_at h us k))
+              → AreReached code live h p.level end (both p.out given.out) us
           reached_by end less gone = record {
             one = one;
-            first = none_before (buffer_of h.model) h.model code kind p.level (last_of p) given p.out us first through some one at.below;
+            first = none_before (buffer_of h.model) h.model code live kind p.level closed (last_of p) given p.out us first through some one
+                (none_below (buffer_of h.model) h.model code live kind p.level closed at.below);
             ends = less;
             gone = gone;
-            through = λ none. go_on code (bounds_at p.level) (AreRefuted code h) (last_of p) given p.out first through us some one.makes_up none;
+            through = λ none. go_on code (bounds_at p.level) (AreDone code live h) live shown (last_of p) given p.out first through us some one.makes_up none;
           }
 
           -- at the next threads, if they are new
-          pub next_new : AreReached code h p.level 0 (both p.out given.out) us
-          next_new = reached_by 0 (omega arith) (λ k less. absurd (omega (arith, less)))
+          pub next_new : AreReached code live h p.level 0 (both p.out given.out) us
+          next_new = reached_by 0 (omega arith) (λ turnless k less. absurd (omega (arith, less)))
 
           -- and if they aren't
           pub next_old : (p.level == 0 || list_any (λ t. nat_le p.level (length t.path.outcomes)) us) ≡ false
-              → AreReached code h p.level (ends_of kind us) (both p.out given.out) us
+              → AreReached code live h p.level (ends_of kind us) (both p.out given.out) us
           next_old isnt =
               let old = old_is_below code kind p.level us one isnt in
-              reached_by (ends_of kind us) (omega arith) (each_gone us (at.below old.0 us old.1 old.2))
+              reached_by (ends_of kind us) (omega arith) (λ turnless. each_gone us (at.below old.0 us old.1 old.2 turnless))
 
         module _ (us : List ThreadPath) (some : given.threads ≡ Some us) where
           -- at the next threads
-          pub next_reached : AreReached code h p.level (first_end p.level kind us) (both p.out given.out) us
+          pub next_reached : AreReached code live h p.level (first_end p.level kind us) (both p.out given.out) us
           next_reached = by (are_new p.level us) refl
             where
               by : (b : Bool) → are_new p.level us ≡ b
-                  → AreReached code h p.level (cond b 0 (ends_of kind us)) (both p.out given.out) us
+                  → AreReached code live h p.level (cond b 0 (ends_of kind us)) (both p.out given.out) us
               by true e = next_new us some
               by false e = next_old us some e
 
     module _ (out : LeftOut)
-        (done : AllAreRefuted code (record h { bounds = record { kind = h.bounds.kind; most = p.level } }) out) where
+        (done : AllAreDone code live (record h { bounds = record { kind = h.bounds.kind; most = p.level } }) out) where
       -- more outcomes lead to no more logs
-      with_more : out.outcomes ≡ false → AllAreRefuted code h out
+      with_more : out.outcomes ≡ false → AllAreDone code live h out
       with_more none ts made = by (done ts made)
         where
-          by : AreRefuted code h ts ⊎ IsLeftOut p.level THREADS out ts → AreRefuted code h ts ⊎ IsLeftOut h.bounds.most THREADS out ts
+          by : AreDone code live h ts ⊎ IsLeftOut p.level THREADS out ts → AreDone code live h ts ⊎ IsLeftOut h.bounds.most THREADS out ts
           by (inl refuted) = inl refuted
           by (inr (Outcomes told is)) = absurd (false≢true (subst (λ b. b ≡ true) none told))
           by (inr (Steps told is)) = inr (Steps told is)
@@ -199,12 +209,12 @@ module _ (code : Code) (h : Header) where
           by (inr (Threads told is)) = inr (Threads told is)
 
       -- after the last level
-      pub all_done : (p.level == h.bounds.most || not out.outcomes) ≡ true → AllAreRefuted code h out
+      pub all_done : (p.level == h.bounds.most || not out.outcomes) ≡ true → AllAreDone code live h out
       all_done last = by (p.level == h.bounds.most) refl out.outcomes refl last
         where
-          by : (b : Bool) → (p.level == h.bounds.most) ≡ b → (c : Bool) → out.outcomes ≡ c → (b || not c) ≡ true → AllAreRefuted code h out
+          by : (b : Bool) → (p.level == h.bounds.most) ≡ b → (c : Bool) → out.outcomes ≡ c → (b || not c) ≡ true → AllAreDone code live h out
           by true same c cut e =
-              subst (λ n. (ts : List ThreadPath) → MakeUp code kind (all code kind) ts → AreRefuted code h ts ⊎ IsLeftOut n THREADS out ts)
+              subst (λ n. (ts : List ThreadPath) → MakeUp code kind (all code kind) ts → AreDone code live h ts ⊎ IsLeftOut n THREADS out ts)
               (eqb-true p.level h.bounds.most same) done
           by false same true cut e = absurd (false≢true e)
           by false same false cut e = with_more cut
@@ -222,43 +232,43 @@ module _ (code : Code) (h : Header) where
               by_least (inr l) =
                   absurd (false≢true (sym same ∙ eq-eqb p.level h.bounds.most (let le = at.level in omega (arith, le, l))))
 
-      pub settled_above : NoneBelow (buffer_of h.model) h.model code kind (p.level + 1)
+      pub settled_above : AreExcludedBelow (buffer_of h.model) h.model code live kind (p.level + 1)
       settled_above less ts below one = by (done ts one.makes_up)
         where
-          by : AreRefuted code h ts ⊎ IsLeftOut p.level THREADS out ts → AreRefuted code h ts
+          by : AreDone code live h ts ⊎ IsLeftOut p.level THREADS out ts → AreDone code live h ts
           by (inl refuted) = refuted
           by (inr left) =
               absurd (one_is_in code (bounds_at p.level) out ts (one_in_more code kind less p.level ts (omega (arith, below)) one) left)
 
   -- nothing comes before the first place
-  nothing_below : NoneBelow (buffer_of h.model) h.model code kind 0
+  nothing_below : AreExcludedBelow (buffer_of h.model) h.model code live kind 0
   nothing_below less ts below one = absurd (omega (arith, below))
 
   -- before any thread is given
-  at_none : (q : Place) → q.last ≡ None → q.level ≤ h.bounds.most → NoneBelow (buffer_of h.model) h.model code kind q.level → IsAt code h q
+  at_none : (q : Place) → q.last ≡ None → q.level ≤ h.bounds.most → AreExcludedBelow (buffer_of h.model) h.model code live kind q.level → IsReachedAt code live h q
   at_none q none level below =
-      record { level = level; below = below; last = no_last q none (AreReached code h q.level q.end q.out) }
+      record { level = level; below = below; last = no_last q none (AreReached code live h q.level q.end q.out) }
 
   -- the first place
-  pub first_at : (q : Place) → q.level ≡ 0 → q.last ≡ None → IsAt code h q
+  pub first_at : (q : Place) → q.level ≡ 0 → q.last ≡ None → IsReachedAt code live h q
   first_at q zero none =
-      at_none q none (omega (arith, zero)) (subst (NoneBelow (buffer_of h.model) h.model code kind) (sym zero) nothing_below)
+      at_none q none (omega (arith, zero)) (subst (AreExcludedBelow (buffer_of h.model) h.model code live kind) (sym zero) nothing_below)
 
   -- at the next threads
-  pub at_threads : (p q : Place) → IsAt code h p → q.level ≡ p.level → (us : List ThreadPath) → last_of q ≡ Some us
-      → AreReached code h p.level q.end q.out us → IsAt code h q
+  pub at_threads : (p q : Place) → IsReachedAt code live h p → q.level ≡ p.level → (us : List ThreadPath) → last_of q ≡ Some us
+      → AreReached code live h p.level q.end q.out us → IsReachedAt code live h q
   at_threads p q at same us last reached = record {
     level = subst (λ n. n ≤ h.bounds.most) (sym same) at.level;
-    below = subst (NoneBelow (buffer_of h.model) h.model code kind) (sym same) at.below;
-    last = subst (λ o. IfSome o (AreReached code h q.level q.end q.out)) (sym last)
-        (subst (λ n. AreReached code h n q.end q.out us) (sym same) reached);
+    below = subst (AreExcludedBelow (buffer_of h.model) h.model code live kind) (sym same) at.below;
+    last = subst (λ o. IfSome o (AreReached code live h q.level q.end q.out)) (sym last)
+        (subst (λ n. AreReached code live h n q.end q.out us) (sym same) reached);
   }
 
   -- after all logs with so few outcomes
-  pub raised : (p q : Place) (at : IsAt code h p) (out : LeftOut)
-      → AllAreRefuted code (record h { bounds = record { kind = h.bounds.kind; most = p.level } }) out
-      → (p.level == h.bounds.most || not out.outcomes) ≡ false → q.level ≡ p.level + 1 → q.last ≡ None → IsAt code h q
+  pub raised : (p q : Place) (at : IsReachedAt code live h p) (out : LeftOut)
+      → AllAreDone code live (record h { bounds = record { kind = h.bounds.kind; most = p.level } }) out
+      → (p.level == h.bounds.most || not out.outcomes) ≡ false → q.level ≡ p.level + 1 → q.last ≡ None → IsReachedAt code live h q
   raised p q at out done last more none =
       let less = less_than_most p at out done last in
       at_none q none (omega (arith, less, more))
-      (subst (NoneBelow (buffer_of h.model) h.model code kind) (sym more) (settled_above p at out done))
+      (subst (AreExcludedBelow (buffer_of h.model) h.model code live kind) (sym more) (settled_above p at out done))

@@ -6,17 +6,20 @@ ghost use Rattle.tc_code.specs.Lawful.{IsLawful};
 ghost use Rattle.store_buffers.specs.Buffers.{buffer_of};
 ghost use Rattle.clap_solve.specs.Solved.{IsImpossible};
 ghost use Rattle.none_certificates.specs.declared.header.Header.{Header as PlainHeader};
-ghost use Rattle.certified_logs.specs.Logs.{AllAreRefuted, ends_of};
-ghost use Rattle.certified_logs.specs.Places.{IsAt, IsNextAt, IsOf, last_of};
+ghost use Rattle.slot_liveness.specs.Tables.{liveness};
+ghost use Rattle.slot_liveness.specs.pure_turns.Live.{IsClosed};
+ghost use Rattle.certified_logs.specs.Logs.{ends_of};
+ghost use Rattle.certified_logs.specs.Places.{AllAreDone, IsAt, IsNextAt, IsOf, last_of};
 
 use crate::ends::{end_at, first_end, has_more};
 use crate::next::Next;
 use crate::start::start_under;
 use clap_system::BuildFault;
 use find_failures::{both, following, log_of};
-use log_walk::LeftOut;
+use log_walk::{LeftOut, Program};
 use none_certificates::Header;
 use run_log::{Log, ThreadPath};
+use slot_liveness::LiveSlots;
 use std::alloc::{AllocError, Global};
 use tc_code::Code;
 
@@ -31,6 +34,7 @@ const NOTHING: LeftOut = LeftOut {
 /// A place among the logs: those of the threads given last, with at most `level` outcomes each.
 #[derive(Drop)]
 pub struct Place {
+    live: LiveSlots,
     level: u16,
     /// The threads given last, if any with at most `level` outcomes.
     last: Option<Vec<ThreadPath>>,
@@ -48,11 +52,12 @@ fn is_last(level: u16, most: u16, out: LeftOut) -> bool
 }
 
 impl Place {
-    /// Before the first log.
-    pub fn first() -> Place
-        ensures { (code : PlainCode) (header : PlainHeader) → IsAt code header result }
+    /// Before the first log, given the slots that are live.
+    pub fn first(live: LiveSlots) -> Place
+        ensures { (code : PlainCode) (header : PlainHeader) → IsClosed code (liveness live) → IsAt code header result }
     {
         Place {
+            live,
             level: 0,
             last: None,
             end: 0,
@@ -99,7 +104,11 @@ impl Place {
         ensures { IfOk result (λ next. MatchOption next (IsAt code.now header self.new) (IsNextAt code.now header self.new)) }
     {
         let kind = header.bounds.kind;
-        let given = following(alloc, code, kind, self.level, &self.last)?;
+        let program = Program {
+            code,
+            live: &self.live,
+        };
+        let given = following(alloc, program, kind, self.level, &self.last)?;
         let out = both(self.out, given.out);
         let Some(threads) = given.threads else {
             return Ok(self.raise(header, out));
@@ -113,8 +122,8 @@ impl Place {
     /// Goes on to logs with more outcomes, after all those with fewer. If there are none, returns
     /// so.
     fn raise(&mut self, header: Header, out: LeftOut) -> Option<Next>
-        requires { (code : PlainCode) × IsAt code header self.old × AllAreRefuted code (record header { bounds = record { kind = header.bounds.kind; most = self.old.level } }) out }
-        ensures { (code : PlainCode) → IsAt code header self.old → AllAreRefuted code (record header { bounds = record { kind = header.bounds.kind; most = self.old.level } }) out
+        requires { (code : PlainCode) × IsAt code header self.old × AllAreDone code (liveness self.old.live) (record header { bounds = record { kind = header.bounds.kind; most = self.old.level } }) out }
+        ensures { (code : PlainCode) → IsAt code header self.old → AllAreDone code (liveness self.old.live) (record header { bounds = record { kind = header.bounds.kind; most = self.old.level } }) out
             → MatchOption result (IsAt code header self.new) (IsNextAt code header self.new) }
     {
         if is_last(self.level, header.bounds.most, out) {

@@ -16,6 +16,7 @@ use Rattle.command_inputs.specs.tc_base.declared.moves.Move.{Move}
 use Rattle.command_inputs.specs.tc_code.Code.{Code}
 use Rattle.command_inputs.specs.tc_code.Lawful.{IsLawful}
 use Rattle.command_inputs.specs.tc_compile.Programs.{IsCodeOf, language}
+use Rattle.command_inputs.proofs.path_log.Logs.{has_text}
 use Rattle.command_inputs.proofs.tc_lower.Ints.{program_ints}
 use Rattle.command_inputs.proofs.tc_lower.Programs.{program_is_lawful}
 use Rattle.command_inputs.proofs.tc_parser.Words.{has_ints}
@@ -45,10 +46,10 @@ module _ {program log bytes : List ℕ} (t : Task program log) (r : Refutation b
       → (moves : List Move) → Reproduces (Some model) t.pair moves → IsMoreThan most (switches (buffer_of model) code moves)
   excluded_up_to None closed moves again =
       closed_is_impossible (buffer_of model) model (bound_of model) code t.pair.run.log (model_laws model) (code_is_lawful program code t.pair.programs)
-      t.pair.logs.has_text.is_log t.within r.lines closed moves again
+      (has_text t.pair.logs).is_log t.within r.lines closed moves again
   excluded_up_to (Some most) closed moves again =
       closed_is_more (buffer_of model) model (bound_of model) code t.pair.run.log most (model_laws model) (code_is_lawful program code t.pair.programs)
-      t.pair.logs.has_text.is_log t.within r.lines moves closed again
+      (has_text t.pair.logs).is_log t.within r.lines moves closed again
 
   pub excluded : IsClosed (clauses_under t r) r.lines → (moves : List Move) → Reproduces (Some model) t.pair moves
       → IsMoreThan r.head.switches (switches_of t r moves)

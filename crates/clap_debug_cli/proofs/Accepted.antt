@@ -11,6 +11,7 @@ use Rattle.record_command.specs.tc_base.declared.moves.Move.{Move}
 use Rattle.migrate_command.specs.tc_limits.declared.limits.TheConstants.{SCHEDULE_BYTES}
 use Rattle.list_command.specs.command_inputs.Forms.{IsSchedule}
 use Rattle.cnf_command.specs.log_tasks.Tasks.{Reproduces, Task, model_of}
+use Rattle.check_command.proofs.path_log.Logs.{has_text}
 use Rattle.check_command.proofs.Excluded.{code_is_lawful, model_laws}
 
 pub schedule_accepted : {program log : List ℕ} (task : Task program log) (asked : Option Model) (moves : List Move) (text : List ℕ)
@@ -21,20 +22,17 @@ schedule_accepted {program} {log} task asked moves text r is =
     let code = task.pair.code in
     let run = task.pair.run in
     let small : IsSmall code run.log = record {
-      is_log = task.pair.logs.has_text.is_log;
+      is_log = (has_text task.pair.logs).is_log;
       threads = task.within.shallow.threads;
-      steps = steps_of_text run.log task.pair.logs.has_text.is_of_format;
+      steps = steps_of_text run.log (has_text task.pair.logs).is_of_format;
       events = task.within.events;
     } in (
       subst (λ bytes. length bytes ≤ SCHEDULE_BYTES) (sym is.text)
           (short_enough (buffer_of m) m (bound_of m) code run.log m moves (model_laws m) (code_is_lawful program code task.pair.programs) small is.have_text r),
       record {
         files = record {
-          code = code;
-          run = run;
+          pair = task.pair;
           plan = record { model = m; moves = moves };
-          programs = task.pair.programs;
-          logs = task.pair.logs;
           schedules = is;
         };
         own = task.own;

@@ -32,7 +32,8 @@ use Rattle.clap_debug_words.specs.Calls.{Called, Lists, Replays, Records, Migrat
 abbrev pub usage_text : List ℕ
 usage_text =
     codes "usage: clap_debug record PROGRAM LOG [--model sc|tso|pso] [--seed N] [--steps N]\n"
-    ++ codes "usage: clap_debug solve PROGRAM LOG OUT [--model sc|tso|pso] [--budget N] [--least REFUTATION]\n"
+    ++ codes "usage: clap_debug solve PROGRAM LOG OUT [--model sc|tso|pso] [--budget N] "
+    ++ codes "[--least REFUTATION]\n"
     ++ codes "usage: clap_debug replay PROGRAM LOG SCHEDULE\n"
     ++ codes "usage: clap_debug check PROGRAM LOG REFUTATION\n"
     ++ codes "usage: clap_debug list PROGRAM\n"

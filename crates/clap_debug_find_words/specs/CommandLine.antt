@@ -19,21 +19,21 @@ most_logs = 4294967295
 abbrev pub positional : Text → Rule
 positional name = record (new_rule name) { required = true }
 
--- an option that takes any one value and has a default
-abbrev pub option : Text → (default : Text) → Rule
-option name default = record (new_rule name) { long = Some name; defaults = default ∷ [] }
+-- an option that takes any one value
+abbrev pub option : Text → Rule
+option name = record (new_rule name) { long = Some name }
 
--- an option whose value a parser reads, and which has a default
-abbrev pub parsed : Text → (default : Text) → ValueParser → Rule
-parsed name default values = record (option name default) { parser = Some values }
+-- an option whose value a parser reads
+abbrev pub parsed : Text → ValueParser → Rule
+parsed name values = record (option name) { parser = Some values }
 
--- an option that takes a number in a range and has a default
-abbrev pub number : Text → (default : Text) → (low high : ℕ) → Rule
-number name default low high = parsed name default (parser.Unsigned low high)
+-- an option that takes a number in a range
+abbrev pub number : Text → (low high : ℕ) → Rule
+number name low high = parsed name (parser.Unsigned low high)
 
 -- an option without a value
 abbrev pub flag : Text → Rule
-flag name = record (new_rule name) { long = Some name; action = Some SetTrue }
+flag name = record (option name) { action = Some SetTrue }
 
 -- a command of the program with these arguments
 abbrev pub line_of : List Rule → App
@@ -46,15 +46,16 @@ line_of rules = record (new_app (codes "clap_debug_find")) {
 abbrev pub name_rules : List Rule
 name_rules = positional (codes "program") ∷ positional (codes "out") ∷ []
 
--- `[--model MODEL] [--deadlock]`
+-- `[--check] [--model MODEL] [--deadlock]`
 abbrev pub kind_rules : List Rule
-kind_rules = option (codes "model") (codes "tso") ∷ flag (codes "deadlock") ∷ []
+kind_rules =
+    flag (codes "check") ∷ option (codes "model") ∷ flag (codes "deadlock") ∷ []
 
 -- `[--outcomes N] [--logs K] [--budget B]`
 abbrev pub bound_rules : List Rule
-bound_rules = number (codes "outcomes") (codes "12") 0 most_outcomes
-    ∷ number (codes "logs") (codes "10000") 1 most_logs
-    ∷ number (codes "budget") (codes "1000000") 1 BUDGET
+bound_rules = number (codes "outcomes") 0 most_outcomes
+    ∷ number (codes "logs") 1 most_logs
+    ∷ number (codes "budget") 1 BUDGET
     ∷ []
 
 abbrev pub names_line : App

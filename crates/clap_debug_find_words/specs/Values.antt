@@ -1,5 +1,5 @@
 -- The values that matched words give.
-use Rattle.std.specs.Prelude.{ℕ, ◌&&◌, Bool, false, List, [], Option, Some, None, codes, bytes_eq, nat_le, unwrap_or, if◌then◌else◌, option_map}
+use Rattle.std.specs.Prelude.{ℕ, ◌&&◌, Bool, false, List, [], Option, Some, None, codes, bytes_eq, is_some, nat_le, unwrap_or, if◌then◌else◌, option_map}
 use Rattle.std.specs.Option.{option_map_or}
 use Rattle.std.specs.Borrow.{Bor}
 use Rattle.std.specs.Str.Parse.{digits_value, without_leading_plus}
@@ -21,6 +21,10 @@ is_true word = option_map_or (λ t. bytes_eq t (codes "true")) word false
 -- whether a flag is given
 abbrev pub is_given : Text → List Row → Bool
 is_given id rows = is_true (first_of id rows)
+
+-- whether an option has a value
+abbrev pub has_value : Text → List Row → Bool
+has_value id rows = is_some (first_of id rows)
 
 -- the number that a text is, if it is one in the range, else the default
 abbrev pub number_in : (low high default : ℕ) → Text → ℕ

@@ -23,22 +23,23 @@ pub(crate) const USUAL_LOGS: u64 = 10_000;
 /// The default number of conflicts.
 pub(crate) const USUAL_BUDGET: u64 = 1_000_000;
 
-/// `PROGRAM OUT [--model MODEL] [--deadlock] [--outcomes N] [--logs K] [--budget B]`.
+/// `PROGRAM OUT [--check] [--model MODEL] [--deadlock] [--outcomes N] [--logs K] [--budget B]`.
 pub(crate) fn command_line<'a>(alloc: Global) -> Result<Command<'a>, AllocError>
     ensures { IfOk result (λ command. app_of command ≡ spec.command_line) }
 {
     kinds_line(alloc)?
-        .arg(number(alloc, "outcomes", "12", 0, OUTCOMES))?
-        .arg(number(alloc, "logs", "10000", 1, LOGS))?
-        .arg(number(alloc, "budget", "1000000", 1, BUDGET as u64))
+        .arg(number(alloc, "outcomes", 0, OUTCOMES))?
+        .arg(number(alloc, "logs", 1, LOGS))?
+        .arg(number(alloc, "budget", 1, BUDGET as u64))
 }
 
-/// `PROGRAM OUT [--model MODEL] [--deadlock]`.
+/// `PROGRAM OUT [--check] [--model MODEL] [--deadlock]`.
 fn kinds_line<'a>(alloc: Global) -> Result<Command<'a>, AllocError>
     ensures { IfOk result (λ command. app_of command ≡ spec.kinds_line) }
 {
     names_line(alloc)?
-        .arg(option(alloc, "model", "tso"))?
+        .arg(flag(alloc, "check"))?
+        .arg(option(alloc, "model"))?
         .arg(flag(alloc, "deadlock"))
 }
 
@@ -60,31 +61,28 @@ fn positional<'a>(alloc: Global, name: &'a str) -> Arg<'a>
     Arg::new(alloc, name).required(true)
 }
 
-/// An option that takes any one value and has a default.
-fn option<'a>(alloc: Global, name: &'a str, default: &'a str) -> Arg<'a>
-    ensures rule { rule_of result ≡ spec.option name.entry.now default.entry.now }
+/// An option that takes any one value.
+fn option<'a>(alloc: Global, name: &'a str) -> Arg<'a>
+    ensures rule { rule_of result ≡ spec.option name.entry.now }
     ensures local { result.global ≡ false }
 {
-    Arg::new(alloc, name).long(name).default_value(default)
+    Arg::new(alloc, name).long(name)
 }
 
-/// An option that takes a number in a range and has a default.
-fn number<'a>(alloc: Global, name: &'a str, default: &'a str, low: u64, high: u64) -> Arg<'a>
-    ensures rule { rule_of result ≡ spec.number name.entry.now default.entry.now low high }
+/// An option that takes a number in a range.
+fn number<'a>(alloc: Global, name: &'a str, low: u64, high: u64) -> Arg<'a>
+    ensures rule { rule_of result ≡ spec.number name.entry.now low high }
     ensures local { result.global ≡ false }
 {
-    parsed(alloc, name, default, ValueParser::unsigned(low, high))
+    parsed(alloc, name, ValueParser::unsigned(low, high))
 }
 
-/// An option whose value a parser reads, and which has a default.
-fn parsed<'a>(alloc: Global, name: &'a str, default: &'a str, parser: ValueParser<'a>) -> Arg<'a>
-    ensures rule { rule_of result ≡ spec.parsed name.entry.now default.entry.now parser.entry }
+/// An option whose value a parser reads.
+fn parsed<'a>(alloc: Global, name: &'a str, parser: ValueParser<'a>) -> Arg<'a>
+    ensures rule { rule_of result ≡ spec.parsed name.entry.now parser.entry }
     ensures local { result.global ≡ false }
 {
-    Arg::new(alloc, name)
-        .long(name)
-        .default_value(default)
-        .value_parser(parser)
+    Arg::new(alloc, name).long(name).value_parser(parser)
 }
 
 /// An option without a value.

@@ -2,7 +2,7 @@
 ghost use Rattle.std.specs.Prelude.{◌≡◌, ◌≤◌};
 ghost use Rattle.clap.specs.Words.{found_of, rows_of};
 ghost use Rattle.clap_debug_find_words.specs.Values as spec;
-ghost use Rattle.clap_debug_find_words.specs.Values.{number_of, plain_text, text_of, within};
+ghost use Rattle.clap_debug_find_words.specs.Values.{has_value, number_of, plain_text, text_of, within};
 
 use clap::ArgMatches;
 
@@ -18,6 +18,13 @@ pub(crate) fn is_given(matches: &ArgMatches<'_>, id: &str) -> bool
     ensures { result ≡ spec.is_given id.now (rows_of (found_of matches.now)) }
 {
     is_true(matches.get_str(id))
+}
+
+/// Whether an option has a value.
+pub(crate) fn has_value(matches: &ArgMatches<'_>, id: &str) -> bool
+    ensures { result ≡ has_value id.now (rows_of (found_of matches.now)) }
+{
+    matches.get_str(id).is_some()
 }
 
 /// Whether the value of a flag says that the flag is given.

@@ -11,7 +11,7 @@ use Rattle.tc_compile.specs.Programs.{IsCodeOf}
 use Rattle.tc_compile.proofs.OnePrograms.{one_code, one_refusal, refused_no_code}
 use Rattle.run_log.specs.Logs.{StoredLog}
 use Rattle.path_log.specs.Texts.{IsOfOther, head_text, log_text}
-use Rattle.path_log.proofs.Logs.{log_or_fault, one_fault, one_log}
+use Rattle.path_log.proofs.Logs.{log_or_fault, one_fault, one_log, text_is}
 use Rattle.path_walk.specs.Fits.{Fits, IsFirst}
 use Rattle.path_walk.proofs.Faults.{one_first}
 use Rattle.path_walk.specs.declared.fault.Misfit.{Misfit}
@@ -101,7 +101,7 @@ module _ (code : Code) (program file : List ℕ) where
   shown_or_refused (Moves schedule told) (ScheduleRefused n) f g =
       schedules.schedule_or_fault file schedule.model schedule.moves.items n schedule.has_text f.0 g.1
   shown_or_refused (Moves schedule told) _ f g = true≢false (sym g.0 ∙ schedule_begins schedule.model schedule.moves.items file f.0)
-  shown_or_refused (Ways log paths) (ScheduleRefused n) f g = true≢false (sym (log_begins log file f.0.is_log.text) ∙ g.0)
+  shown_or_refused (Ways log paths) (ScheduleRefused n) f g = true≢false (sym (log_begins log file (text_is f.0.is_log)) ∙ g.0)
   shown_or_refused (Ways log paths) (Over LogBytes n) f g = omega (arith, f.0.short, g.1.0, g.1.1)
   shown_or_refused (Ways log paths) (LogBroken o) f g = log_or_fault file log o f.0.is_log g.1.1
   shown_or_refused (Ways log paths) a f g =

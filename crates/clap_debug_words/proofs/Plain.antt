@@ -21,7 +21,8 @@ use Rattle.memory_models.specs.declared.model.Model.{Model}
 use Rattle.memory_models.specs.declared.model.Model.TheVariants.{Sc, Tso, Pso}
 use Rattle.clap_debug_words.specs.CommandLine.{command_line, lent_texts, model_names, words_taken}
 use Rattle.solve_command.specs.Calls.{Solve}
-use Rattle.clap_debug_words.specs.Calls.{Called, call_of, called, least_of, model_in, number_in, usual_budget}
+use Rattle.log_tasks.specs.declared.budget.TheConstants.{USUAL_BUDGET}
+use Rattle.clap_debug_words.specs.Calls.{Called, call_of, called, least_of, model_in, number_in}
 use Rattle.clap_debug_words.specs.Calls as calls
 use Rattle.workload_command.specs.declared.workers.TheConstants.{WORKERS}
 use Rattle.clap_debug_words.specs.PlainWords.{Written, Lists, Replays, Records, Migrates, Solves, Minimizes, Checks, Workloads, Exports, Imports, Explains}
@@ -120,7 +121,7 @@ abbrev recorded : Text → Text → Model → ℕ → ℕ → Called
 recorded p l model seed steps = calls.Records (record { program = p; log = l; model = model; seed = seed; steps = steps })
 
 abbrev searched_for : Text → Text → Text → Option Model → ℕ → Solve
-searched_for p l o model budget = record { program = p; log = l; out = o; model = model; budget = budget }
+searched_for p l o model budget = record { asked = record { program = p; log = l; out = o; model = model }; budget = budget }
 
 abbrev worked : ℕ → ℕ → Called
 worked n s = calls.Workloads (record { workers = n; seed = s })
@@ -129,7 +130,7 @@ abbrev exported : Text → Text → Text → Option Model → Called
 exported p l o model = calls.Exports (record { program = p; log = l; out = o; model = model })
 
 abbrev imported : Text → Text → Text → Text → Option Model → Called
-imported p l a o model = calls.Imports (record { program = p; log = l; answer = a; out = o; model = model })
+imported p l a o model = calls.Imports (record { asked = record { program = p; log = l; out = o; model = model }; answer = a })
 
 abbrev record_call : Text → Text → Option Text → Option Text → Option Text → Called
 record_call p l m n k = recorded p l (option_map_or model_in m Sc) (option_map_or (number_in 0 18446744073709551615 0) n 0)
@@ -208,7 +209,7 @@ record_says w p l None None None hp hl sc hm hn hk =
     )
 
 abbrev solve_call : Text → Text → Text → Option Text → Option Text → Called
-solve_call p l o m n = calls.Solves (searched_for p l o (option_map model_in m) (option_map_or (number_in 1 BUDGET usual_budget) n usual_budget))
+solve_call p l o m n = calls.Solves (searched_for p l o (option_map model_in m) (option_map_or (number_in 1 BUDGET USUAL_BUDGET) n USUAL_BUDGET))
 
 solve_says : (w p l o : Text) (m n : Option Text) → IsPlainWord p → IsPlainWord l → IsPlainWord o → Passes accepts_model m → Passes (is_unsigned_in 1 BUDGET) n
     → Says (w ∷ codes "solve" ∷ p ∷ l ∷ o ∷ (option_words (codes "--model") m ++ option_words (codes "--budget") n)) (solve_call p l o m n)
@@ -240,7 +241,7 @@ solve_says w p l o None None hp hl ho hm hn =
 
 abbrev least_call : Text → Text → Text → Option Text → Option Text → Text → Called
 least_call p l o m n r =
-    calls.Minimizes (least_of (searched_for p l o (option_map model_in m) (option_map_or (number_in 1 BUDGET usual_budget) n usual_budget)) r)
+    calls.Minimizes (least_of (searched_for p l o (option_map model_in m) (option_map_or (number_in 1 BUDGET USUAL_BUDGET) n USUAL_BUDGET)) r)
 
 least_says : (w p l o : Text) (m n : Option Text) (r : Text) → IsPlainWord p → IsPlainWord l → IsPlainWord o → Passes accepts_model m
     → Passes (is_unsigned_in 1 BUDGET) n → IsPlainWord r
@@ -394,7 +395,7 @@ plain_says first (Solves p l o model budget) e =
     let names = both (is_name p) (is_name l && is_name o) a.0 in
     let files = both (is_name l) (is_name o) names.1 in
     let m = model_left_out model in
-    let n = number_written 1 BUDGET usual_budget (omega arith) budget a.1 in
+    let n = number_written 1 BUDGET USUAL_BUDGET (omega arith) budget a.1 in
     as_call (words_of first (Solves p l o model budget)) _ _ (λ i. calls.Solves (searched_for p l o (m.1 i) (n.1 i)))
     (solve_says first p l o (option_map model_name model) (option_map decimal budget) (name_plain p names.0) (name_plain l files.0) (name_plain o files.1)
     m.0 n.0)
@@ -404,7 +405,7 @@ plain_says first (Minimizes p l o model budget r) e =
     let files = both (is_name l) (is_name o) names.1 in
     let rest = both (option_map_or (is_between 1 BUDGET) budget true) (is_name r) a.1 in
     let m = model_left_out model in
-    let n = number_written 1 BUDGET usual_budget (omega arith) budget rest.0 in
+    let n = number_written 1 BUDGET USUAL_BUDGET (omega arith) budget rest.0 in
     as_call (words_of first (Minimizes p l o model budget r)) _ _ (λ i. calls.Minimizes (least_of (searched_for p l o (m.1 i) (n.1 i)) r))
     (least_says first p l o (option_map model_name model) (option_map decimal budget) r (name_plain p names.0) (name_plain l files.0) (name_plain o files.1)
     m.0 n.0 (name_plain r rest.1))

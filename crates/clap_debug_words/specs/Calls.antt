@@ -11,20 +11,22 @@ use Rattle.memory_models.specs.declared.model.Model.TheVariants.{Sc, Tso, Pso}
 use Rattle.clap_debug_words.specs.CommandLine.{command_line, words_taken, last_seed}
 use Rattle.workload_command.specs.declared.workers.TheConstants.{WORKERS}
 use Rattle.check_command.specs.Meanings.{names_of}
-use Rattle.cnf_command.specs.Calls.{Cnf, plain_cnf}
+use Rattle.cnf_command.specs.Calls.{plain_cnf}
+use Rattle.log_tasks.specs.Asked.{Asked}
+use Rattle.log_tasks.specs.declared.budget.TheConstants.{USUAL_BUDGET}
 use Rattle.import_command.specs.Calls.{Import, plain_import}
 use Rattle.least_command.specs.Calls.{Least}
-use Rattle.least_command.specs.helpers.Asked.{plain_least}
+use Rattle.least_command.specs.Calls.{plain_least}
 use Rattle.migrate_command.specs.Meanings.{Migrate}
-use Rattle.migrate_command.specs.helpers.Asked.{plain_migrate}
+use Rattle.migrate_command.specs.Meanings.{plain_migrate}
 use Rattle.record_command.specs.Runs.{Record}
-use Rattle.record_command.specs.helpers.Asked.{plain_record}
+use Rattle.record_command.specs.Runs.{plain_record}
 use Rattle.check_command.specs.refutation_verdicts.Refutations.{Names}
 use Rattle.solve_command.specs.Calls.{Solve}
-use Rattle.solve_command.specs.helpers.Asked.{plain_solve}
+use Rattle.solve_command.specs.Calls.{plain_solve}
 use Rattle.why_command.specs.Meanings as explained
 use Rattle.workload_command.specs.Works.{Workload}
-use Rattle.workload_command.specs.helpers.Asked.{plain_workload}
+use Rattle.workload_command.specs.Works.{plain_workload}
 use Rattle.clap_debug_words.specs.declared.Call.{Call}
 use Rattle.clap_debug_words.specs.declared.Call.TheVariants as call
 
@@ -38,7 +40,7 @@ pub data Called : Type 0 where
   Minimizes : (call : Least) → Called
   Checks : (call : Names) → Called
   Workloads : (call : Workload) → Called
-  Exports : (call : Cnf) → Called
+  Exports : (call : Asked) → Called
   Imports : (call : Import) → Called
   Explains : (call : Names) → Called
 
@@ -83,12 +85,8 @@ workers_of rows = number_of 1 WORKERS 1 (codes "workers") rows
 abbrev pub steps_of : List Row → ℕ
 steps_of rows = number_of 1 MOVES MOVES (codes "steps") rows
 
--- the default number of conflicts of a search
-abbrev pub usual_budget : ℕ
-usual_budget = 1000000
-
 abbrev pub budget_of : List Row → ℕ
-budget_of rows = number_of 1 BUDGET usual_budget (codes "budget") rows
+budget_of rows = number_of 1 BUDGET USUAL_BUDGET (codes "budget") rows
 
 -- what matches say of each command
 
@@ -111,25 +109,21 @@ migrate_in rows =
     }
 
 -- without a model, the log's is meant
-abbrev pub solve_in : List Row → Solve
-solve_in rows = record {
+abbrev pub asked_in : List Row → Asked
+asked_in rows = record {
   program = text_of (codes "program") rows;
   log = text_of (codes "log") rows;
   out = text_of (codes "out") rows;
   model = written_model rows;
-  budget = budget_of rows;
 }
+
+abbrev pub solve_in : List Row → Solve
+solve_in rows = record { asked = asked_in rows; budget = budget_of rows }
 
 -- `solve`, with this name for the refutation
 abbrev pub least_of : Solve → Text → Least
-least_of call refutation = record {
-  program = call.program;
-  log = call.log;
-  out = call.out;
-  refutation = refutation;
-  model = call.model;
-  budget = call.budget;
-}
+least_of call refutation =
+    record { asked = call.asked; refutation = refutation; budget = call.budget }
 
 abbrev pub names_in : List Row → Names
 names_in rows =
@@ -143,30 +137,14 @@ names_in rows =
 abbrev pub workload_in : List Row → Workload
 workload_in rows = record { workers = workers_of rows; seed = seed_of rows }
 
-abbrev pub cnf_in : List Row → Cnf
-cnf_in rows = record {
-  program = text_of (codes "program") rows;
-  log = text_of (codes "log") rows;
-  out = text_of (codes "out") rows;
-  model = written_model rows;
-}
-
 abbrev pub import_in : List Row → Import
-import_in rows = record {
-  program = text_of (codes "program") rows;
-  log = text_of (codes "log") rows;
-  answer = text_of (codes "answer") rows;
-  out = text_of (codes "out") rows;
-  model = written_model rows;
-}
+import_in rows = record { asked = asked_in rows; answer = text_of (codes "answer") rows }
 
 -- the call of `solve`, with or without a name for the refutation
-abbrev pub searched_as : Option Text → Solve → Called
-searched_as None call = Solves call
-searched_as (Some refutation) call = Minimizes (least_of call refutation)
-
 abbrev pub searched : List Row → Called
-searched rows = searched_as (first_of (codes "least") rows) (solve_in rows)
+searched rows =
+    option_map_or (λ refutation. Minimizes (least_of (solve_in rows) refutation))
+    (first_of (codes "least") rows) (Solves (solve_in rows))
 
 -- the call of a subcommand's name and matches
 abbrev pub called : Text × List Row → Called
@@ -178,7 +156,7 @@ called p = if bytes_eq p.0 (codes "list") then Lists (text_of (codes "program") 
     else if bytes_eq p.0 (codes "solve") then searched p.1
     else if bytes_eq p.0 (codes "check") then Checks (names_in p.1)
     else if bytes_eq p.0 (codes "workload") then Workloads (workload_in p.1)
-    else if bytes_eq p.0 (codes "cnf") then Exports (cnf_in p.1)
+    else if bytes_eq p.0 (codes "cnf") then Exports (asked_in p.1)
     else if bytes_eq p.0 (codes "import") then Imports (import_in p.1)
     else if bytes_eq p.0 (codes "why") then Explains (names_in p.1)
     else Records (record_in p.1)

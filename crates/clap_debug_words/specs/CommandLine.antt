@@ -56,48 +56,41 @@ last_seed = 18446744073709551615
 abbrev pub list : Shape
 list = record (new_shape (codes "list")) { rules = positional (codes "program") ∷ [] }
 
+-- a command of a program and its log, with more arguments
+abbrev pub of_log : Text → List Rule → Shape
+of_log name more =
+    record (new_shape name) {
+      rules = positional (codes "program") ∷ positional (codes "log") ∷ more;
+    }
+
 -- `replay PROGRAM LOG SCHEDULE`
 abbrev pub replay : Shape
-replay = record (new_shape (codes "replay")) {
-  rules = positional (codes "program") ∷ positional (codes "log") ∷ positional (codes "schedule")
-      ∷ [];
-}
+replay = of_log (codes "replay") (positional (codes "schedule") ∷ [])
 
 -- `record PROGRAM LOG [--model sc|tso|pso] [--seed N] [--steps N]`
 abbrev pub recording : ModelNames → Shape
-recording names = record (new_shape (codes "record")) {
-  rules = positional (codes "program")
-      ∷ positional (codes "log")
-      ∷ option (codes "model") (model_name Sc) (parser.Names names)
-      ∷ option (codes "seed") (codes "0") (parser.Unsigned 0 last_seed)
-      ∷ option (codes "steps") (codes "1000000") (parser.Unsigned 1 MOVES)
-      ∷ [];
-}
+recording names = of_log (codes "record")
+    (option (codes "model") (model_name Sc) (parser.Names names)
+    ∷ option (codes "seed") (codes "0") (parser.Unsigned 0 last_seed)
+    ∷ option (codes "steps") (codes "1000000") (parser.Unsigned 1 MOVES)
+    ∷ [])
 
 -- `migrate PROGRAM LOG OUT`
 abbrev pub migration : Shape
-migration = record (new_shape (codes "migrate")) {
-  rules = positional (codes "program") ∷ positional (codes "log") ∷ positional (codes "out") ∷ [];
-}
+migration = of_log (codes "migrate") (positional (codes "out") ∷ [])
 
 -- `solve PROGRAM LOG OUT [--model sc|tso|pso] [--budget N] [--least REFUTATION]`
 abbrev pub solving : ModelNames → Shape
-solving names = record (new_shape (codes "solve")) {
-  rules = positional (codes "program")
-      ∷ positional (codes "log")
-      ∷ positional (codes "out")
-      ∷ option_alone (codes "model") (parser.Names names)
-      ∷ option (codes "budget") (codes "1000000") (parser.Unsigned 1 BUDGET)
-      ∷ option_of_any (codes "least")
-      ∷ [];
-}
+solving names = of_log (codes "solve")
+    (positional (codes "out")
+    ∷ option_alone (codes "model") (parser.Names names)
+    ∷ option (codes "budget") (codes "1000000") (parser.Unsigned 1 BUDGET)
+    ∷ option_of_any (codes "least")
+    ∷ [])
 
 -- `check PROGRAM LOG REFUTATION`
 abbrev pub checking : Shape
-checking = record (new_shape (codes "check")) {
-  rules = positional (codes "program") ∷ positional (codes "log") ∷ positional (codes "refutation")
-      ∷ [];
-}
+checking = of_log (codes "check") (positional (codes "refutation") ∷ [])
 
 -- `workload N SEED`
 abbrev pub workload : Shape
@@ -108,31 +101,20 @@ workload = record (new_shape (codes "workload")) {
 
 -- `cnf PROGRAM LOG OUT [--model sc|tso|pso]`
 abbrev pub cnf : ModelNames → Shape
-cnf names = record (new_shape (codes "cnf")) {
-  rules = positional (codes "program")
-      ∷ positional (codes "log")
-      ∷ positional (codes "out")
-      ∷ option_alone (codes "model") (parser.Names names)
-      ∷ [];
-}
+cnf names = of_log (codes "cnf")
+    (positional (codes "out") ∷ option_alone (codes "model") (parser.Names names) ∷ [])
 
 -- `import PROGRAM LOG ANSWER OUT [--model sc|tso|pso]`
 abbrev pub import : ModelNames → Shape
-import names = record (new_shape (codes "import")) {
-  rules = positional (codes "program")
-      ∷ positional (codes "log")
-      ∷ positional (codes "answer")
-      ∷ positional (codes "out")
-      ∷ option_alone (codes "model") (parser.Names names)
-      ∷ [];
-}
+import names = of_log (codes "import")
+    (positional (codes "answer")
+    ∷ positional (codes "out")
+    ∷ option_alone (codes "model") (parser.Names names)
+    ∷ [])
 
 -- `why PROGRAM LOG REFUTATION`
 abbrev pub why : Shape
-why = record (new_shape (codes "why")) {
-  rules = positional (codes "program") ∷ positional (codes "log") ∷ positional (codes "refutation")
-      ∷ [];
-}
+why = of_log (codes "why") (positional (codes "refutation") ∷ [])
 
 -- a command that requires a subcommand and has no help
 abbrev pub commands : App → App

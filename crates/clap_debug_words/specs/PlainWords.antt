@@ -8,9 +8,10 @@ use Rattle.memory_models.specs.Models.{model_name}
 use Rattle.tc_limits.specs.declared.limits.TheConstants.{BUDGET, MOVES}
 use Rattle.memory_models.specs.declared.model.Model.TheVariants.{Sc}
 use Rattle.workload_command.specs.declared.workers.TheConstants.{WORKERS}
+use Rattle.log_tasks.specs.declared.budget.TheConstants.{USUAL_BUDGET}
 use Rattle.solve_command.specs.Calls.{Solve}
 use Rattle.clap_debug_words.specs.CommandLine.{last_seed}
-use Rattle.clap_debug_words.specs.Calls.{Called, least_of, usual_budget}
+use Rattle.clap_debug_words.specs.Calls.{Called, least_of}
 use Rattle.clap_debug_words.specs.Calls as calls
 
 -- a command with its files or numbers, and the options that are written
@@ -95,11 +96,8 @@ is_plain (Explains program log refutation) = is_name program && (is_name log && 
 -- `solve`, with the default budget if none is written
 abbrev pub solved : (program log out : Text) → Option Model → Option ℕ → Solve
 solved program log out model budget = record {
-  program = program;
-  log = log;
-  out = out;
-  model = model;
-  budget = unwrap_or budget usual_budget;
+  asked = record { program = program; log = log; out = out; model = model };
+  budget = unwrap_or budget USUAL_BUDGET;
 }
 
 -- the call that the words ask for, with defaults for the options that aren't written
@@ -125,6 +123,9 @@ asked (Exports program log out model) =
     calls.Exports (record { program = program; log = log; out = out; model = model })
 asked (Imports program log answer out model) =
     calls.Imports
-    (record { program = program; log = log; answer = answer; out = out; model = model })
+    (record {
+      asked = record { program = program; log = log; out = out; model = model };
+      answer = answer;
+    })
 asked (Explains program log refutation) =
     calls.Explains (record { program = program; log = log; refutation = refutation })

@@ -6,13 +6,13 @@ ghost use Rattle.clap.specs.Words.{app_of, found_of, new_app, rows_of, rule_of, 
 ghost use Rattle.clap_debug_words.specs.CommandLine as spec;
 ghost use Rattle.clap_debug_words.specs.CommandLine.{AreModelNames, command_line, words_taken};
 ghost use Rattle.clap_debug_words.specs.Calls.{plain_call, called, searched, call_of, text_of, model_in, model_of, written_model, number_of, seed_of, steps_of, budget_of, workers_of, within};
-ghost use Rattle.clap_debug_words.specs.Calls.{cnf_in, import_in, migrate_in, names_in, record_in, solve_in};
+ghost use Rattle.clap_debug_words.specs.Calls.{asked_in, import_in, migrate_in, names_in, record_in, solve_in};
 ghost use Rattle.check_command.specs.Meanings.{names_of};
 ghost use Rattle.cnf_command.specs.Calls.{plain_cnf};
 ghost use Rattle.import_command.specs.Calls.{plain_import};
-ghost use Rattle.migrate_command.specs.helpers.Asked.{plain_migrate};
-ghost use Rattle.record_command.specs.helpers.Asked.{plain_record};
-ghost use Rattle.solve_command.specs.helpers.Asked.{plain_solve};
+ghost use Rattle.migrate_command.specs.Meanings.{plain_migrate};
+ghost use Rattle.record_command.specs.Runs.{plain_record};
+ghost use Rattle.solve_command.specs.Calls.{plain_solve};
 ghost use Rattle.why_command.specs.Meanings as explained;
 ghost use Rattle.clap_debug_words.specs.PlainWords.{Written, asked, is_plain, words_of};
 ghost use Rattle.clap_debug_words.specs.Given.{HasFiles, HasValues};
@@ -221,7 +221,7 @@ fn check_in<'a>(matches: &ArgMatches<'a>) -> Check<'a>
 }
 
 fn cnf_in<'a>(matches: &ArgMatches<'a>) -> Cnf<'a>
-    ensures { plain_cnf result ≡ cnf_in (rows_of (found_of matches.now)) }
+    ensures { plain_cnf result ≡ asked_in (rows_of (found_of matches.now)) }
 {
     Cnf {
         inputs: both_in(matches),

@@ -17,6 +17,7 @@ use Rattle.command_inputs.specs.tc_compile.Programs.{IsCodeOf, language}
 use Rattle.command_inputs.proofs.tc_lower.Ints.{program_ints}
 use Rattle.command_inputs.proofs.tc_lower.Programs.{program_is_lawful}
 use Rattle.command_inputs.proofs.tc_parser.Words.{has_ints}
+use Rattle.command_inputs.proofs.path_log.Logs.{has_text}
 use Rattle.log_tasks.specs.Tasks.{Reproduces, Task, clauses_of, model_of}
 use Rattle.cnf_command.specs.Answers.{IsSatisfiable}
 
@@ -37,7 +38,7 @@ pub are_runs : {program log : List ℕ} (asked : Option Model) (t : Task program
 are_runs {program} {log} asked t =
     let m = model_of asked t.pair in
     let lawful = code_is_lawful program t.pair.code t.pair.programs in
-    let is = t.pair.logs.has_text.is_log in (
+    let is = (has_text t.pair.logs).is_log in (
       λ v. said_is_run (buffer_of m) m (bound_of m) t.pair.code t.pair.run.log (model_laws m) lawful is t.within v.0 v.1,
       λ r. run_is_said (buffer_of m) m (bound_of m) t.pair.code t.pair.run.log (model_laws m) lawful is t.within r.0 r.1,
     )

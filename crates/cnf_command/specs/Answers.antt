@@ -7,15 +7,15 @@ use Rattle.tc_io.specs.Outside.{Files}
 use Rattle.command_frame.specs.ByStatus.{IsStatus}
 use Rattle.command_frame.specs.End.{End, Leaves}
 use Rattle.command_ends.specs.Ends.{AreShort, Declines, HasDeclined}
+use Rattle.log_tasks.specs.Asked.{Asked, IsRefused, TaskOf, inputs_of}
 use Rattle.log_tasks.specs.Tasks.{Reproduces, clauses_of}
-use Rattle.cnf_command.specs.Calls.{Cnf, IsRefused, TaskOf, inputs_of}
 use Rattle.cnf_command.specs.Lines.{clauses_line}
 
 -- some values satisfy the clauses
 abbrev pub IsSatisfiable : Formula → Type 0
 IsSatisfiable f = (v : Valuation) × IsTrue (satisfies v f.clauses)
 
-module _ (call : Cnf) (files : Files) (e : End) where
+module _ (call : Asked) (files : Files) (e : End) where
   -- OUT holds the clauses of the log, and nothing else changed
   abbrev pub LeavesClauses : TaskOf call files → Type 0
   LeavesClauses t =

@@ -7,7 +7,8 @@ ghost use Rattle.clap_system.specs.Faults.{IsBuildFault};
 ghost use Rattle.command_inputs.specs.Forms.{IsWhy};
 ghost use Rattle.log_tasks.specs.Refused.{HasNoClauses, IsUnsearched};
 ghost use Rattle.log_tasks.specs.Tasks.{Task};
-ghost use Rattle.cnf_command.specs.Meanings.{AreClauses, IsExported};
+ghost use Rattle.cnf_command.specs.Meanings.{AreClauses};
+ghost use Rattle.cnf_command.specs.helpers.Asked.{IsExported};
 
 use clap_solve::clauses;
 use clap_system::BuildFault;

@@ -12,7 +12,7 @@ use Rattle.command_inputs.specs.command_frame.declared.status.Status.{Status}
 use Rattle.command_inputs.specs.command_frame.declared.status.Status.TheVariants as statuses
 use Rattle.command_inputs.proofs.command_frame.ReadAll.{long_or_within, one_too_long}
 use Rattle.command_inputs.proofs.command_frame.Statuses.{fault_or_not, kept_whole, same_status}
-use Rattle.command_inputs.specs.Refusals.{refusal_status}
+use Rattle.command_inputs.specs.Refusals.{refusal_said}
 use Rattle.command_inputs.specs.declared.refusal.Refusal.{Refusal}
 use Rattle.command_inputs.specs.declared.refusal.Refusal.TheVariants as refusal
 use Rattle.command_ends.specs.Ends.{AreShort, Declines, HasDeclined, TellsRefusal}
@@ -38,7 +38,7 @@ of_results statuses.Fails is other = let low : 3 ≤ 1 = other.0 in omega (arith
 of_results statuses.Open is other = let high : 10 ≤ 9 = other.1 in omega (arith, high)
 of_results _ is other = absurd is
 
-of_refusal : (n : ℕ) (r : Refusal) → n ≡ number_of (refusal_status r) → IsOther n
+of_refusal : (n : ℕ) (r : Refusal) → n ≡ number_of (refusal_said r).0 → IsOther n
 of_refusal n (refusal.Program _) e = is_other 3 n (omega arith) (omega arith) e
 of_refusal n (refusal.Log _) e = is_other 4 n (omega arith) (omega arith) e
 of_refusal n (refusal.LogOver _ _) e = is_other 6 n (omega arith) (omega arith) e

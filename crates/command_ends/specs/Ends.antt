@@ -4,13 +4,13 @@ use Rattle.command_inputs.specs.tc_io.Outside.{Files}
 use Rattle.command_inputs.specs.command_frame.Answers.{IsFaultStatus, number_of}
 use Rattle.command_inputs.specs.command_frame.End.{End, LeavesNothing, TellsLimit}
 use Rattle.command_inputs.specs.command_frame.Inputs.{AreWithin, IsTooLong, Limit, Wanted, texts_under}
-use Rattle.command_inputs.specs.Refusals.{refusal_line, refusal_status}
+use Rattle.command_inputs.specs.Refusals.{refusal_said}
 use Rattle.command_inputs.specs.declared.refusal.Refusal.{Refusal}
 
 -- all is as before, and this refusal was told
 abbrev pub TellsRefusal : Files → End → Refusal → Type 0
 TellsRefusal files e r =
-    (e.status ≡ number_of (refusal_status r)) × LeavesNothing files e (refusal_line r)
+    (e.status ≡ number_of (refusal_said r).0) × LeavesNothing files e (refusal_said r).1
 
 -- none of these inputs is too long
 abbrev pub AreShort : List Wanted → Files → Type 0

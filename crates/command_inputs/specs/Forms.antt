@@ -3,7 +3,7 @@ use Rattle.std.specs.Prelude.{◌≡◌, ℕ, List}
 use Rattle.run_log.specs.memory_models.declared.model.Model.{Model}
 use Rattle.run_log.specs.Logs.{StoredLog}
 use Rattle.path_log.specs.Faults.{BreaksAt}
-use Rattle.path_log.specs.Texts.{IsOfOther}
+use Rattle.path_log.specs.Texts.{IsLog, IsOfOther}
 use Rattle.schedule_file.specs.Schedules.{HaveText, schedule_text}
 use Rattle.tc_base.specs.declared.moves.Move.{Move}
 use Rattle.tc_code.specs.Code.{Code}
@@ -13,6 +13,13 @@ use Rattle.command_inputs.specs.declared.refusal.Fault.TheVariants.{Refused, Mem
 use Rattle.command_inputs.specs.declared.refusal.LogRefusal.TheVariants.{Form, OtherProgram}
 use Rattle.command_inputs.specs.declared.refusal.Refusal.{Refusal}
 use Rattle.command_inputs.specs.declared.refusal.Refusal.TheVariants.{Program, Log}
+
+-- the bytes of two files are a program, which has this code, and a log
+pub record Pair (program log : List ℕ) : Type 0 where
+  pub code : Code
+  pub run : StoredLog
+  pub programs : IsCodeOf program code
+  pub logs : IsLog log run
 
 -- there is no memory, or an input is refused for a reason that satisfies `P`
 abbrev pub IsWhy : (Refusal → Type 0) → Fault → Type 0

@@ -3,7 +3,7 @@ use Rattle.std.specs.Prelude.{ℕ, List, codes}
 use Rattle.tc_limits.specs.declared.limits.TheConstants as limits
 use Rattle.command_frame.specs.Inputs.{Limit}
 use Rattle.command_inputs.specs.declared.limits.LogPart.{LogPart}
-use Rattle.command_inputs.specs.declared.limits.LogPart.TheVariants.{Bytes, Threads, Depth, Events, Operators}
+use Rattle.command_inputs.specs.declared.limits.LogPart.TheVariants.{Threads, Depth, Events, Operators}
 
 abbrev pub program_limit : Limit
 program_limit = record { kind = codes "program"; most = limits.PROGRAM_BYTES }
@@ -16,14 +16,12 @@ schedule_limit = record { kind = codes "schedule"; most = limits.SCHEDULE_BYTES 
 
 -- how many of this a log may have
 abbrev pub limit_of : LogPart → ℕ
-limit_of Bytes = limits.LOG_BYTES
 limit_of Threads = limits.THREADS
 limit_of Depth = limits.DEPTH
 limit_of Events = limits.EVENTS
 limit_of Operators = limits.OPERATORS
 
 abbrev pub part_text : LogPart → List ℕ
-part_text Bytes = codes "log-bytes"
 part_text Threads = codes "threads"
 part_text Depth = codes "depth"
 part_text Events = codes "events"

@@ -11,8 +11,6 @@ use tc_limits::limits::{
 /// What a log may have too many of.
 #[derive(Clone, Copy)]
 pub enum LogPart {
-    /// Its bytes.
-    Bytes,
     /// Threads, main included.
     Threads,
     /// Creates on the way from main to a thread.
@@ -29,7 +27,6 @@ impl LogPart {
         ensures { result ≡ limit_of self }
     {
         match self {
-            LogPart::Bytes => LOG_BYTES,
             LogPart::Threads => THREADS as u64,
             LogPart::Depth => DEPTH as u64,
             LogPart::Events => EVENTS as u64,
@@ -42,7 +39,6 @@ impl LogPart {
         ensures { result.now ≡ part_text self }
     {
         match self {
-            LogPart::Bytes => "log-bytes",
             LogPart::Threads => "threads",
             LogPart::Depth => "depth",
             LogPart::Events => "events",

@@ -1,6 +1,7 @@
 //! Refusals of inputs: what they are, and the line and the status of each.
 ghost use Rattle.std.specs.Prelude.{◌≡◌, IfOk, string_bytes};
-ghost use Rattle.command_inputs.specs.Refusals.{log_line, over_line, refusal_line, refusal_status};
+ghost use Rattle.command_inputs.specs.Refusals.{log_line, refusal_said};
+ghost use Rattle.command_inputs.specs.declared.refusal.Refusal.TheVariants.{LogOver};
 
 use crate::limits::LogPart;
 use command_frame::Status;
@@ -132,13 +133,13 @@ impl From<ScheduleFault> for Fault {
 impl Refusal {
     /// The line that says it.
     pub fn line(&self, alloc: Global) -> Result<Vec<u8>, AllocError>
-        ensures { IfOk result (λ line. line.items ≡ refusal_line self.now) }
+        ensures { IfOk result (λ line. line.items ≡ (refusal_said self.now).1) }
     {
         Ok(self.text(alloc)?.into_bytes())
     }
 
     fn text(&self, alloc: Global) -> Result<String, AllocError>
-        ensures { IfOk result (λ text. string_bytes text ≡ refusal_line self.now) }
+        ensures { IfOk result (λ text. string_bytes text ≡ (refusal_said self.now).1) }
     {
         match self {
             Refusal::Program(fault) => format!(in alloc; "program refused: {fault}\n"),
@@ -152,7 +153,7 @@ impl Refusal {
 
     /// Its status.
     pub fn status(&self) -> Status
-        ensures { result ≡ refusal_status self.now }
+        ensures { result ≡ (refusal_said self.now).0 }
     {
         match self {
             Refusal::Program(_) => Status::ProgramRefused,
@@ -182,7 +183,7 @@ impl LogRefusal {
 
 /// The line that a log has this many of these, which are too many.
 fn over_line(alloc: Global, part: LogPart, number: u64) -> Result<String, AllocError>
-    ensures { IfOk result (λ text. string_bytes text ≡ over_line part number) }
+    ensures { IfOk result (λ text. string_bytes text ≡ (refusal_said (LogOver part number)).1) }
 {
     let (part, most) = (part.text(), part.limit());
     format!(in alloc; "limit {part} {number} of {most}\n")

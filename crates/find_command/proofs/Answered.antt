@@ -1,5 +1,5 @@
 -- From a search over known files to its answers.
-use Rattle.std.proofs.Common.{◌≡◌, ◌⊎◌, inl, inr, ap, subst, refl, arith, ℕ, ◌+◌, ◌<◌, List, Some, IfSome}
+use Rattle.std.proofs.Common.{◌≡◌, ◌⊎◌, inl, inr, ap, subst, refl, arith, ℕ, ◌+◌, ◌<◌, List, [], ◌∷◌, length, Some, Vec, Global, IfSome}
 use Rattle.tc_code.specs.Code.{Code}
 use Rattle.tc_compile.specs.Programs.{IsCodeOf}
 use Rattle.tc_compile.proofs.OnePrograms.{one_refusal, refused_no_code}
@@ -19,14 +19,17 @@ use Rattle.find_failures.specs.Found.{IsFound}
 use Rattle.find_failures.specs.clap_solve.Clauses.{bound_of}
 use Rattle.find_failures.specs.declared.found.Found.{Found}
 use Rattle.find_failures.specs.declared.found.Found.TheVariants as found
+use Rattle.find_failures.specs.declared.found.Reach.{Reach}
 use Rattle.find_failures.specs.declared.found.Reach.TheVariants.{Every, Bounded}
+use Rattle.find_failures.specs.declared.found.Refuted.{Refuted}
 use Rattle.find_failures.specs.declared.found.Unknown.{Unknown}
 use Rattle.store_buffers.specs.Buffers.{buffer_of}
-use Rattle.find_command.specs.Answers.{HasCode, HasFound, HasLimit, HasMany, HasNone, HasNoneWithin, HasSpent, AreRefuted, SearchAnswers}
+use Rattle.certified_logs.specs.none_certificates.Texts.{certificate_text}
+use Rattle.log_limits.specs.Parts.{limit_of, part_left}
+use Rattle.find_command.specs.Answers.{HasCode, HasFound, HasLimit, HasMany, HasNone, HasNoneWithin, HasSpent, AreRefuted, LeavesCertificate, SearchAnswers}
 use Rattle.find_command.specs.Calls.{Search, inputs_of}
-use Rattle.find_command.specs.Findings.{HasFormat, IsToldAs, IsToldUnknown}
-use Rattle.find_command.specs.Lines.{finding_line, finding_status}
-use Rattle.find_command.specs.Parts.{limit_of, part_left}
+use Rattle.find_command.specs.Findings.{HasFormat, IsToldAs, IsToldUnknown, certificate_of}
+use Rattle.find_command.specs.Lines.{finding_line, finding_status, never_line}
 use Rattle.find_command.specs.Meanings.{ComesTo, IsUnread, keeps_of, report_of, search_of}
 use Rattle.find_command.specs.declared.finding.Finding.{Finding}
 use Rattle.find_command.specs.declared.finding.Finding.TheVariants.{Possible, Never, Spent, TooMany, Over}
@@ -70,9 +73,9 @@ module _ (call : Search) (files : Files) (e : End) where
       pub held : e.held ≡ put_all (keeps_of call y) (Some files)
       pub wrote : Wrote e.before e.after (finding_line call.asked y logs)
 
-    module _ (logs : ℕ) (refuted : AreRefuted call files e code logs) where
+    module _ (logs : List Refuted) (refuted : AreRefuted call files e code logs) where
       end_of_unknown : (o : Unknown) → IsFound (buffer_of call.model) (bound_of call.model) code call.model call.asked (found.Unknown o)
-          → (y : Finding) → IsToldUnknown program o y → IsDone y logs → IsEnd
+          → (y : Finding) → IsToldUnknown program o y → IsDone y (length logs) → IsEnd
       end_of_unknown o is (Spent text) told d =
           inr (inr (inl (
             d.status,
@@ -87,11 +90,25 @@ module _ (call : Search) (files : Files) (e : End) where
           )))
       end_of_unknown o is (Over part number) told d = inr (inr (inr (d.status, (part, number, inl (o, is, told), (d.held, d.wrote)))))
       end_of_unknown o is (Possible text) told d = absurd told
-      end_of_unknown o is (Never reach) told d = absurd told
+      end_of_unknown o is (Never reach text) told d = absurd told
       end_of_unknown o is TooMany told d = absurd told
 
+      leaves_certificate : (reach r : Reach) (text : Vec ℕ Global) → r ≡ reach → text.items ≡ certificate_text (certificate_of call reach logs)
+          → IsDone (Never r text) (length logs) → LeavesCertificate call files e reach logs
+      leaves_certificate reach r text same is d = (
+        subst (λ bytes. e.held ≡ put_all (record { name = call.out; bytes = bytes } ∷ []) (Some files)) is d.held,
+        subst (λ q. Wrote e.before e.after (never_line call.asked.outcomes q (length logs))) same d.wrote,
+      )
+
+      end_of_never : (reach : Reach) → IsFound (buffer_of call.model) (bound_of call.model) code call.model call.asked (found.Never reach)
+          → LeavesCertificate call files e reach logs → e.status ≡ 1 → IsEnd
+      end_of_never Every is leaves one =
+          inr (inl (one, inl (record { none = is; logs = logs; refuted = refuted; leaves = leaves })))
+      end_of_never Bounded is leaves one =
+          inr (inl (one, inr (record { none = is; logs = logs; refuted = refuted; leaves = leaves })))
+
       end_of : (f : Found) → IsFound (buffer_of call.model) (bound_of call.model) code call.model call.asked f
-          → (y : Finding) → IsToldAs program f y → IsDone y logs → IsEnd
+          → (y : Finding) → IsToldAs program call logs f y → IsDone y (length logs) → IsEnd
       end_of (found.Possible log) is (Possible text) told d =
           inl (
             d.status,
@@ -104,22 +121,22 @@ module _ (call : Search) (files : Files) (e : End) where
               leaves = (text.items, told, (d.held, d.wrote));
             },
           )
-      end_of (found.Possible log) is (Never reach) told d = absurd told
+      end_of (found.Possible log) is (Never reach text) told d = absurd told
       end_of (found.Possible log) is (Spent text) told d = absurd told
       end_of (found.Possible log) is TooMany told d = absurd told
       end_of (found.Possible log) is (Over part number) told d = absurd told
-      end_of (found.Never Every) is y told d =
-          let own = subst (λ z. IsDone z logs) told d in
-          inr (inl (own.status, inl (record { none = is; logs = logs; refuted = refuted; leaves = (own.held, own.wrote) })))
-      end_of (found.Never Bounded) is y told d =
-          let own = subst (λ z. IsDone z logs) told d in
-          inr (inl (own.status, inr (record { none = is; logs = logs; refuted = refuted; leaves = (own.held, own.wrote) })))
+      end_of (found.Never reach) is (Never r text) told d =
+          end_of_never reach is (leaves_certificate reach r text told.0 told.1 d) d.status
+      end_of (found.Never reach) is (Possible text) told d = absurd told
+      end_of (found.Never reach) is (Spent text) told d = absurd told
+      end_of (found.Never reach) is TooMany told d = absurd told
+      end_of (found.Never reach) is (Over part number) told d = absurd told
       end_of (found.Unknown o) is y told d = end_of_unknown o is y told d
       end_of found.TooMany is y told d =
-          let own = subst (λ z. IsDone z logs) told d in
+          let own = subst (λ z. IsDone z (length logs)) told d in
           inr (inr (inl (own.status, inr (is, (own.held, own.wrote)))))
       end_of (found.LeftOut out) is y told d =
-          let own = subst (λ z. IsDone z logs) told d in
+          let own = subst (λ z. IsDone z (length logs)) told d in
           inr (inr (inr (own.status, (part_left out, limit_of (part_left out) + 1, inr (refl, is.1), (own.held, own.wrote)))))
 
   abbrev IsReported : Findings → Type 0
@@ -133,8 +150,12 @@ module _ (call : Search) (files : Files) (e : End) where
       let told = r.comes.2.2 in (
         r.comes.0,
         r.comes.1,
-        end_of r.comes.0 x.impossible (s.refuted.items, is.refuted, told.impossible) s.found is.found x.finding told.finding
-            (record { status = r.status; held = r.held; wrote = r.wrote }),
+        end_of r.comes.0 s.refuted.items is.refuted s.found is.found x.finding told.finding
+            (record {
+              status = r.status;
+              held = r.held;
+              wrote = subst (λ n. Wrote e.before e.after (finding_line call.asked x.finding n)) told.impossible r.wrote;
+            }),
       )
 
   found_by : HasCode call files e IsEnd → e.status ≡ 0 → HasCode call files e (HasFound call files e)

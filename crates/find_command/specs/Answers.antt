@@ -13,16 +13,18 @@ use Rattle.command_frame.specs.End.{End, Leaves, LeavesNothing}
 use Rattle.find_failures.specs.Found.{AreMany, IsRefuted, IsUnknown}
 use Rattle.find_failures.specs.Runs.{IsNeeded, IsPossible, NoneEnds, NoneEndsWithin, NoneWithin}
 use Rattle.find_failures.specs.clap_solve.Clauses.{bound_of}
+use Rattle.find_failures.specs.declared.found.Reach.{Reach}
 use Rattle.find_failures.specs.declared.found.Reach.TheVariants.{Every, Bounded}
 use Rattle.find_failures.specs.declared.found.Reason.TheVariants.{Spent}
 use Rattle.find_failures.specs.declared.found.Refuted.{Refuted}
 use Rattle.find_failures.specs.declared.found.Unknown.{Unknown}
 use Rattle.find_command.specs.Calls.{Search, inputs_of}
-use Rattle.find_command.specs.Findings.{IsLogOf, IsOver}
-use Rattle.find_command.specs.Lines.{found_line, many_line, never_line, over_line, spent_line}
+use Rattle.certified_logs.specs.none_certificates.Texts.{certificate_text}
+use Rattle.log_limits.specs.Parts.{limit_of, over_line}
+use Rattle.log_limits.specs.declared.part.Part.{Part}
+use Rattle.find_command.specs.Findings.{IsLogOf, IsOver, certificate_of}
+use Rattle.find_command.specs.Lines.{found_line, many_line, never_line, spent_line}
 use Rattle.find_command.specs.Meanings.{IsUnread}
-use Rattle.find_command.specs.Parts.{limit_of}
-use Rattle.find_command.specs.declared.part.Part.{Part}
 
 module _ (call : Search) (files : Files) (e : End) where
   -- the bytes of the program
@@ -38,39 +40,43 @@ module _ (call : Search) (files : Files) (e : End) where
   LeavesLog log line =
       (text : List ℕ) × IsLogOf program log text × Leaves files e call.out text line
 
+  -- OUT holds the certificate with these logs, all else is as before, and the line counts them
+  abbrev pub LeavesCertificate : Reach → List Refuted → Type 0
+  LeavesCertificate reach logs =
+      Leaves files e call.out (certificate_text (certificate_of call reach logs))
+      (never_line call.asked.outcomes reach (length logs))
+
   -- the file is a program, and this holds of its code
   abbrev pub HasCode : (Code → Type 0) → Type 0
   HasCode P = (code : Code) × IsCodeOf program code × P code
 
   module _ (code : Code) where
-    -- that many logs have closed derivations, so that no moves reproduce them
-    abbrev pub AreRefuted : ℕ → Type 0
-    AreRefuted logs =
-        (refuted : List Refuted) × All (IsRefuted ops (bound_of call.model) code) refuted
-        × (logs ≡ length refuted)
+    -- each has a closed derivation, so that no moves reproduce these logs
+    abbrev pub AreRefuted : List Refuted → Type 0
+    AreRefuted = All (IsRefuted ops (bound_of call.model) code)
 
     -- some moves reproduce the log in OUT, which records the end that is looked for
     pub record HasFound : Type 0 where
       pub log : StoredLog
       pub needed : IsNeeded call.model code call.asked.kind call.asked.outcomes log.log
       pub possible : IsPossible ops code log.log
-      pub logs : ℕ
+      pub logs : List Refuted
       pub refuted : AreRefuted logs
-      pub leaves : LeavesLog log (found_line logs)
+      pub leaves : LeavesLog log (found_line (length logs))
 
     -- no run ends so
     pub record HasNone : Type 0 where
       pub none : NoneEnds ops code call.asked.kind
-      pub logs : ℕ
+      pub logs : List Refuted
       pub refuted : AreRefuted logs
-      pub leaves : LeavesNothing files e (never_line call.asked.outcomes Every logs)
+      pub leaves : LeavesCertificate Every logs
 
     -- each run that ends so has a thread with more outcomes than asked for
     pub record HasNoneWithin : Type 0 where
       pub none : NoneEndsWithin ops code call.asked.kind call.asked.outcomes
-      pub logs : ℕ
+      pub logs : List Refuted
       pub refuted : AreRefuted logs
-      pub leaves : LeavesNothing files e (never_line call.asked.outcomes Bounded logs)
+      pub leaves : LeavesCertificate Bounded logs
 
     -- this is the first log of which it isn't known whether it is possible
     abbrev pub IsFirstUnknown : Unknown → Type 0
@@ -81,9 +87,9 @@ module _ (call : Search) (files : Files) (e : End) where
       pub unknown : Unknown
       pub first : IsFirstUnknown unknown
       pub spent : unknown.reason ≡ Spent
-      pub logs : ℕ
+      pub logs : List Refuted
       pub refuted : AreRefuted logs
-      pub leaves : LeavesLog unknown.log (spent_line call.asked.budget logs)
+      pub leaves : LeavesLog unknown.log (spent_line call.asked.budget (length logs))
 
     -- there are more logs than asked for
     abbrev pub HasMany : Type 0
@@ -107,7 +113,8 @@ module _ (call : Search) (files : Files) (e : End) where
   pub record SearchAnswers : Type 0 where
     -- some moves of the machine reproduce the log in OUT
     pub found : e.status ≡ 0 → HasCode HasFound
-    -- no moves of the machine lead to such an end, or none with few outcomes in each thread
+    -- no moves of the machine lead to such an end, or none with few outcomes in each thread; OUT
+    -- holds the certificate
     pub none : e.status ≡ 1 → HasCode (λ code. HasNone code ⊎ HasNoneWithin code)
     -- it isn't known of the log in OUT, or there are more logs than asked for
     pub unknown : e.status ≡ 10 → HasCode (λ code. HasSpent code ⊎ HasMany code)

@@ -1,5 +1,5 @@
 -- What a search finds in a program.
-use Rattle.std.specs.Prelude.{◌≡◌, ℕ, ◌+◌, List, length, Option, Some, None, IfSome, IsTrue}
+use Rattle.std.specs.Prelude.{◌≡◌, ℕ, ◌+◌, List, length, map, Option, Some, None, IfSome, IsTrue}
 use Rattle.store_buffers.specs.Buffers.{buffer_of}
 use Rattle.tc_code.specs.Code.{Code}
 use Rattle.tc_compile.specs.Programs.{IsCodeOf}
@@ -11,16 +11,21 @@ use Rattle.find_failures.specs.Found.{IsSearched}
 use Rattle.find_failures.specs.clap_solve.Clauses.{bound_of}
 use Rattle.find_failures.specs.declared.found.Found.{Found}
 use Rattle.find_failures.specs.declared.found.Found.TheVariants as found
+use Rattle.find_failures.specs.declared.found.Reach.{Reach}
 use Rattle.find_failures.specs.declared.found.Reason.{Reason}
 use Rattle.find_failures.specs.declared.found.Reason.TheVariants as reason
+use Rattle.find_failures.specs.declared.found.Refuted.{Refuted}
 use Rattle.find_failures.specs.declared.found.Searched.{Searched}
 use Rattle.find_failures.specs.declared.found.Unknown.{Unknown}
+use Rattle.certified_logs.specs.none_certificates.Certificates.{Certificate}
+use Rattle.certified_logs.specs.none_certificates.Texts.{certificate_text}
+use Rattle.certified_logs.specs.Written.{header_of, refuted_of}
+use Rattle.log_limits.specs.Parts.{limit_of, part_left, part_of}
+use Rattle.log_limits.specs.declared.part.Part.{Part}
 use Rattle.find_command.specs.Calls.{Search}
-use Rattle.find_command.specs.Parts.{limit_of, part_left, part_of}
 use Rattle.find_command.specs.declared.finding.Finding.{Finding}
 use Rattle.find_command.specs.declared.finding.Finding.TheVariants.{Possible, Never, Spent, TooMany, Over}
 use Rattle.find_command.specs.declared.finding.Findings.{Findings}
-use Rattle.find_command.specs.declared.part.Part.{Part}
 
 -- this is the result of a search of the code
 abbrev pub IsResult : Search → Code → Searched → Type 0
@@ -45,6 +50,17 @@ HasFormat f = IfSome (log_in f) (λ log. IsTrue (is_of_format log.log))
 abbrev pub told_left : LeftOut → Finding
 told_left out = Over (part_left out) (limit_of (part_left out) + 1)
 
+-- the certificate of a search that ruled out these runs and refuted these logs
+abbrev pub certificate_of : Search → Reach → List Refuted → Certificate
+certificate_of call reach refuted =
+    record { header = header_of call.model call.asked reach; logs = map refuted_of refuted }
+
+-- this is told if runs were ruled out
+abbrev pub IsToldNever : Search → List Refuted → Reach → Finding → Type 0
+IsToldNever call refuted reach (Never r text) =
+    (r ≡ reach) × (text.items ≡ certificate_text (certificate_of call reach refuted))
+IsToldNever call refuted reach _ = ⊥
+
 -- the log has this many of these, which are too many
 abbrev pub IsOver : Part → (number : ℕ) → Reason → Type 0
 IsOver part number (reason.Limit which n limit) = (part ≡ part_of which) × (number ≡ n)
@@ -58,23 +74,23 @@ module _ (program : List ℕ) where
   IsToldUnknown o (Over part number) = IsOver part number o.reason
   IsToldUnknown o _ = ⊥
 
-  -- this is told of a result
-  abbrev pub IsToldAs : Found → Finding → Type 0
-  IsToldAs (found.Possible log) (Possible text) = IsLogOf program log text.items
-  IsToldAs (found.Never reach) x = x ≡ Never reach
-  IsToldAs (found.Unknown unknown) x = IsToldUnknown unknown x
-  IsToldAs found.TooMany x = x ≡ TooMany
-  IsToldAs (found.LeftOut out) x = x ≡ told_left out
-  IsToldAs _ _ = ⊥
+  -- this is told of a result and the logs that it refuted
+  abbrev pub IsToldAs : Search → List Refuted → Found → Finding → Type 0
+  IsToldAs call refuted (found.Possible log) (Possible text) = IsLogOf program log text.items
+  IsToldAs call refuted (found.Never reach) x = IsToldNever call refuted reach x
+  IsToldAs call refuted (found.Unknown unknown) x = IsToldUnknown unknown x
+  IsToldAs call refuted found.TooMany x = x ≡ TooMany
+  IsToldAs call refuted (found.LeftOut out) x = x ≡ told_left out
+  IsToldAs call refuted _ _ = ⊥
 
   -- these are told of a result
-  pub record AreTold (s : Searched) (x : Findings) : Type 0 where
-    pub finding : IsToldAs s.found x.finding
+  pub record AreTold (call : Search) (s : Searched) (x : Findings) : Type 0 where
+    pub finding : IsToldAs call s.refuted.items s.found x.finding
     pub impossible : x.impossible ≡ length s.refuted.items
 
   -- a search of the code finds these
   abbrev pub AreFindingsIn : Search → Code → Findings → Type 0
-  AreFindingsIn call code x = (s : Searched) × IsResult call code s × AreTold s x
+  AreFindingsIn call code x = (s : Searched) × IsResult call code s × AreTold call s x
 
   -- a search of the program finds these
   abbrev pub AreFindings : Search → Findings → Type 0

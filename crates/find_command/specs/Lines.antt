@@ -8,11 +8,10 @@ use Rattle.find_failures.specs.declared.found.Reach.{Reach}
 use Rattle.find_failures.specs.declared.found.Reach.TheVariants.{Every, Bounded}
 use Rattle.log_walk.specs.declared.bounds.Kind.{Kind}
 use Rattle.log_walk.specs.declared.bounds.Kind.TheVariants.{Failure, Deadlock}
-use Rattle.find_command.specs.Parts.{limit_of, part_text}
+use Rattle.log_limits.specs.Parts.{over_line}
 use Rattle.find_command.specs.declared.finding.Finding.{Finding}
 use Rattle.find_command.specs.declared.finding.Finding.TheVariants.{Possible, Never, Spent, TooMany, Over}
 use Rattle.find_command.specs.declared.finding.Findings.{Findings}
-use Rattle.find_command.specs.declared.part.Part.{Part}
 
 -- a log was found, after this many impossible ones
 abbrev pub found_line : (logs : ℕ) → List ℕ
@@ -40,17 +39,10 @@ abbrev pub many_line : Kind → (logs : ℕ) → List ℕ
 many_line kind logs =
     codes "no " ++ (kind_text kind ++ (codes " in " ++ (decimal logs ++ codes " logs\n")))
 
--- a log has this many of these, which are too many
-abbrev pub over_line : Part → (number : ℕ) → List ℕ
-over_line part number =
-    codes "limit " ++ (part_text part
-    ++ (codes " "
-    ++ (decimal number ++ (codes " of " ++ (decimal (limit_of part) ++ codes "\n")))))
-
 -- the line of what a search finds
 abbrev pub finding_line : Asked → Finding → (logs : ℕ) → List ℕ
 finding_line asked (Possible text) logs = found_line logs
-finding_line asked (Never reach) logs = never_line asked.outcomes reach logs
+finding_line asked (Never reach text) logs = never_line asked.outcomes reach logs
 finding_line asked (Spent text) logs = spent_line asked.budget logs
 finding_line asked TooMany logs = many_line asked.kind asked.logs
 finding_line asked (Over part number) logs = over_line part number
@@ -61,7 +53,7 @@ findings_line asked x = finding_line asked x.finding x.impossible
 -- its status
 abbrev pub finding_status : Finding → Status
 finding_status (Possible _) = Done
-finding_status (Never _) = Fails
+finding_status (Never _ _) = Fails
 finding_status (Spent _) = Open
 finding_status TooMany = Open
 finding_status (Over _ _) = OverLimit

@@ -11,7 +11,7 @@ use Rattle.find_command.specs.Calls.{Search, inputs_of}
 use Rattle.find_command.specs.Findings.{AreFindings}
 use Rattle.find_command.specs.Lines.{findings_line, finding_status}
 use Rattle.find_command.specs.declared.finding.Finding.{Finding}
-use Rattle.find_command.specs.declared.finding.Finding.TheVariants.{Possible, Spent}
+use Rattle.find_command.specs.declared.finding.Finding.TheVariants.{Possible, Never, Spent}
 use Rattle.find_command.specs.declared.finding.Findings.{Findings}
 
 -- why the program isn't searched
@@ -25,9 +25,10 @@ ComesTo call (program ∷ []) (Ok x) = AreFindings program call x
 ComesTo call (program ∷ []) (Err r) = IsUnread program r
 ComesTo call _ outcome = ⊥
 
--- what is kept: the text of a log that is possible, or of which it isn't known
+-- what is kept: the text of a log that is possible, or of which it isn't known, or a certificate
 abbrev pub keeps_of : Search → Finding → List Keep
 keeps_of call (Possible text) = record { name = call.out; bytes = text.items } ∷ []
+keeps_of call (Never reach text) = record { name = call.out; bytes = text.items } ∷ []
 keeps_of call (Spent text) = record { name = call.out; bytes = text.items } ∷ []
 keeps_of call _ = []
 

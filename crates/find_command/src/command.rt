@@ -22,7 +22,7 @@ impl<'a> Command for Search<'a> {
         let mut keeps = Vec::new(alloc);
         if let Ok(
             Findings {
-                finding: Finding::Possible(text) | Finding::Spent(text),
+                finding: Finding::Possible(text) | Finding::Never(_, text) | Finding::Spent(text),
                 ..
             },
         ) = outcome

@@ -1,15 +1,15 @@
 //! What a search finds in a program.
 
-use crate::part::Part;
 use find_failures::Reach;
+use log_limits::Part;
 
 /// What a search finds in a program.
 #[derive(Drop)]
 pub enum Finding {
     /// Some moves reproduce the log of this text.
     Possible(Vec<u8>),
-    /// No run ends as asked, or none with few outcomes.
-    Never(Reach),
+    /// No run ends as asked, or none with few outcomes, as the certificate of this text shows.
+    Never(Reach, Vec<u8>),
     /// It isn't known whether some moves reproduce the log of this text: the search for a schedule
     /// learnt as many clauses as the budget allows.
     Spent(Vec<u8>),

@@ -1,6 +1,6 @@
 //! `PROGRAM OUT`: a search for a failure or a deadlock of a program, without a run.
 //!
-//! The log of one is kept, or it is told that there is none.
+//! The log of one is kept, or a certificate that there is none.
 #![tactic(auto)]
 
 ghost use Rattle.std.specs.Prelude.{IfSome};
@@ -12,18 +12,16 @@ ghost use Rattle.find_command.specs.Meanings.{search_of};
 mod command;
 mod finding;
 mod line;
-mod part;
 mod search;
 mod searching;
 
 use command_frame::run;
 pub use finding::{Finding, Findings};
-pub use part::Part;
 pub use search::Search;
 use std::alloc::Global;
 use tc_io::{Shelf, Sink};
 
-/// Searches for a failure or a deadlock, and keeps the log of one.
+/// Searches for a failure or a deadlock, and keeps the log of one, or a certificate that there is none.
 pub fn search_program<H: Shelf, K: Sink>(
     alloc: Global,
     search: &Search<'_>,

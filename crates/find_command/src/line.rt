@@ -1,9 +1,8 @@
 //! The line and the status of each finding.
 ghost use Rattle.std.specs.Prelude.{◌≡◌, IfOk, string_bytes};
-ghost use Rattle.find_command.specs.Lines.{finding_status, findings_line, found_line, kind_text, many_line, never_line, over_line, spent_line};
+ghost use Rattle.find_command.specs.Lines.{finding_status, findings_line, found_line, kind_text, many_line, never_line, spent_line};
 
 use crate::finding::{Finding, Findings};
-use crate::part::Part;
 use command_frame::Status;
 use find_failures::{Asked, Reach};
 use log_walk::Kind;
@@ -16,10 +15,10 @@ impl Findings {
     {
         match &self.finding {
             Finding::Possible(_) => found_line(alloc, self.impossible),
-            Finding::Never(reach) => never_line(alloc, asked.outcomes, *reach, self.impossible),
+            Finding::Never(reach, _) => never_line(alloc, asked.outcomes, *reach, self.impossible),
             Finding::Spent(_) => spent_line(alloc, asked.budget, self.impossible),
             Finding::TooMany => many_line(alloc, asked),
-            Finding::Over(part, number) => over_line(alloc, *part, *number),
+            Finding::Over(part, number) => part.over_line(alloc, *number),
         }
     }
 }
@@ -31,7 +30,7 @@ impl Finding {
     {
         match self {
             Finding::Possible(_) => Status::Done,
-            Finding::Never(_) => Status::Fails,
+            Finding::Never(_, _) => Status::Fails,
             Finding::Spent(_) | Finding::TooMany => Status::Open,
             Finding::Over(_, _) => Status::OverLimit,
         }
@@ -73,11 +72,4 @@ fn kind_text(kind: Kind) -> &'static str
         Kind::Failure => "failure",
         Kind::Deadlock => "deadlock",
     }
-}
-
-fn over_line(alloc: Global, part: Part, number: u64) -> Result<String, AllocError>
-    ensures { IfOk result (λ text. string_bytes text ≡ over_line part number) }
-{
-    let (part, most) = (part.text(), part.limit());
-    format!(in alloc; "limit {part} {number} of {most}\n")
 }

@@ -7,15 +7,16 @@ ghost use Rattle.store_buffers.specs.Buffers.{buffer_of};
 ghost use Rattle.tc_limits.specs.declared.limits.TheConstants.{PROGRAM_BYTES};
 ghost use Rattle.command_inputs.specs.Forms.{IsWhy};
 ghost use Rattle.find_command.specs.Calls.{plain_search};
-ghost use Rattle.find_command.specs.Findings.{AreFindings, AreFindingsIn, HasFormat, IsToldAs, IsToldUnknown, told_left};
+ghost use Rattle.find_command.specs.Findings.{AreFindings, AreFindingsIn, HasFormat, IsToldAs, IsToldNever, IsToldUnknown, told_left};
 ghost use Rattle.find_command.specs.Meanings.{IsUnread};
 
 use crate::finding::{Finding, Findings};
-use crate::part::{part_left, part_of};
 use crate::search::Search;
+use certified_logs::{certificate, header_of};
 use command_inputs::Fault;
-use find_failures::{Found, Reason, Searched, Unknown, find};
+use find_failures::{Found, Reach, Reason, Refuted, Searched, Unknown, find};
 use kept_logs::text_with_digest;
+use log_limits::{part_left, part_of};
 use log_walk::LeftOut;
 use memory_models::Model;
 use std::alloc::{AllocError, Global};
@@ -46,10 +47,10 @@ fn search_code(
 {
     let Searched { found, refuted } = search_under(alloc, call, code)?;
     let impossible = refuted.len();
+    let finding = told(alloc, call, program, found, &refuted);
     drop(refuted);
-    let finding = told(alloc, program, found)?;
     Ok(Findings {
-        finding,
+        finding: finding?,
         impossible,
     })
 }
@@ -65,18 +66,38 @@ fn search_under(alloc: Global, call: &Search<'_>, code: &Code) -> Result<Searche
     }
 }
 
-/// What is told of a result.
-fn told(alloc: Global, program: &[u8], found: Found) -> Result<Finding, AllocError>
+/// What is told of a result and the logs that it refuted.
+fn told(
+    alloc: Global,
+    call: &Search<'_>,
+    program: &[u8],
+    found: Found,
+    refuted: &[Refuted],
+) -> Result<Finding, AllocError>
     requires { HasFormat found }
-    ensures { IfOk result (IsToldAs program.now found) }
+    ensures { IfOk result (IsToldAs program.now (plain_search call.now) refuted.now found) }
 {
     match found {
         Found::Possible(log) => Ok(Finding::Possible(text_with_digest(alloc, program, log)?)),
-        Found::Never(reach) => Ok(Finding::Never(reach)),
+        Found::Never(reach) => told_never(alloc, call, reach, refuted),
         Found::Unknown(unknown) => told_unknown(alloc, program, unknown),
         Found::TooMany => Ok(Finding::TooMany),
         Found::LeftOut(out) => Ok(told_left(out)),
     }
+}
+
+/// What is told if runs were ruled out: a certificate with the logs that were refuted.
+fn told_never(
+    alloc: Global,
+    call: &Search<'_>,
+    reach: Reach,
+    refuted: &[Refuted],
+) -> Result<Finding, AllocError>
+    ensures { IfOk result (IsToldNever (plain_search call.now) refuted.now reach) }
+{
+    let header = header_of(call.model, call.asked, reach);
+    let text = certificate(alloc, header, refuted)?;
+    Ok(Finding::Never(reach, text))
 }
 
 /// What is told of a log of which it isn't known whether some moves reproduce it.

@@ -4,6 +4,7 @@ use Rattle.std.specs.Prelude.{slice_get, IfSome}
 use Rattle.std.proofs.lemmas.List.Elements.{All-nil, All-cons}
 use Rattle.tc_base.specs.Paths.{ThreadPath}
 use Rattle.tc_code.specs.Code.{Code}
+use Rattle.log_walk.specs.thread_paths.pure_turns.Live.{Liveness}
 use Rattle.log_walk.specs.Given.{Given, IsFirst, IsOne}
 use Rattle.log_walk.specs.Order.{are_to_come}
 use Rattle.find_failures.specs.Found.{AreMany}
@@ -23,10 +24,10 @@ module _ (code : Code) (asked : Asked) where
   }
 
   -- one log more
-  pub one_more : (level n : ℕ) (last : Option (List ThreadPath)) (given : Given) (ts : List ThreadPath) → level ≤ asked.outcomes
-      → IsFirst code (record { kind = asked.kind; most = level }) last given → given.threads ≡ Some ts
+  pub one_more : (live : Liveness) (level n : ℕ) (last : Option (List ThreadPath)) (given : Given) (ts : List ThreadPath) → level ≤ asked.outcomes
+      → IsFirst code live (record { kind = asked.kind; most = level }) last given → given.threads ≡ Some ts
       → AreManyTo code asked n last → AreManyTo code asked (n + 1) (Some ts)
-  one_more level n last given ts le first some before = record {
+  one_more live level n last given ts le first some before = record {
     many = record {
       logs = ts ∷ before.many.logs;
       many = omega (arith, before.many.many);

@@ -24,17 +24,18 @@ use Rattle.tc_code.specs.Run.{IsStuck}
 use Rattle.tc_code.specs.tc_limits.declared.limits.TheConstants.{THREADS}
 use Rattle.walked_logs.specs.run_follows.Machine.{Machine}
 use Rattle.walked_logs.proofs.path_laws.Prefixes.{own_under}
+use Rattle.log_walk.specs.thread_paths.pure_turns.Live.{Liveness, IsClosed}
 use Rattle.log_walk.specs.Given.{IsLeftOut, has_many_outcomes}
 use Rattle.log_walk.specs.Given.IsLeftOut.{Outcomes, Steps, Depth, Threads}
 use Rattle.log_walk.specs.Rest.{all, MakeUp}
 use Rattle.log_walk.specs.declared.bounds.Kind.{Kind}
 use Rattle.log_walk.specs.declared.bounds.Kind.TheVariants.{Failure, Deadlock}
 use Rattle.log_walk.specs.declared.bounds.LeftOut.{LeftOut}
-use Rattle.walked_logs.specs.normal_logs.Within.{Allowed, at_most, HasBeginnings, ComesTo}
-use Rattle.walked_logs.proofs.normal_logs.Logs.{few_begin}
-use Rattle.walked_logs.proofs.Runs.{fails_walked, stuck_walked}
+use Rattle.walked_logs.specs.normal_logs.Within.{Allowed, at_most, ComesTo}
+use Rattle.turnless_logs.specs.Turnless.{any_outcomes}
+use Rattle.turnless_logs.proofs.Runs.{fails_whole, fails_within, stuck_whole, stuck_within}
 use Rattle.find_failures.specs.Found.{IsFound, IsSearched, IsUnknown}
-use Rattle.find_failures.specs.Runs.{AreImpossible, EndsIn, HasMany, NoneEnds, NoneEndsWithin, NoneWithin}
+use Rattle.find_failures.specs.Runs.{AreExcluded, EndsIn, HasMany, NoneEnds, NoneEndsWithin, NoneWithin}
 use Rattle.find_failures.specs.declared.asked.Asked.{Asked}
 use Rattle.find_failures.specs.declared.found.Found.{Found}
 use Rattle.find_failures.specs.declared.found.Found.TheVariants as found
@@ -52,28 +53,42 @@ use Rattle.find_failures.proofs.Tried.{stuck_log}
 abbrev pub AreFew : ℕ → List ThreadPath → Type 0
 AreFew most ts = All (λ t. length t.path.outcomes ≤ most) ts
 
-module _ {B : Type 0} (m : Machine B) (kind : Kind) where
-  -- no moves reproduce a log of such threads
+module _ {B : Type 0} (m : Machine B) (live : Liveness) (kind : Kind) where
+  -- such threads are excluded
   abbrev pub AreNone : (List ThreadPath → Type 0) → Type 0
   AreNone which =
-      (ts : List ThreadPath) → MakeUp m.code kind (all m.code kind) ts → which ts → AreImpossible m.ops m.model m.code kind ts
+      (ts : List ThreadPath) → MakeUp m.code kind (all m.code kind) ts → which ts → AreExcluded m.ops m.model m.code live kind ts
 
 -- the threads' outcomes are allowed
 abbrev pub AreAllowed : Allowed → List ThreadPath → Type 0
 AreAllowed allowed ts = (n : Name) (p : Path) → path_under n ts ≡ Some p → allowed n p.outcomes ≡ true
 
-module _ {B : Type 0} (m : Machine B) (allowed : Allowed) (begins : HasBeginnings allowed) where
-  none_comes : (kind : Kind) → AreNone m kind (AreAllowed allowed) → ComesTo m.ops m.code allowed (EndsIn m.ops m.code kind) → ⊥
-  none_comes Failure none comes =
-      let c : ComesTo m.ops m.code allowed (λ s. IsSome s.failed) =
-      record { moves = comes.moves; state = comes.state; leads = comes.leads; is = comes.is; within = comes.within } in
-      let r = fails_walked m allowed begins c in
-      none r.log.threads r.is.makes_up r.within r.log r.under refl r.is.fails r.moves r.again
-  none_comes Deadlock none comes =
-      let c : ComesTo m.ops m.code allowed (IsStuck m.ops m.code) =
-      record { moves = comes.moves; state = comes.state; leads = comes.leads; is = comes.is; within = comes.within } in
-      let r = stuck_walked m allowed c in
-      none r.log.threads r.is.makes_up r.within r.log r.under refl r.is.ends r.moves r.again
+module _ {B : Type 0} (m : Machine B) (live : Liveness) (closed : IsClosed m.code live) where
+  comes_failed : (allowed : Allowed) → ComesTo m.ops m.code allowed (EndsIn m.ops m.code Failure) → ComesTo m.ops m.code allowed (λ s. IsSome s.failed)
+  comes_failed allowed comes = record { moves = comes.moves; state = comes.state; leads = comes.leads; is = comes.is; within = comes.within }
+
+  comes_stuck : (allowed : Allowed) → ComesTo m.ops m.code allowed (EndsIn m.ops m.code Deadlock) → ComesTo m.ops m.code allowed (IsStuck m.ops m.code)
+  comes_stuck allowed comes = record { moves = comes.moves; state = comes.state; leads = comes.leads; is = comes.is; within = comes.within }
+
+  none_whole : (kind : Kind) → AreNone m live kind (λ ts. Unit {0}) → ComesTo m.ops m.code any_outcomes (EndsIn m.ops m.code kind) → ⊥
+  none_whole Failure none comes =
+      fails_whole m live closed
+      (λ r. none r.log.threads r.is.walked.makes_up tt r.is.turnless r.log r.under refl r.is.walked.fails r.moves r.again)
+      (comes_failed any_outcomes comes)
+  none_whole Deadlock none comes =
+      stuck_whole m live closed
+      (λ r. none r.log.threads r.is.walked.makes_up tt r.is.turnless r.log r.under refl r.is.walked.ends r.moves r.again)
+      (comes_stuck any_outcomes comes)
+
+  none_few : (kind : Kind) (most : ℕ) → AreNone m live kind (AreAllowed (at_most most)) → ComesTo m.ops m.code (at_most most) (EndsIn m.ops m.code kind) → ⊥
+  none_few Failure most none comes =
+      fails_within m live most closed
+      (λ r. none r.log.threads r.is.walked.makes_up r.within r.is.turnless r.log r.under refl r.is.walked.fails r.moves r.again)
+      (comes_failed (at_most most) comes)
+  none_few Deadlock most none comes =
+      stuck_within m live most closed
+      (λ r. none r.log.threads r.is.walked.makes_up r.within r.is.turnless r.log r.under refl r.is.walked.ends r.moves r.again)
+      (comes_stuck (at_most most) comes)
 
 -- Threads with many outcomes in a state.
 
@@ -143,29 +158,29 @@ few_of code kind model most ts made allowed k d less =
     (own_under (record { model = model; failing = failing.Deadlock; threads = ts }) (stuck_log model code kind ts made) k t
     (slice_get-get_or ts k d less)))
 
-module _ {B : Type 0} (m : Machine B) (kind : Kind) where
+module _ {B : Type 0} (m : Machine B) (live : Liveness) (closed : IsClosed m.code live) (kind : Kind) where
   -- no run ends so, however long
-  none_ends : AreNone m kind (λ ts. Unit {0}) → NoneEnds m.ops m.code kind
+  none_ends : AreNone m live kind (λ ts. Unit {0}) → NoneEnds m.ops m.code kind
   none_ends none moves s leads ends =
-      none_comes m (λ n o. true) (λ n first later e. refl) kind (λ ts made within. none ts made tt)
+      none_whole m live closed kind none
       (record { moves = moves; state = s; leads = leads; is = ends; within = λ n t there. refl })
 
   -- no run with few outcomes ends so: each run that does has a thread with more
-  none_within : (most : ℕ) → AreNone m kind (AreFew most) → NoneEndsWithin m.ops m.code kind most
+  none_within : (most : ℕ) → AreNone m live kind (AreFew most) → NoneEndsWithin m.ops m.code kind most
   none_within most none moves s leads ends = by (many_or_few most s)
     where
       by : HasMany most s ⊎ AreFewIn most s → HasMany most s
       by (inl many) = many
       by (inr few) =
-          absurd (none_comes m (at_most most) (few_begin most) kind
+          absurd (none_few m live closed kind most
           (λ ts made within. none ts made (few_of m.code kind m.model most ts made within))
           (record { moves = moves; state = s; leads = leads; is = ends; within = few }))
 
-  -- each log is impossible, or was left out
+  -- each log is excluded, or was left out
   abbrev pub IsDone : ℕ → LeftOut → Type 0
   IsDone most out =
       (ts : List ThreadPath) → MakeUp m.code kind (all m.code kind) ts
-      → AreImpossible m.ops m.model m.code kind ts ⊎ IsLeftOut most THREADS out ts
+      → AreExcluded m.ops m.model m.code live kind ts ⊎ IsLeftOut most THREADS out ts
 
   module _ (most : ℕ) (out : LeftOut) (done : IsDone most out) (within : is_over out ≡ false) where
     -- no limit left a log out
@@ -178,22 +193,22 @@ module _ {B : Type 0} (m : Machine B) (kind : Kind) where
         absurd (false≢true (sym (or_parts out.steps out.depth (or_parts (out.steps || out.depth) out.threads within).0).1 ∙ told))
     by_outcomes ts (Threads told is) = absurd (false≢true (sym (or_parts (out.steps || out.depth) out.threads within).1 ∙ told))
 
-    every : out.outcomes ≡ false → AreNone m kind (λ ts. Unit {0})
+    every : out.outcomes ≡ false → AreNone m live kind (λ ts. Unit {0})
     every none ts made any = by (done ts made)
       where
-        by : AreImpossible m.ops m.model m.code kind ts ⊎ IsLeftOut most THREADS out ts → AreImpossible m.ops m.model m.code kind ts
-        by (inl impossible) = impossible
+        by : AreExcluded m.ops m.model m.code live kind ts ⊎ IsLeftOut most THREADS out ts → AreExcluded m.ops m.model m.code live kind ts
+        by (inl excluded) = excluded
         by (inr left) = absurd (false≢true (sym none ∙ (by_outcomes ts left).0))
 
-    bounded : AreNone m kind (AreFew most)
+    bounded : AreNone m live kind (AreFew most)
     bounded ts made few = by (done ts made)
       where
         isnt : (t : ThreadPath) → length t.path.outcomes ≤ most → has_many_outcomes most t ≡ false
         isnt t le =
             false_from_ne_true (has_many_outcomes most t) (λ e. let less = ltb-true most (length t.path.outcomes) e in omega (arith, less, le))
 
-        by : AreImpossible m.ops m.model m.code kind ts ⊎ IsLeftOut most THREADS out ts → AreImpossible m.ops m.model m.code kind ts
-        by (inl impossible) = impossible
+        by : AreExcluded m.ops m.model m.code live kind ts ⊎ IsLeftOut most THREADS out ts → AreExcluded m.ops m.model m.code live kind ts
+        by (inl excluded) = excluded
         by (inr left) =
             absurd (false≢true (sym (list_any_none (has_many_outcomes most) ts
             (All-weaker (λ t. length t.path.outcomes ≤ most) (λ t. has_many_outcomes most t ≡ false) isnt ts few))
@@ -207,20 +222,20 @@ module _ {B : Type 0} (m : Machine B) (kind : Kind) where
     pub none_in_bounds : NoneEndsWithin m.ops m.code kind most
     none_in_bounds = none_within most bounded
 
-module _ {B : Type 0} (m : Machine B) (asked : Asked) (gone : Gone) where
+module _ {B : Type 0} (m : Machine B) (live : Liveness) (is_closed : IsClosed m.code live) (asked : Asked) (gone : Gone) where
   abbrev AllDone : LeftOut → Type 0
-  AllDone out = AreDone m.ops m.model m.code asked.kind asked.outcomes gone out
+  AllDone out = AreDone m.ops m.model m.code live asked.kind asked.outcomes gone out
 
   abbrev IsRight : Found → Type 0
   IsRight f = IsFound m.ops m.bound m.code m.model asked f
 
   -- no log within the limits is possible
   over_within : (out : LeftOut) → AllDone out → gone.unknown ≡ None → NoneWithin m.ops m.model m.code asked.kind asked.outcomes
-  over_within out done closed ts one = by (done closed ts one.makes_up)
+  over_within out done closed ts one turnless = by (done closed ts one.makes_up) (turnless live is_closed)
     where
-      by : AreImpossible m.ops m.model m.code asked.kind ts ⊎ IsLeftOut asked.outcomes THREADS out ts
-          → AreImpossible m.ops m.model m.code asked.kind ts
-      by (inl impossible) = impossible
+      by : AreExcluded m.ops m.model m.code live asked.kind ts ⊎ IsLeftOut asked.outcomes THREADS out ts
+          → AreExcluded m.ops m.model m.code live asked.kind ts
+      by (inl excluded) = excluded
       by (inr left) = absurd (one_is_in m.code (record { kind = asked.kind; most = asked.outcomes }) out ts one left)
 
   -- the result after all logs is right
@@ -229,8 +244,8 @@ module _ {B : Type 0} (m : Machine B) (asked : Asked) (gone : Gone) where
     where
       by_cut : (b : Bool) → out.outcomes ≡ b → gone.unknown ≡ None → is_over out ≡ false
           → IsRight (cond b (found.Never Bounded) (found.Never Every))
-      by_cut true cut closed within = none_in_bounds m asked.kind asked.outcomes out (done closed) within
-      by_cut false cut closed within = none_if_whole m asked.kind asked.outcomes out (done closed) within cut
+      by_cut true cut closed within = none_in_bounds m live is_closed asked.kind asked.outcomes out (done closed) within
+      by_cut false cut closed within = none_if_whole m live is_closed asked.kind asked.outcomes out (done closed) within cut
 
       by_over : (b : Bool) → is_over out ≡ b → gone.unknown ≡ None
           → IsRight (cond b (found.LeftOut out) (cond out.outcomes (found.Never Bounded) (found.Never Every)))
@@ -243,12 +258,12 @@ module _ {B : Type 0} (m : Machine B) (asked : Asked) (gone : Gone) where
       by (Some o) e = subst (λ q. IfSome q (IsUnknown m.ops m.bound m.code m.model asked)) e are.unknown
       by None e = by_over (is_over out) refl e
 
-  result_is_found : (ended : Ended) → IsEnded m.ops m.model m.bound m.code asked asked.outcomes gone ended → IsRight (found_of gone.unknown ended)
+  result_is_found : (ended : Ended) → IsEnded m.ops m.model m.bound m.code live asked asked.outcomes gone ended → IsRight (found_of gone.unknown ended)
   result_is_found (Possible log) is = is.1
   result_is_found TooMany is = is.1
   result_is_found (Done out) is = after_is_found out is.0 is.1
 
   -- the result of going through logs is right
-  pub searched_right : (ended : Ended) → IsEnded m.ops m.model m.bound m.code asked asked.outcomes gone ended
+  pub searched_right : (ended : Ended) → IsEnded m.ops m.model m.bound m.code live asked asked.outcomes gone ended
       → IsSearched m.ops m.bound m.code m.model asked (searched gone ended)
   searched_right ended is = record { found = result_is_found ended is; refuted = is.0.refuted }

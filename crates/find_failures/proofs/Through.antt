@@ -6,8 +6,10 @@ use Rattle.tc_base.specs.Paths.{ThreadPath}
 use Rattle.tc_code.specs.Code.{Code}
 use Rattle.tc_code.specs.tc_limits.declared.limits.TheConstants.{THREADS}
 use Rattle.log_walk.specs.Given.{Given, IsFirst, IsLeftOut, AreNotAfter}
+use Rattle.log_walk.specs.thread_paths.pure_turns.Live.{Liveness}
 use Rattle.log_walk.specs.Order.{are_from, are_to_come}
 use Rattle.log_walk.specs.Rest.{all, MakeUp}
+use Rattle.log_walk.specs.Turns.{ShowTurn}
 use Rattle.log_walk.specs.helpers.Searches.{IsKept}
 use Rattle.log_walk.specs.declared.bounds.Bounds.{Bounds}
 use Rattle.log_walk.specs.declared.bounds.LeftOut.{LeftOut}
@@ -63,8 +65,12 @@ module _ (code : Code) (bounds : Bounds) (P : List ThreadPath → Type 0) where
   covered_second : (one other : LeftOut) (ts : List ThreadPath) → IsLeftOut bounds.most THREADS other ts → IsCovered (both one other) ts
   covered_second one other ts left = inr (kept_out bounds.most THREADS other (both one other) ts (second_kept one other) left)
 
-  module _ (last : Option (List ThreadPath)) (given : Given) (out : LeftOut) (first : IsFirst code bounds last given)
+  module _ (live : Liveness) (shown : (ts : List ThreadPath) → ShowTurn code live bounds.kind (all code bounds.kind) ts → P ts)
+      (last : Option (List ThreadPath)) (given : Given) (out : LeftOut) (first : IsFirst code live bounds last given)
       (through : IsThrough last out) where
+    abbrev Others : List ThreadPath → Type 0
+    Others ts = AreNotAfter given.threads ts ⊎ (IsLeftOut bounds.most THREADS given.out ts ⊎ ShowTurn code live bounds.kind (all code bounds.kind) ts)
+
     -- one list of threads further
     pub go_on : (us : List ThreadPath) → given.threads ≡ Some us → MakeUp code bounds.kind (all code bounds.kind) us → P us
         → IsThrough (Some us) (both out given.out)
@@ -73,9 +79,10 @@ module _ (code : Code) (bounds : Bounds) (P : List ThreadPath → Type 0) where
         by_found : AreNotAfter (Some us) ts → IsCovered (both out given.out) ts
         by_found on = inl (subst P (same_threads code bounds.kind us ts (all code bounds.kind) found made on (not_false (are_from ts us) e)) here)
 
-        by_first : AreNotAfter given.threads ts ⊎ IsLeftOut bounds.most THREADS given.out ts → IsCovered (both out given.out) ts
+        by_first : Others ts → IsCovered (both out given.out) ts
         by_first (inl on) = by_found (subst (λ o. AreNotAfter o ts) some on)
-        by_first (inr left) = covered_second out given.out ts left
+        by_first (inr (inl left)) = covered_second out given.out ts left
+        by_first (inr (inr turn)) = inl (shown ts turn)
 
         by : (b : Bool) → are_to_come last ts ≡ b → IsCovered (both out given.out) ts
         by true is = by_first (first.others ts made is)
@@ -86,9 +93,10 @@ module _ (code : Code) (bounds : Bounds) (P : List ThreadPath → Type 0) where
         → IsCovered (both out given.out) ts
     at_end none ts made = by (are_to_come last ts) refl
       where
-        by_first : AreNotAfter given.threads ts ⊎ IsLeftOut bounds.most THREADS given.out ts → IsCovered (both out given.out) ts
+        by_first : Others ts → IsCovered (both out given.out) ts
         by_first (inl on) = absurd (subst (λ o. AreNotAfter o ts) none on)
-        by_first (inr left) = covered_second out given.out ts left
+        by_first (inr (inl left)) = covered_second out given.out ts left
+        by_first (inr (inr turn)) = inl (shown ts turn)
 
         by : (b : Bool) → are_to_come last ts ≡ b → IsCovered (both out given.out) ts
         by true is = by_first (first.others ts made is)

@@ -1,6 +1,8 @@
 //! The search: with more and more outcomes, up to the bound, or until none are left out.
 ghost use Rattle.std.specs.Prelude.{◌≡◌, ◌≤◌, IfOk};
 ghost use Rattle.tc_code.specs.tc_limits.declared.limits.TheConstants.{BUDGET};
+ghost use Rattle.slot_liveness.specs.Tables.{liveness};
+ghost use Rattle.slot_liveness.specs.pure_turns.Live.{IsClosed};
 ghost use Rattle.find_failures.specs.Found.{IsSearched};
 ghost use Rattle.find_failures.specs.helpers.Gone.{AreGone, IsEnded, after_all, found_of, is_last, searched};
 
@@ -8,7 +10,8 @@ use crate::asked::Asked;
 use crate::found::{Found, Reach, Searched, Unknown};
 use crate::gone::Gone;
 use crate::round::{Ended, round};
-use log_walk::LeftOut;
+use log_walk::{LeftOut, Program};
+use slot_liveness::live_slots;
 use std::alloc::{AllocError, Global};
 use store_buffers::MemoryModel;
 use tc_code::Code;
@@ -16,18 +19,19 @@ use tc_code::Code;
 /// Goes through the logs with more and more outcomes.
 fn levels<M: MemoryModel>(
     alloc: Global,
-    code: &Code,
+    program: Program<'_>,
     asked: Asked,
     gone: &mut Gone,
 ) -> Result<Ended, AllocError>
     requires some { 1 ≤ asked.budget }
     requires room { asked.budget ≤ BUDGET }
-    requires gone { AreGone M.ops M.MODEL M.bound code.now asked gone.old }
-    ensures { IfOk result (IsEnded M.ops M.MODEL M.bound code.now asked asked.outcomes gone.new) }
+    requires gone { AreGone M.ops M.MODEL M.bound program.code.now asked gone.old }
+    requires closed { IsClosed program.code.now (liveness program.live.now) }
+    ensures { IfOk result (IsEnded M.ops M.MODEL M.bound program.entry.code.now (liveness program.entry.live.now) asked asked.outcomes gone.new) }
 {
     let mut level = 0;
     'levels: loop {
-        let ended = round::<M>(alloc, code, asked, level, gone)?;
+        let ended = round::<M>(alloc, program, asked, level, gone)?;
         if is_last(asked, level, &ended) {
             return Ok(ended);
         }
@@ -96,7 +100,9 @@ pub fn find<M: MemoryModel>(
 {
     // Lawful code.
     let _functions = code.functions();
+    let live = live_slots(alloc, code)?;
+    let program = Program { code, live: &live };
     let mut gone = Gone::new(alloc);
-    let ended = levels::<M>(alloc, code, asked, &mut gone)?;
+    let ended = levels::<M>(alloc, program, asked, &mut gone)?;
     Ok(searched(gone, ended))
 }

@@ -7,14 +7,7 @@ use Rattle.log_tasks.specs.Lines.{moves_line}
 use Rattle.import_command.specs.declared.imported.Imported.{Imported}
 use Rattle.import_command.specs.declared.imported.Imported.TheVariants.{Found, False}
 
--- the clause of this number is false
-abbrev pub false_line : ℕ → List ℕ
-false_line number = codes "clause " ++ (decimal number ++ codes " false\n")
-
-abbrev pub imported_line : Imported → List ℕ
-imported_line (Found schedule text) = moves_line schedule.moves.items
-imported_line (False number) = false_line number
-
-abbrev pub imported_status : Imported → Status
-imported_status (Found _ _) = Done
-imported_status (False _) = Fails
+-- the status and the line of what is made: a schedule, or the number of the first false clause
+abbrev pub imported_said : Imported → Status × List ℕ
+imported_said (Found schedule text) = (Done, moves_line schedule.moves.items)
+imported_said (False number) = (Fails, codes "clause " ++ (decimal number ++ codes " false\n"))

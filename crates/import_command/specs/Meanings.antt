@@ -11,7 +11,7 @@ use Rattle.command_inputs.specs.declared.refusal.Refusal.{Refusal}
 use Rattle.command_ends.specs.Outcomes.{Report, command_of}
 use Rattle.log_tasks.specs.Tasks.{Reproduces, clauses_of, model_of}
 use Rattle.import_command.specs.Calls.{Answered, Import, IsUntaken, inputs_of}
-use Rattle.import_command.specs.Lines.{imported_line, imported_status}
+use Rattle.import_command.specs.Lines.{imported_said}
 use Rattle.import_command.specs.declared.imported.Imported.{Imported}
 use Rattle.import_command.specs.declared.imported.Imported.TheVariants.{Found, False}
 
@@ -38,18 +38,21 @@ module _ (asked : Option Model) {program log answer : List ℕ}
 -- what comes of the bytes of the files
 abbrev pub ComesTo : Import → Texts → Result Imported Refusal → Type 0
 ComesTo call (program ∷ log ∷ answer ∷ []) (Ok x) =
-    (a : Answered program log answer) × IsMade call.model a x
+    (a : Answered program log answer) × IsMade call.asked.model a x
 ComesTo call (program ∷ log ∷ answer ∷ []) (Err why) = IsUntaken program log answer why
 ComesTo call _ outcome = ⊥
 
 -- the text of a schedule is kept as OUT
 abbrev pub keeps_of : Import → Imported → List Keep
-keeps_of call (Found schedule text) = record { name = call.out; bytes = text.items } ∷ []
+keeps_of call (Found schedule text) = record { name = call.asked.out; bytes = text.items } ∷ []
 keeps_of call (False number) = []
 
 abbrev pub report_of : Import → Report Imported
-report_of call =
-    record { keeps_of = keeps_of call; line_of = imported_line; status_of = imported_status }
+report_of call = record {
+  keeps_of = keeps_of call;
+  line_of = λ x. (imported_said x).1;
+  status_of = λ x. (imported_said x).0;
+}
 
 -- `import`
 abbrev pub import_of : Import → Meaning (Result Imported Refusal)

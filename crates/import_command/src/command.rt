@@ -1,7 +1,7 @@
 //! The command.
 ghost use Rattle.std.specs.Prelude.{◌≡◌, IfOk, string_bytes};
 ghost use Rattle.import_command.specs.Calls.{plain_import};
-ghost use Rattle.import_command.specs.Lines.{imported_line, imported_status};
+ghost use Rattle.import_command.specs.Lines.{imported_said};
 ghost use Rattle.import_command.specs.Meanings.{import_of};
 
 use crate::answer::AnswerFile;
@@ -81,7 +81,7 @@ impl<'a> Work for Import<'a> {
 
 /// The line for what an answer gives.
 fn imported_line(alloc: Global, imported: &Imported) -> Result<String, AllocError>
-    ensures { IfOk result (λ text. string_bytes text ≡ imported_line imported.now) }
+    ensures { IfOk result (λ text. string_bytes text ≡ (imported_said imported.now).1) }
 {
     match imported {
         Imported::Found(schedule, _) => moves_line(alloc, schedule),
@@ -91,7 +91,7 @@ fn imported_line(alloc: Global, imported: &Imported) -> Result<String, AllocErro
 
 /// Its status.
 fn imported_status(imported: &Imported) -> Status
-    ensures { result ≡ imported_status imported.now }
+    ensures { result ≡ (imported_said imported.now).0 }
 {
     match imported {
         Imported::Found(_, _) => Status::Done,

@@ -1,7 +1,8 @@
 //! The command.
 ghost use Rattle.std.specs.Prelude.{◌≡◌, IfOk, string_bytes};
-ghost use Rattle.least_command.specs.Meanings.{fewest_line, least_line, least_of, least_status, spent_at_line};
-ghost use Rattle.least_command.specs.helpers.Asked.{plain_least};
+ghost use Rattle.least_command.specs.Meanings.{least_of, least_said};
+ghost use Rattle.least_command.specs.Calls.{plain_least};
+ghost use Rattle.least_command.specs.helpers.Lines.{spent_at_line};
 
 use crate::search::searched;
 use crate::solution::Solution;
@@ -10,7 +11,6 @@ use command_inputs::{Fault, LogFile, ProgramFile, Refusal};
 use least_switch::Least as Minimum;
 use log_tasks::{Budget, impossible_line, spent_line};
 use memory_models::Model;
-use schedule_file::Schedule;
 use std::alloc::{AllocError, Global};
 
 /// Searches for a schedule of a log of a program with the fewest context switches.
@@ -61,7 +61,11 @@ impl<'a> Command for Least<'a> {
 
     fn status(&self, outcome: &Result<Solution, Refusal>) -> Status {
         match outcome {
-            Ok(solution) => least_status(&solution.least),
+            Ok(solution) => match &solution.least {
+                Minimum::Found(_, _, _) => Status::Done,
+                Minimum::Impossible(_) => Status::Fails,
+                Minimum::Spent(_) | Minimum::SpentAt(_, _, _) => Status::Open,
+            },
             Err(refusal) => refusal.status(),
         }
     }
@@ -89,33 +93,17 @@ impl<'a> Work for Least<'a> {
 
 /// The line for what searches with this budget found.
 fn least_line(alloc: Global, budget: Budget, least: &Minimum) -> Result<String, AllocError>
-    ensures { IfOk result (λ text. string_bytes text ≡ least_line budget.conflicts least.now) }
+    ensures { IfOk result (λ text. string_bytes text ≡ (least_said budget.conflicts least.now).1) }
 {
     match least {
-        Minimum::Found(schedule, count, _) => fewest_line(alloc, schedule, *count),
+        Minimum::Found(schedule, count, _) => {
+            let moves = schedule.moves.len();
+            format!(in alloc; "schedule {moves} moves, {count} switches\n")
+        }
         Minimum::Impossible(derivation) => impossible_line(alloc, derivation),
         Minimum::Spent(_) => spent_line(alloc, budget.conflicts),
         Minimum::SpentAt(_, count, _) => spent_at_line(alloc, budget.conflicts, *count),
     }
-}
-
-/// Its status.
-fn least_status(least: &Minimum) -> Status
-    ensures { result ≡ least_status least.now }
-{
-    match least {
-        Minimum::Found(_, _, _) => Status::Done,
-        Minimum::Impossible(_) => Status::Fails,
-        Minimum::Spent(_) | Minimum::SpentAt(_, _, _) => Status::Open,
-    }
-}
-
-/// The line for a schedule with the fewest switches.
-fn fewest_line(alloc: Global, schedule: &Schedule, count: u32) -> Result<String, AllocError>
-    ensures { IfOk result (λ text. string_bytes text ≡ fewest_line schedule.now.moves.items count) }
-{
-    let moves = schedule.moves.len();
-    format!(in alloc; "schedule {moves} moves, {count} switches\n")
 }
 
 /// The line for a search for fewer switches that was given up after this many conflicts.

@@ -6,7 +6,7 @@ ghost use Rattle.std.specs.Prelude.{IfSome};
 ghost use Rattle.command_frame.specs.Run.{Runs};
 ghost use Rattle.least_command.specs.Answers.{LeastAnswers};
 ghost use Rattle.least_command.specs.Meanings.{least_of};
-ghost use Rattle.least_command.specs.helpers.Asked.{plain_least};
+ghost use Rattle.least_command.specs.Calls.{plain_least};
 
 mod command;
 mod search;

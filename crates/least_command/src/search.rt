@@ -9,8 +9,9 @@ ghost use Rattle.store_buffers.specs.Buffers.{buffer_of};
 ghost use Rattle.command_inputs.specs.Forms.{IsWhy};
 ghost use Rattle.log_tasks.specs.Refused.{HasNoClauses, IsUnsearched};
 ghost use Rattle.log_tasks.specs.Tasks.{Task};
-ghost use Rattle.least_command.specs.Meanings.{IsFound, IsSolution};
-ghost use Rattle.least_command.specs.helpers.Asked.{plain_least};
+ghost use Rattle.least_command.specs.Meanings.{IsFound};
+ghost use Rattle.least_command.specs.Calls.{plain_least};
+ghost use Rattle.least_command.specs.helpers.Asked.{IsSolution};
 
 use crate::command::Least;
 use crate::solution::Solution;
@@ -52,7 +53,7 @@ fn search(
     model: Model,
     budget: Budget,
 ) -> Result<Solution, Fault>
-    ensures found { IfOk result (IsFound code.now log.now.log model budget.conflicts) }
+    ensures found { IfOk result (IsFound budget.conflicts code.now log.now.log model) }
     ensures within { OnOk result (IsWithin code.now log.now.log) }
     ensures refused { IfErr result (IsWhy (HasNoClauses code.now log.now.log)) }
 {

@@ -85,7 +85,7 @@ child_put code n t x i (Start f) ts here = get_put_apart ts (child n (t.children
 child_put code n t x i Silent ts here = here
 child_put code n t x i r ts here = here
 
-after_own : (code : Code) (ts : ByName Local) (n : Name) (k : ℕ) (r : Request) (v : ℤ) (o : Option Name) (s : Steps code ts n r)
+pub after_own : (code : Code) (ts : ByName Local) (n : Name) (k : ℕ) (r : Request) (v : ℤ) (o : Option Name) (s : Steps code ts n r)
     → fin.get (after_deed code ts (Did n k r v o)) n ≡ Some (after_step s.before s.instr r v)
 after_own code ts n k r v o s =
     ap (λ p. fin.get (option_map_or (λ t. option_map_or (λ i. with_child code n t i r (fin.insert ts n (after_step t i r v))) (instr_of code t) ts) p ts) n) s.here

@@ -15,7 +15,7 @@ use Rattle.command_frame.specs.declared.status.Status.TheVariants as status
 use Rattle.command_frame.proofs.Statuses.{any_status, at_limit, outcome_at, said_alike, status_is}
 use Rattle.command_inputs.specs.Limits.{program_limit}
 use Rattle.command_inputs.specs.Outcomes.{outcome_status, outcome_text}
-use Rattle.command_inputs.specs.Refusals.{program_line}
+use Rattle.command_inputs.specs.Refusals.{refusal_said}
 use Rattle.command_inputs.specs.declared.refusal.Refusal.{Refusal}
 use Rattle.command_inputs.specs.declared.refusal.Refusal.TheVariants.{Program}
 use Rattle.list_command.specs.Answers.{ListAnswers}
@@ -44,7 +44,7 @@ module _ (program : List ℕ) (j k : SinkTells) where
   done (Err _) text comes is said wrote = absurd comes
 
   unread : (x : Result Code Refusal) (text : List ℕ) → IsListed program x → outcome_status (λ _. status.Done) x ≡ status.ProgramRefused
-      → text ≡ outcome_text listing_of x → Wrote j k text → (fault : TextFault) × IsRefusal program fault × Wrote j k (program_line fault)
+      → text ≡ outcome_text listing_of x → Wrote j k text → (fault : TextFault) × IsRefusal program fault × Wrote j k (refusal_said (Program fault)).1
   unread (Ok code) text comes is said wrote = absurd (let bad : status.Done ≡ status.ProgramRefused = is in cc)
   unread (Err (Program fault)) text comes is said wrote = (fault, comes, subst (Wrote j k) said wrote)
   unread (Err _) text comes is said wrote = absurd comes

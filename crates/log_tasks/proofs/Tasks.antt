@@ -1,33 +1,17 @@
 -- A program and a log are searched, or there is one reason why they aren't.
-use Rattle.std.proofs.Common.{◌≡◌, ℕ, List, ap, refl, subst, Option, unwrap_or}
-use Rattle.clap_solve.specs.Solved.{IsImpossible}
-use Rattle.run_log.specs.memory_models.declared.model.Model.{Model}
-use Rattle.command_inputs.proofs.path_log.Logs.{log_or_fault, one_fault, one_log}
+use Rattle.std.proofs.Common.{◌≡◌, ℕ, List, ap, refl}
+pub use Rattle.command_inputs.proofs.Pairs.{at_pair}
+use Rattle.command_inputs.proofs.path_log.Logs.{log_or_fault, one_fault}
 use Rattle.command_inputs.specs.path_log.Texts.{IsOfOther}
-use Rattle.run_log.specs.Logs.{StoredLog}
-use Rattle.clap_system.specs.store_buffers.Buffers.{buffer_of}
-use Rattle.tc_code.specs.Code.{Code}
-use Rattle.tc_code.specs.Run.{Reproduces as ReproducesIn}
-use Rattle.command_inputs.proofs.tc_compile.OnePrograms.{one_code, one_refusal, refused_no_code}
+use Rattle.command_inputs.proofs.tc_compile.OnePrograms.{one_refusal, refused_no_code}
 use Rattle.command_inputs.specs.declared.refusal.LogRefusal.TheVariants.{Form, OtherProgram, Unfit}
 use Rattle.command_inputs.specs.declared.refusal.Refusal.{Refusal}
 use Rattle.command_inputs.specs.declared.refusal.Refusal.TheVariants as refusal
 use Rattle.log_tasks.specs.Refused.{HasNoClauses, IsUnsearched}
-use Rattle.log_tasks.specs.Tasks.{IsPossible, Pair, Task, model_of}
+use Rattle.log_tasks.specs.Tasks.{Pair, Task}
 use Rattle.log_tasks.proofs.Clauses.{one_reason, reason_or_within}
 
 module _ {program log : List ℕ} where
-  -- files are one pair at most: what holds of its code and log holds of any other's
-  pub at_pair : (P : Code → StoredLog → Type 0) (p q : Pair program log) → P p.code p.run → P q.code q.run
-  at_pair P p q h =
-      subst (λ (r : StoredLog). P q.code r) (one_log log p.run q.run p.logs q.logs)
-      (subst (λ c. P c p.run) (one_code program p.code q.code p.programs q.programs) h)
-
-  -- if no moves reproduce a log of its pair, it isn't possible
-  pub not_possible : (asked : Option Model) (p : Pair program log) → IsImpossible (buffer_of (model_of asked p)) p.code p.run.log → IsPossible program log asked → ⊥
-  not_possible asked p none possible = none possible.1
-      (at_pair (λ code (run : StoredLog). ReproducesIn (buffer_of (unwrap_or asked run.log.model)) code run.log possible.1) possible.0 p possible.2)
-
   -- the reasons of a pair
   abbrev OfPair : Pair program log → Refusal → Type 0
   OfPair p (refusal.Program fault) = ⊥

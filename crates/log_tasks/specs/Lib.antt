@@ -4,3 +4,4 @@ pub mod Tasks
 pub mod Texts
 pub mod Lines
 pub mod Refused
+pub mod Asked

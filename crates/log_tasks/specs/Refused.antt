@@ -1,5 +1,5 @@
 -- Why a program and a log aren't searched.
-use Rattle.std.specs.Prelude.{◌≡◌, ℕ, ◌<◌, List, [], ◌∷◌}
+use Rattle.std.specs.Prelude.{◌≡◌, ℕ, ◌<◌, List}
 use Rattle.clap_system.specs.Faults.{IsOver, IsShallow, limit_of}
 use Rattle.clap_system.specs.declared.fault.Which.{Which}
 use Rattle.clap_system.specs.declared.fault.Which.TheVariants as which
@@ -7,19 +7,13 @@ use Rattle.command_inputs.specs.path_log.Texts.{IsOfOther}
 use Rattle.clap_system.specs.path_walk.Fits.{IsFirst}
 use Rattle.run_log.specs.Logs.{Log as RunLog}
 use Rattle.tc_code.specs.Code.{Code}
-use Rattle.command_inputs.specs.command_frame.Inputs.{Wanted, Whole}
 use Rattle.command_inputs.specs.Forms.{IsUnread}
-use Rattle.command_inputs.specs.Limits.{log_limit, program_limit}
 use Rattle.command_inputs.specs.declared.limits.LogPart.{LogPart}
 use Rattle.command_inputs.specs.declared.limits.LogPart.TheVariants as part
 use Rattle.command_inputs.specs.declared.refusal.LogRefusal.TheVariants.{Form, OtherProgram, Unfit}
 use Rattle.command_inputs.specs.declared.refusal.Refusal.{Refusal}
 use Rattle.command_inputs.specs.declared.refusal.Refusal.TheVariants.{Program, Log, LogOver}
 use Rattle.log_tasks.specs.Tasks.{Pair}
-
--- the two files, by their names
-abbrev pub files_of : (program log : List ℕ) → List Wanted
-files_of program log = Whole program_limit program ∷ Whole log_limit log ∷ []
 
 -- the part of a log that may pass a limit
 abbrev pub part_of : Which → LogPart

@@ -4,20 +4,11 @@ use Rattle.clap_solve.specs.Clauses.{model_clauses}
 use Rattle.clap_solve.specs.Solved.{IsWithin}
 use Rattle.refute_check.specs.cnf_core.Clauses.{Formula}
 use Rattle.run_log.specs.memory_models.declared.model.Model.{Model}
-use Rattle.command_inputs.specs.path_log.Texts.{IsLog, IsOfOther}
-use Rattle.run_log.specs.Logs.{StoredLog}
+use Rattle.command_inputs.specs.path_log.Texts.{IsOfOther}
+pub use Rattle.command_inputs.specs.Forms.{Pair}
 use Rattle.clap_system.specs.store_buffers.Buffers.{buffer_of}
 use Rattle.run_log.specs.tc_base.declared.moves.Move.{Move}
-use Rattle.tc_code.specs.Code.{Code}
 use Rattle.tc_code.specs.Run.{Reproduces as ReproducesIn}
-use Rattle.command_inputs.specs.tc_compile.Programs.{IsCodeOf}
-
--- the bytes of two files are a program, which has this code, and a log
-pub record Pair (program log : List ℕ) : Type 0 where
-  pub code : Code
-  pub run : StoredLog
-  pub programs : IsCodeOf program code
-  pub logs : IsLog log run
 
 -- the log isn't of another program, and both are within the limits
 pub record Task (program log : List ℕ) : Type 0 where
@@ -37,8 +28,3 @@ module _ (asked : Option Model) {program log : List ℕ} (pair : Pair program lo
   -- the clauses of the log under it
   abbrev pub clauses_of : Formula
   clauses_of = model_clauses model_of pair.code pair.run.log
-
--- some moves reproduce the log
-abbrev pub IsPossible : (program log : List ℕ) → (asked : Option Model) → Type 0
-IsPossible program log asked =
-    (pair : Pair program log) × (moves : List Move) × Reproduces asked pair moves

@@ -12,16 +12,19 @@ use Rattle.thread_paths.specs.Ends.{MayTake}
 use Rattle.thread_paths.specs.Order.{comes_from}
 use Rattle.thread_paths.specs.Search.{Found, IsFirst}
 use Rattle.thread_paths.specs.Search as path
+use Rattle.thread_paths.specs.Turns.{HasTurn}
+use Rattle.thread_paths.specs.pure_turns.Live.{Liveness}
 use Rattle.thread_paths.specs.declared.aim.Scope.{Scope}
 use Rattle.thread_paths.specs.declared.found.Cut.{Cut}
 use Rattle.log_walk.specs.Order.{are_from, are_to_come}
 use Rattle.log_walk.specs.Rest.{Rest, MakeUp, Takes, leave, aim_of, is_whole}
 use Rattle.log_walk.specs.Given.{IsLeftOut, IsWithin, has_many_outcomes, has_many_steps, is_deep}
 use Rattle.log_walk.specs.Given.IsLeftOut.{Outcomes, Steps, Depth, Threads}
+use Rattle.log_walk.specs.Turns.ShowTurn.{Here, Later}
 use Rattle.log_walk.specs.declared.bounds.Bounds.{Bounds}
 use Rattle.log_walk.specs.declared.bounds.LeftOut.{LeftOut}
 use Rattle.log_walk.specs.declared.rest.Awaited.{Awaited}
-use Rattle.log_walk.specs.helpers.Searches.{Wanted, IsKept, with_cut, scope_of, IsOpen, CanFollow, IsTaken, first_of, others_of, begin_from, behind, AreFirst, AreNone, IsEnd}
+use Rattle.log_walk.specs.helpers.Searches.{Wanted, IsKept, with_cut, scope_of, IsOpen, CanFollow, IsTaken, first_of, others_of, begin_from, behind, AreExcused, AreFirst, AreNone, IsEnd}
 use Rattle.log_walk.proofs.Orders.{after, from_itself, from_all, from_from, from_after, same_path, not_before, later_first, later_last, by_others, rank, rank_below, rank_later, left_of}
 
 -- Truth values.
@@ -139,20 +142,28 @@ pub kept_over : (old out mid out' : LeftOut) (cut : Cut) → IsKept old out → 
 kept_over old out mid out' cut one is two =
     kept_on old out out' one (kept_on out (with_cut out cut) out' (kept_cut out cut) (subst (λ (o : LeftOut). IsKept o out') is two))
 
-module _ (code : Code) (bounds : Bounds) (rest : Rest) where
+module _ (code : Code) (live : Liveness) (bounds : Bounds) (rest : Rest) where
   -- if no threads were found, they are as before
   pub still : (w : Wanted) (room : ℕ) (first before now : List ThreadPath) (out : LeftOut) → before ≡ first → (v : Bool) → v ≡ false
-      → IsEnd code bounds rest w room before now out v → now ≡ first
+      → IsEnd code live bounds rest w room before now out v → now ≡ first
   still w room first before now out same true is_false end = absurd cc
   still w room first before now out same false is_false end = end.same ∙ same
 
   -- the same from equal threads
   pub end_from : (w : Wanted) (room : ℕ) (before mid now : List ThreadPath) (out : LeftOut) (v : Bool) → mid ≡ before
-      → IsEnd code bounds rest w room mid now out v → IsEnd code bounds rest w room before now out v
-  end_from w room before mid now out v same end = subst (λ (ts : List ThreadPath). IsEnd code bounds rest w room ts now out v) same end
+      → IsEnd code live bounds rest w room mid now out v → IsEnd code live bounds rest w room before now out v
+  end_from w room before mid now out v same end = subst (λ (ts : List ThreadPath). IsEnd code live bounds rest w room ts now out v) same end
 
   abbrev Made : List ThreadPath → Type 0
   Made us = MakeUp code bounds.kind rest us
+
+  abbrev Excused : ℕ → LeftOut → List ThreadPath → Type 0
+  Excused room out us = AreExcused code live bounds rest room out us
+
+  -- an excuse stays one
+  kept_excused : (room : ℕ) (a b : LeftOut) (us : List ThreadPath) → IsKept a b → Excused room a us → Excused room b us
+  kept_excused room a b us kept (inl left) = inl (kept_out bounds.most room a b us kept left)
+  kept_excused room a b us kept (inr turn) = inr turn
 
   -- Other threads are wanted.
 
@@ -160,9 +171,9 @@ module _ (code : Code) (bounds : Bounds) (rest : Rest) where
     abbrev Goes : Type 0
     Goes = (us : List ThreadPath) → Made us → w us ≡ true → w' us ≡ true
 
-    first_too : (ts : List ThreadPath) → AreFirst code bounds rest w room out ts → Goes
-        → ((us : List ThreadPath) → Made us → w' us ≡ true → (w us ≡ true) ⊎ ((are_from ts us ≡ true) ⊎ IsLeftOut bounds.most room out us))
-        → AreFirst code bounds rest w' room out ts
+    first_too : (ts : List ThreadPath) → AreFirst code live bounds rest w room out ts → Goes
+        → ((us : List ThreadPath) → Made us → w' us ≡ true → (w us ≡ true) ⊎ ((are_from ts us ≡ true) ⊎ Excused room out us))
+        → AreFirst code live bounds rest w' room out ts
     first_too ts first goes back = record {
       make_up = first.make_up;
       meets = goes ts first.make_up first.meets;
@@ -171,27 +182,27 @@ module _ (code : Code) (bounds : Bounds) (rest : Rest) where
       others = λ us made is. by us made (back us made is);
     }
       where
-        by : (us : List ThreadPath) → Made us → (w us ≡ true) ⊎ ((are_from ts us ≡ true) ⊎ IsLeftOut bounds.most room out us)
-            → (are_from ts us ≡ true) ⊎ IsLeftOut bounds.most room out us
+        by : (us : List ThreadPath) → Made us → (w us ≡ true) ⊎ ((are_from ts us ≡ true) ⊎ Excused room out us)
+            → (are_from ts us ≡ true) ⊎ Excused room out us
         by us made (inl is) = first.others us made is
         by us made (inr is) = is
 
-    none_too : AreNone code bounds rest w room out
-        → ((us : List ThreadPath) → Made us → w' us ≡ true → (w us ≡ true) ⊎ IsLeftOut bounds.most room out us)
-        → AreNone code bounds rest w' room out
+    none_too : AreNone code live bounds rest w room out
+        → ((us : List ThreadPath) → Made us → w' us ≡ true → (w us ≡ true) ⊎ Excused room out us)
+        → AreNone code live bounds rest w' room out
     none_too none back us made is = by (back us made is)
       where
-        by : (w us ≡ true) ⊎ IsLeftOut bounds.most room out us → IsLeftOut bounds.most room out us
+        by : (w us ≡ true) ⊎ Excused room out us → Excused room out us
         by (inl wanted) = none us made wanted
         by (inr left) = left
 
-    pub end_too : (v : Bool) (before now : List ThreadPath) → IsEnd code bounds rest w room before now out v → Goes
-        → ((us : List ThreadPath) → Made us → w' us ≡ true → (w us ≡ true) ⊎ IsLeftOut bounds.most room out us)
-        → IsEnd code bounds rest w' room before now out v
+    pub end_too : (v : Bool) (before now : List ThreadPath) → IsEnd code live bounds rest w room before now out v → Goes
+        → ((us : List ThreadPath) → Made us → w' us ≡ true → (w us ≡ true) ⊎ Excused room out us)
+        → IsEnd code live bounds rest w' room before now out v
     end_too true before now end goes back = record {
       added = end.added;
       is = end.is;
-      first = first_too end.added end.first goes (λ us made is. wider (w us ≡ true) (are_from end.added us ≡ true) (IsLeftOut bounds.most room out us) (back us made is));
+      first = first_too end.added end.first goes (λ us made is. wider (w us ≡ true) (are_from end.added us ≡ true) (Excused room out us) (back us made is));
     }
       where
         wider : (A B C : Type 0) → A ⊎ C → A ⊎ (B ⊎ C)
@@ -223,7 +234,7 @@ module _ (code : Code) (bounds : Bounds) (rest : Rest) where
     none_come (Some ls) is = absurd cc
 
     by_end : (e : Bool) → e ≡ is_whole rest → (n : Bool) → n ≡ is_none last
-        → IsEnd code bounds rest (are_to_come last) room before before out (n && e)
+        → IsEnd code live bounds rest (are_to_come last) room before before out (n && e)
     by_end true ends true none = record {
       added = [];
       is = sym (append-nil before);
@@ -245,7 +256,7 @@ module _ (code : Code) (bounds : Bounds) (rest : Rest) where
     }
 
     pub at_end : (e : Bool) → e ≡ is_whole rest → (n : Bool) → n ≡ is_none last
-        → IsEnd code bounds rest (are_to_come last) room before before out (n && e)
+        → IsEnd code live bounds rest (are_to_come last) room before before out (n && e)
     at_end = by_end
 
   module _ (next : Awaited) (at : slice_get rest.awaited 0 ≡ Some next) where
@@ -267,15 +278,15 @@ module _ (code : Code) (bounds : Bounds) (rest : Rest) where
 
     module _ (room : ℕ) (out : LeftOut) where
       closed_by : (us : List ThreadPath) → Made us → ((room ≡ 0) × (out.threads ≡ true)) ⊎ ((DEPTH < length next.name) × (out.depth ≡ true))
-          → IsLeftOut bounds.most room out us
+          → Excused room out us
       closed_by [] made why = absurd (no_end made.0)
-      closed_by (u ∷ us) made (inl why) = Threads why.1 (omega (arith, why.0))
+      closed_by (u ∷ us) made (inl why) = inl (Threads why.1 (omega (arith, why.0)))
       closed_by (u ∷ us) made (inr why) =
-          Depth why.1 (or_first (is_deep u) (list_any is_deep us)
-          (lt-ltb DEPTH (length u.name) (omega (arith, why.0, ap length (name_is u made.0 made.1)))))
+          inl (Depth why.1 (or_first (is_deep u) (list_any is_deep us)
+          (lt-ltb DEPTH (length u.name) (omega (arith, why.0, ap length (name_is u made.0 made.1))))))
 
       pub closed : (w : Wanted) (before now : List ThreadPath) → now ≡ before → IsOpen next.name room out false
-          → IsEnd code bounds rest w room before now out false
+          → IsEnd code live bounds rest w room before now out false
       closed w before now same why = record { same = same; none = λ us made is. closed_by us made why }
 
     -- Below one path.
@@ -295,13 +306,13 @@ module _ (code : Code) (bounds : Bounds) (rest : Rest) where
 
       -- the thread may not take this path
       never_by : (us : List ThreadPath) (out : LeftOut) → leave code bounds.kind rest.awaited rest p ≡ None → Made us → behind p last us ≡ true
-          → IsLeftOut bounds.most room out us
+          → Excused room out us
       never_by [] out leaves made is = absurd cc
       never_by (u ∷ us) out leaves made is =
           absurd (let there = made.1.leaves in let path = ap (leave code bounds.kind rest.awaited rest) (behind_path u us is) in cc)
 
       pub never : (before : List ThreadPath) (out : LeftOut) → leave code bounds.kind rest.awaited rest p ≡ None
-          → IsEnd code bounds rest (behind p last) room before before out false
+          → IsEnd code live bounds rest (behind p last) room before before out false
       never before out leaves = record { same = refl; none = λ us made is. never_by us out leaves made is }
 
       module _ (later : Rest) (leaves : leave code bounds.kind rest.awaited rest p ≡ Some later) (less : ℕ) (fits : room ≡ less + 1) (out : LeftOut) where
@@ -312,31 +323,37 @@ module _ (code : Code) (bounds : Bounds) (rest : Rest) where
         made_later : (u : ThreadPath) (us : List ThreadPath) → Made (u ∷ us) → behind p last (u ∷ us) ≡ true → MakeUp code bounds.kind later us
         made_later u us made is = subst (λ (r : Rest). MakeUp code bounds.kind r us) (same_later u us made.0 made.1 is) made.2
 
+        -- an excuse of the others is one of all
+        more_excused : (u : ThreadPath) (us : List ThreadPath) → behind p last (u ∷ us) ≡ true
+            → AreExcused code live bounds later less out us → Excused room out (u ∷ us)
+        more_excused u us is (inl left) = inl (more_out bounds.most less room out u us (omega (arith, fits)) left)
+        more_excused u us is (inr turn) = inr (Later (ap (leave code bounds.kind rest.awaited rest) (behind_path u us is) ∙ leaves) turn)
+
         -- no threads are found below the path
-        none_below : (us : List ThreadPath) → AreNone code bounds later (are_to_come last) less out → Made us → behind p last us ≡ true
-            → IsLeftOut bounds.most room out us
+        none_below : (us : List ThreadPath) → AreNone code live bounds later (are_to_come last) less out → Made us → behind p last us ≡ true
+            → Excused room out us
         none_below [] none made is = absurd cc
         none_below (u ∷ us) none made is =
-            more_out bounds.most less room out u us (omega (arith, fits)) (none us (made_later u us made is) (behind_others u us is))
+            more_excused u us is (none us (made_later u us made is) (behind_others u us is))
 
-        pub nothing : (before now : List ThreadPath) → now ≡ before → AreNone code bounds later (are_to_come last) less out
-            → IsEnd code bounds rest (behind p last) room before now out false
+        pub nothing : (before now : List ThreadPath) → now ≡ before → AreNone code live bounds later (are_to_come last) less out
+            → IsEnd code live bounds rest (behind p last) room before now out false
         nothing before now same none = record { same = same; none = λ us made is. none_below us none made is }
 
         -- threads are found below the path
         module _ (may : MayTake code next.function (aim_of bounds.kind rest.ends next.end) p) (within : IsWithin bounds.most thread)
-            (ts : List ThreadPath) (first : AreFirst code bounds later (are_to_come last) less out ts) where
-          others_below : (us : List ThreadPath) → Made us → behind p last us ≡ true → (are_from (thread ∷ ts) us ≡ true) ⊎ IsLeftOut bounds.most room out us
+            (ts : List ThreadPath) (first : AreFirst code live bounds later (are_to_come last) less out ts) where
+          others_below : (us : List ThreadPath) → Made us → behind p last us ≡ true → (are_from (thread ∷ ts) us ≡ true) ⊎ Excused room out us
           others_below [] made is = absurd cc
           others_below (u ∷ us) made is = by (first.others us (made_later u us made is) (behind_others u us is))
             where
-              by : (are_from ts us ≡ true) ⊎ IsLeftOut bounds.most less out us → (are_from (thread ∷ ts) (u ∷ us) ≡ true) ⊎ IsLeftOut bounds.most room out (u ∷ us)
+              by : (are_from ts us ≡ true) ⊎ AreExcused code live bounds later less out us → (are_from (thread ∷ ts) (u ∷ us) ≡ true) ⊎ Excused room out (u ∷ us)
               by (inl from) =
                   let same = behind_path u us is in
                   inl (by_others thread u ts us (ap (comes_from p) same ∙ from_itself p) (ap (λ (q : Path). comes_from q p) same ∙ from_itself p) ∙ from)
-              by (inr left) = inr (more_out bounds.most less room out u us (omega (arith, fits)) left)
+              by (inr left) = inr (more_excused u us is left)
 
-          all_below : AreFirst code bounds rest (behind p last) room out (thread ∷ ts)
+          all_below : AreFirst code live bounds rest (behind p last) room out (thread ∷ ts)
           all_below = record {
             make_up = (later, record { next = next; is_next = at; name = refl; may = may; leaves = leaves }, first.make_up);
             meets = both (comes_from p p && comes_from p p) (are_to_come last ts) (both (comes_from p p) (comes_from p p) (from_itself p) (from_itself p)) first.meets;
@@ -346,15 +363,15 @@ module _ (code : Code) (bounds : Bounds) (rest : Rest) where
           }
 
           pub found_below : (before now : List ThreadPath) → now ≡ (before ++ thread ∷ []) ++ ts
-              → IsEnd code bounds rest (behind p last) room before now out true
+              → IsEnd code live bounds rest (behind p last) room before now out true
           found_below before now is = record { added = thread ∷ ts; is = is ∙ append_assoc before (thread ∷ []) ts; first = all_below }
 
     -- threads are found below the path or not, by the search's answer
     pub below_found : (p : Path) (last : Option (List ThreadPath)) (room less : ℕ) → room ≡ less + 1 → (later : Rest)
         → leave code bounds.kind rest.awaited rest p ≡ Some later → IsTaken code bounds rest next p
         → (out : LeftOut) (before mid now : List ThreadPath) (t : ThreadPath) → mid ≡ before ++ t ∷ [] → t ≡ record { name = next.name; path = p }
-        → (v : Bool) → v ≡ true → IsEnd code bounds later (are_to_come last) less mid now out v
-        → IsEnd code bounds rest (behind p last) room before now out true
+        → (v : Bool) → v ≡ true → IsEnd code live bounds later (are_to_come last) less mid now out v
+        → IsEnd code live bounds rest (behind p last) room before now out true
     below_found p last room less fits later leaves taken out before mid now t pushed is false is_true end = absurd cc
     below_found p last room less fits later leaves taken out before mid now t pushed is true is_true end =
         found_below p last room later leaves less fits out taken.may taken.within end.added end.first before now
@@ -363,13 +380,13 @@ module _ (code : Code) (bounds : Bounds) (rest : Rest) where
     pub below_none : (p : Path) (last : Option (List ThreadPath)) (room less : ℕ) → room ≡ less + 1 → (later : Rest)
         → leave code bounds.kind rest.awaited rest p ≡ Some later
         → (out : LeftOut) (before mid now : List ThreadPath) (t : ThreadPath) → mid ≡ before ++ t ∷ []
-        → (v : Bool) → v ≡ false → IsEnd code bounds later (are_to_come last) less mid now out v
+        → (v : Bool) → v ≡ false → IsEnd code live bounds later (are_to_come last) less mid now out v
         → (off : List ThreadPath) → ((ts : List ThreadPath) (x : ThreadPath) → now ≡ ts ++ x ∷ [] → off ≡ ts) → (out' : LeftOut) → out' ≡ out
-        → IsEnd code bounds rest (behind p last) room before off out' false
+        → IsEnd code live bounds rest (behind p last) room before off out' false
     below_none p last room less fits later leaves out before mid now t pushed true is_false end off taken out' same = absurd cc
     below_none p last room less fits later leaves out before mid now t pushed false is_false end off taken out' same =
         nothing p last room later leaves less fits out' before off (taken before t (end.same ∙ pushed))
-        (subst (λ (o : LeftOut). AreNone code bounds later (are_to_come last) less o) (sym same) end.none)
+        (subst (λ (o : LeftOut). AreNone code live bounds later (are_to_come last) less o) (sym same) end.none)
 
     -- A thread may take the path that was given last or found.
 
@@ -389,12 +406,12 @@ module _ (code : Code) (bounds : Bounds) (rest : Rest) where
           };
         }
 
-    pub taken_found : (start : Path) (found : Found) (scope : Scope) → scope ≡ scope_of bounds rest next → IsFirst code scope start found
+    pub taken_found : (start : Path) (found : Found) (scope : Scope) → scope ≡ scope_of bounds rest next → IsFirst code live scope start found
         → length next.name ≤ DEPTH → IfSome found.path (IsTaken code bounds rest next)
     taken_found start found scope same first depth = by found.path first'.takes first'.few
       where
-        first' : IsFirst code (scope_of bounds rest next) start found
-        first' = subst (λ (x : Scope). IsFirst code x start found) same first
+        first' : IsFirst code live (scope_of bounds rest next) start found
+        first' = subst (λ (x : Scope). IsFirst code live x start found) same first
 
         by : (x : Option Path) → IfSome x (MayTake code next.function (aim_of bounds.kind rest.ends next.end))
             → IfSome x (λ p. (length p.outcomes ≤ bounds.most) × (p.steps ≤ STEPS)) → IfSome x (IsTaken code bounds rest next)
@@ -434,20 +451,20 @@ module _ (code : Code) (bounds : Bounds) (rest : Rest) where
 
       -- the first threads were found below the path itself
       back_found : (ts : List ThreadPath) → behind g.path (Some gs) ts ≡ true → (us : List ThreadPath) → Made us → are_to_come last us ≡ true
-          → (behind g.path (Some gs) us ≡ true) ⊎ ((are_from ts us ≡ true) ⊎ IsLeftOut bounds.most room out us)
+          → (behind g.path (Some gs) us ≡ true) ⊎ ((are_from ts us ≡ true) ⊎ Excused room out us)
       back_found [] at_ us made is = absurd cc
       back_found (t ∷ ts) at_ [] made is = absurd (no_end made.0)
       back_found (t ∷ ts) at_ (u ∷ us) made is = by (split_last u us is)
         where
           by : (behind g.path (Some gs) (u ∷ us) ≡ true) ⊎ (comes_from (after g.path) u.path ≡ true)
-              → (behind g.path (Some gs) (u ∷ us) ≡ true) ⊎ ((are_from (t ∷ ts) (u ∷ us) ≡ true) ⊎ IsLeftOut bounds.most room out (u ∷ us))
+              → (behind g.path (Some gs) (u ∷ us) ≡ true) ⊎ ((are_from (t ∷ ts) (u ∷ us) ≡ true) ⊎ Excused room out (u ∷ us))
           by (inl same) = inl same
           by (inr later) =
               inr (inl (later_first t u ts us
               (ap (λ (q : Path). comes_from (after q) u.path) (behind_path g.path (Some gs) room t ts at_) ∙ later)))
 
-      pub found_same : (before now : List ThreadPath) → IsEnd code bounds rest (behind g.path (Some gs)) room before now out true
-          → IsEnd code bounds rest (are_to_come last) room before now out true
+      pub found_same : (before now : List ThreadPath) → IsEnd code live bounds rest (behind g.path (Some gs)) room before now out true
+          → IsEnd code live bounds rest (are_to_come last) room before now out true
       found_same before now end = record {
         added = end.added;
         is = end.is;
@@ -456,65 +473,65 @@ module _ (code : Code) (bounds : Bounds) (rest : Rest) where
       }
 
       -- the first threads come after the path
-      back_later : (out' : LeftOut) → AreNone code bounds rest (behind g.path (Some gs)) room out' → IsKept out' out
+      back_later : (out' : LeftOut) → AreNone code live bounds rest (behind g.path (Some gs)) room out' → IsKept out' out
           → (us : List ThreadPath) → Made us → are_to_come last us ≡ true
-          → (begin_from (after g.path) us ≡ true) ⊎ IsLeftOut bounds.most room out us
+          → (begin_from (after g.path) us ≡ true) ⊎ Excused room out us
       back_later out' none kept [] made is = absurd (no_end made.0)
       back_later out' none kept (u ∷ us) made is = by (split_last u us is)
         where
           by : (behind g.path (Some gs) (u ∷ us) ≡ true) ⊎ (comes_from (after g.path) u.path ≡ true)
-              → (begin_from (after g.path) (u ∷ us) ≡ true) ⊎ IsLeftOut bounds.most room out (u ∷ us)
-          by (inl same) = inr (kept_out bounds.most room out' out (u ∷ us) kept (none (u ∷ us) made same))
+              → (begin_from (after g.path) (u ∷ us) ≡ true) ⊎ Excused room out (u ∷ us)
+          by (inl same) = inr (kept_excused room out' out (u ∷ us) kept (none (u ∷ us) made same))
           by (inr later) = inl later
 
-      pub found_later : (out' : LeftOut) → AreNone code bounds rest (behind g.path (Some gs)) room out' → IsKept out' out
-          → (v : Bool) (before now : List ThreadPath) → IsEnd code bounds rest (begin_from (after g.path)) room before now out v
-          → IsEnd code bounds rest (are_to_come last) room before now out v
+      pub found_later : (out' : LeftOut) → AreNone code live bounds rest (behind g.path (Some gs)) room out' → IsKept out' out
+          → (v : Bool) (before now : List ThreadPath) → IsEnd code live bounds rest (begin_from (after g.path)) room before now out v
+          → IsEnd code live bounds rest (are_to_come last) room before now out v
       found_later out' none kept v before now end =
           end_too (begin_from (after g.path)) (are_to_come last) room out v before now end come_later (back_later out' none kept)
 
     -- the same for the threads given last
     all_same : (l : Option (List ThreadPath)) (g : ThreadPath) (p : Path) (room : ℕ) (out : LeftOut) (before now : List ThreadPath)
-        → Some g ≡ first_of l → p ≡ g.path → IsEnd code bounds rest (behind p (others_of l)) room before now out true
-        → IsEnd code bounds rest (are_to_come l) room before now out true
+        → Some g ≡ first_of l → p ≡ g.path → IsEnd code live bounds rest (behind p (others_of l)) room before now out true
+        → IsEnd code live bounds rest (are_to_come l) room before now out true
     all_same None g p room out before now is path end = absurd cc
     all_same (Some []) g p room out before now is path end = absurd cc
     all_same (Some (h ∷ gs)) g p room out before now is path end =
         found_same h gs room out before now
-        (subst (λ (q : Path). IsEnd code bounds rest (behind q (Some gs)) room before now out true)
+        (subst (λ (q : Path). IsEnd code live bounds rest (behind q (Some gs)) room before now out true)
         (path ∙ ap (λ (t : ThreadPath). t.path) (inj g h is)) end)
 
     pub same_found : (l : Option (List ThreadPath)) (g : ThreadPath) (p : Path) (room : ℕ) (out : LeftOut) (before now : List ThreadPath)
         → Some g ≡ first_of l → p ≡ g.path → (o : Option (List ThreadPath)) → o ≡ others_of l
-        → (v : Bool) → v ≡ true → IsEnd code bounds rest (behind p o) room before now out v
-        → IsEnd code bounds rest (are_to_come l) room before now out true
+        → (v : Bool) → v ≡ true → IsEnd code live bounds rest (behind p o) room before now out v
+        → IsEnd code live bounds rest (are_to_come l) room before now out true
     same_found l g p room out before now is path o others v is_true end =
         all_same l g p room out before now is path
-        (subst (λ z. IsEnd code bounds rest (behind p z) room before now out true) others
-        (subst (λ z. IsEnd code bounds rest (behind p o) room before now out z) is_true end))
+        (subst (λ z. IsEnd code live bounds rest (behind p z) room before now out true) others
+        (subst (λ z. IsEnd code live bounds rest (behind p o) room before now out z) is_true end))
 
     all_later : (l : Option (List ThreadPath)) (g : ThreadPath) (p : Path) (room : ℕ) (out out' : LeftOut) (v : Bool) (before mid now : List ThreadPath)
-        → Some g ≡ first_of l → p ≡ g.path → IsEnd code bounds rest (behind p (others_of l)) room before mid out' false → IsKept out' out
-        → IsEnd code bounds rest (begin_from (after p)) room before now out v
-        → IsEnd code bounds rest (are_to_come l) room before now out v
+        → Some g ≡ first_of l → p ≡ g.path → IsEnd code live bounds rest (behind p (others_of l)) room before mid out' false → IsKept out' out
+        → IsEnd code live bounds rest (begin_from (after p)) room before now out v
+        → IsEnd code live bounds rest (are_to_come l) room before now out v
     all_later None g p room out out' v before mid now is path none kept end = absurd cc
     all_later (Some []) g p room out out' v before mid now is path none kept end = absurd cc
     all_later (Some (h ∷ gs)) g p room out out' v before mid now is path none kept end =
         let same : p ≡ h.path = path ∙ ap (λ (t : ThreadPath). t.path) (inj g h is) in
         found_later h gs room out out'
-        (subst (λ (q : Path). AreNone code bounds rest (behind q (Some gs)) room out') same none.none) kept v before now
-        (subst (λ (q : Path). IsEnd code bounds rest (begin_from (after q)) room before now out v) same end)
+        (subst (λ (q : Path). AreNone code live bounds rest (behind q (Some gs)) room out') same none.none) kept v before now
+        (subst (λ (q : Path). IsEnd code live bounds rest (begin_from (after q)) room before now out v) same end)
 
     pub later_found : (l : Option (List ThreadPath)) (g : ThreadPath) (p : Path) (room : ℕ) (out out' : LeftOut) (v : Bool) (before mid now : List ThreadPath)
         → Some g ≡ first_of l → p ≡ g.path → (o : Option (List ThreadPath)) → o ≡ others_of l
-        → (below : Bool) → below ≡ false → IsEnd code bounds rest (behind p o) room before mid out' below → IsKept out' out
-        → IsEnd code bounds rest (begin_from (after p)) room mid now out v
-        → IsEnd code bounds rest (are_to_come l) room before now out v
+        → (below : Bool) → below ≡ false → IsEnd code live bounds rest (behind p o) room before mid out' below → IsKept out' out
+        → IsEnd code live bounds rest (begin_from (after p)) room mid now out v
+        → IsEnd code live bounds rest (are_to_come l) room before now out v
     later_found l g p room out out' v before mid now is path o others true is_false none kept end = absurd cc
     later_found l g p room out out' v before mid now is path o others false is_false none kept end =
         all_later l g p room out out' v before mid now is path
-        (subst (λ z. IsEnd code bounds rest (behind p z) room before mid out' false) others none) kept
-        (subst (λ z. IsEnd code bounds rest (begin_from (after p)) room z now out v) none.same end)
+        (subst (λ z. IsEnd code live bounds rest (behind p z) room before mid out' false) others none) kept
+        (subst (λ z. IsEnd code live bounds rest (begin_from (after p)) room z now out v) none.same end)
 
     -- From the first path on.
 
@@ -525,12 +542,12 @@ module _ (code : Code) (bounds : Bounds) (rest : Rest) where
     come_first (Some (h ∷ gs)) is us made from = absurd cc
 
     all_first : (l : Option (List ThreadPath)) (room : ℕ) (out : LeftOut) (us : List ThreadPath) → Made us → are_to_come l us ≡ true
-        → (begin_from no_path us ≡ true) ⊎ IsLeftOut bounds.most room out us
+        → (begin_from no_path us ≡ true) ⊎ Excused room out us
     all_first l room out [] made is = absurd (no_end made.0)
     all_first l room out (u ∷ us) made is = inl (from_all u.path.outcomes u.path.steps)
 
     pub first_found : (l : Option (List ThreadPath)) (room : ℕ) (out : LeftOut) (v : Bool) (before now : List ThreadPath) → None ≡ first_of l
-        → IsEnd code bounds rest (begin_from no_path) room before now out v → IsEnd code bounds rest (are_to_come l) room before now out v
+        → IsEnd code live bounds rest (begin_from no_path) room before now out v → IsEnd code live bounds rest (are_to_come l) room before now out v
     first_found l room out v before now is end =
         end_too (begin_from no_path) (are_to_come l) room out v before now end (come_first l is) (all_first l room out)
 
@@ -540,52 +557,54 @@ module _ (code : Code) (bounds : Bounds) (rest : Rest) where
       -- the position of the search
       pub record IsAt (found : Found) (out : LeftOut) : Type 0 where
         pub from : Path
-        pub first : IsFirst code (scope_of bounds rest next) from found
+        pub first : IsFirst code live (scope_of bounds rest next) from found
         pub back : (q : Path) → comes_from from q ≡ true → comes_from start q ≡ true
-        pub others : (us : List ThreadPath) → Made us → begin_from start us ≡ true → (begin_from from us ≡ true) ⊎ IsLeftOut bounds.most room out us
+        pub others : (us : List ThreadPath) → Made us → begin_from start us ≡ true → (begin_from from us ≡ true) ⊎ Excused room out us
 
-      pub at_start : (found : Found) (out : LeftOut) → IsFirst code (scope_of bounds rest next) start found → IsAt found out
+      pub at_start : (found : Found) (out : LeftOut) → IsFirst code live (scope_of bounds rest next) start found → IsAt found out
       at_start found out first = record { from = start; first = first; back = λ q is. is; others = λ us made is. inl is }
 
       module _ (found : Found) (out : LeftOut) (here : IsAt found out) where
         -- a later path of a thread comes after the one found, or is left out
         left_by : (u : ThreadPath) (us : List ThreadPath) → Made (u ∷ us) → (x : Option Path) → found.path ≡ x → comes_from here.from u.path ≡ true
-            → path.IsNotAfter x u.path ⊎ IsLeftOut bounds.most room (with_cut out found.cut) (u ∷ us)
+            → path.IsNotAfter x u.path ⊎ Excused room (with_cut out found.cut) (u ∷ us)
         left_by u us made x is from = by (here.first.others u.path (may_is u made.0 made.1) from)
           where
-            by : path.IsNotAfter found.path u.path ⊎ path.IsLeftOut (scope_of bounds rest next) found.cut u.path
-                → path.IsNotAfter x u.path ⊎ IsLeftOut bounds.most room (with_cut out found.cut) (u ∷ us)
+            by : path.IsNotAfter found.path u.path
+                ⊎ (path.IsLeftOut (scope_of bounds rest next) found.cut u.path ⊎ HasTurn code live next.function u.path)
+                → path.IsNotAfter x u.path ⊎ Excused room (with_cut out found.cut) (u ∷ us)
             by (inl after_) = inl (subst (λ (y : Option Path). path.IsNotAfter y u.path) is after_)
-            by (inr left) = inr (path_out bounds.most room out found.cut u us left)
+            by (inr (inl left)) = inr (inl (path_out bounds.most room out found.cut u us left))
+            by (inr (inr turn)) = inr (inr (Here next at turn))
 
         left_on : (us : List ThreadPath) → Made us → (x : Option Path) → found.path ≡ x → begin_from start us ≡ true
-            → (IfSome x (λ p. begin_from p us ≡ true) × (x ≡ None → ⊥)) ⊎ IsLeftOut bounds.most room (with_cut out found.cut) us
+            → (IfSome x (λ p. begin_from p us ≡ true) × (x ≡ None → ⊥)) ⊎ Excused room (with_cut out found.cut) us
         left_on [] made x is from = absurd cc
         left_on (u ∷ us) made x is from = by (here.others (u ∷ us) made from)
           where
-            at_last : (y : Option Path) → path.IsNotAfter y u.path ⊎ IsLeftOut bounds.most room (with_cut out found.cut) (u ∷ us)
-                → (IfSome y (λ p. begin_from p (u ∷ us) ≡ true) × (y ≡ None → ⊥)) ⊎ IsLeftOut bounds.most room (with_cut out found.cut) (u ∷ us)
+            at_last : (y : Option Path) → path.IsNotAfter y u.path ⊎ Excused room (with_cut out found.cut) (u ∷ us)
+                → (IfSome y (λ p. begin_from p (u ∷ us) ≡ true) × (y ≡ None → ⊥)) ⊎ Excused room (with_cut out found.cut) (u ∷ us)
             at_last None (inl after_) = absurd after_
             at_last (Some p) (inl after_) = inl (after_, λ none. absurd cc)
             at_last y (inr left) = inr left
 
-            by : (begin_from here.from (u ∷ us) ≡ true) ⊎ IsLeftOut bounds.most room out (u ∷ us)
-                → (IfSome x (λ p. begin_from p (u ∷ us) ≡ true) × (x ≡ None → ⊥)) ⊎ IsLeftOut bounds.most room (with_cut out found.cut) (u ∷ us)
+            by : (begin_from here.from (u ∷ us) ≡ true) ⊎ Excused room out (u ∷ us)
+                → (IfSome x (λ p. begin_from p (u ∷ us) ≡ true) × (x ≡ None → ⊥)) ⊎ Excused room (with_cut out found.cut) (u ∷ us)
             by (inl at_) = at_last x (left_by u us made x is at_)
-            by (inr left) = inr (kept_out bounds.most room out (with_cut out found.cut) (u ∷ us) (kept_cut out found.cut) left)
+            by (inr left) = inr (kept_excused room out (with_cut out found.cut) (u ∷ us) (kept_cut out found.cut) left)
 
         -- no path was found
         pub no_more : found.path ≡ None → (before now : List ThreadPath) → now ≡ before → (out' : LeftOut) → out' ≡ with_cut out found.cut
-            → IsEnd code bounds rest (begin_from start) room before now out' false
+            → IsEnd code live bounds rest (begin_from start) room before now out' false
         no_more none before now same out' told = record {
           same = same;
-          none = λ us made from. subst (λ (o : LeftOut). IsLeftOut bounds.most room o us) (sym told)
+          none = λ us made from. subst (λ (o : LeftOut). Excused room o us) (sym told)
               (by us found.path none (left_on us made found.path refl from));
         }
           where
             by : (us : List ThreadPath) (x : Option Path) → x ≡ None
-                → (IfSome x (λ p. begin_from p us ≡ true) × (x ≡ None → ⊥)) ⊎ IsLeftOut bounds.most room (with_cut out found.cut) us
-                → IsLeftOut bounds.most room (with_cut out found.cut) us
+                → (IfSome x (λ p. begin_from p us ≡ true) × (x ≡ None → ⊥)) ⊎ Excused room (with_cut out found.cut) us
+                → Excused room (with_cut out found.cut) us
             by us x is (inl one) = absurd (one.1 is)
             by us x is (inr left) = left
 
@@ -606,40 +625,40 @@ module _ (code : Code) (bounds : Bounds) (rest : Rest) where
               by false isnt = inr (not_before u.path.outcomes u.path.steps p.outcomes p.steps isnt)
 
           parts : (us : List ThreadPath) → Made us → begin_from start us ≡ true
-              → (behind p None us ≡ true) ⊎ ((begin_from (after p) us ≡ true) ⊎ IsLeftOut bounds.most room out' us)
+              → (behind p None us ≡ true) ⊎ ((begin_from (after p) us ≡ true) ⊎ Excused room out' us)
           parts [] made from = absurd cc
           parts (u ∷ us) made from = by (left_on (u ∷ us) made (Some p) is from)
             where
               onto : (behind p None (u ∷ us) ≡ true) ⊎ (comes_from (after p) u.path ≡ true)
-                  → (behind p None (u ∷ us) ≡ true) ⊎ ((begin_from (after p) (u ∷ us) ≡ true) ⊎ IsLeftOut bounds.most room out' (u ∷ us))
+                  → (behind p None (u ∷ us) ≡ true) ⊎ ((begin_from (after p) (u ∷ us) ≡ true) ⊎ Excused room out' (u ∷ us))
               onto (inl same) = inl same
               onto (inr later) = inr (inl later)
 
-              by : ((begin_from p (u ∷ us) ≡ true) × (Some p ≡ None → ⊥)) ⊎ IsLeftOut bounds.most room (with_cut out found.cut) (u ∷ us)
-                  → (behind p None (u ∷ us) ≡ true) ⊎ ((begin_from (after p) (u ∷ us) ≡ true) ⊎ IsLeftOut bounds.most room out' (u ∷ us))
+              by : ((begin_from p (u ∷ us) ≡ true) × (Some p ≡ None → ⊥)) ⊎ Excused room (with_cut out found.cut) (u ∷ us)
+                  → (behind p None (u ∷ us) ≡ true) ⊎ ((begin_from (after p) (u ∷ us) ≡ true) ⊎ Excused room out' (u ∷ us))
               by (inl at_) = onto (splits u us at_.0)
-              by (inr left) = inr (inr (kept_out bounds.most room (with_cut out found.cut) out' (u ∷ us) kept left))
+              by (inr left) = inr (inr (kept_excused room (with_cut out found.cut) out' (u ∷ us) kept left))
 
           goes_start : (us : List ThreadPath) → Made us → behind p None us ≡ true → begin_from start us ≡ true
           goes_start [] made at_ = absurd cc
           goes_start (u ∷ us) made at_ = ap (comes_from start) (behind_path p None room u us at_) ∙ within_start
 
           back_start : (ts : List ThreadPath) → behind p None ts ≡ true → (us : List ThreadPath) → Made us → begin_from start us ≡ true
-              → (behind p None us ≡ true) ⊎ ((are_from ts us ≡ true) ⊎ IsLeftOut bounds.most room out' us)
+              → (behind p None us ≡ true) ⊎ ((are_from ts us ≡ true) ⊎ Excused room out' us)
           back_start [] at_ us made from = absurd cc
           back_start (t ∷ ts) at_ [] made from = absurd cc
           back_start (t ∷ ts) at_ (u ∷ us) made from = by (parts (u ∷ us) made from)
             where
-              by : (behind p None (u ∷ us) ≡ true) ⊎ ((begin_from (after p) (u ∷ us) ≡ true) ⊎ IsLeftOut bounds.most room out' (u ∷ us))
-                  → (behind p None (u ∷ us) ≡ true) ⊎ ((are_from (t ∷ ts) (u ∷ us) ≡ true) ⊎ IsLeftOut bounds.most room out' (u ∷ us))
+              by : (behind p None (u ∷ us) ≡ true) ⊎ ((begin_from (after p) (u ∷ us) ≡ true) ⊎ Excused room out' (u ∷ us))
+                  → (behind p None (u ∷ us) ≡ true) ⊎ ((are_from (t ∷ ts) (u ∷ us) ≡ true) ⊎ Excused room out' (u ∷ us))
               by (inl same) = inl same
               by (inr (inl later)) =
                   inr (inl (later_first t u ts us (ap (λ (q : Path). comes_from (after q) u.path) (behind_path p None room t ts at_) ∙ later)))
               by (inr (inr left)) = inr (inr left)
 
           pub found_here : (first before now : List ThreadPath) → before ≡ first → (v : Bool) → v ≡ true
-              → IsEnd code bounds rest (behind p None) room before now out' v
-              → IsEnd code bounds rest (begin_from start) room first now out' true
+              → IsEnd code live bounds rest (behind p None) room before now out' v
+              → IsEnd code live bounds rest (begin_from start) room first now out' true
           found_here first before now same false is_true end = absurd cc
           found_here first before now same true is_true end = record {
             added = end.added;
@@ -647,16 +666,16 @@ module _ (code : Code) (bounds : Bounds) (rest : Rest) where
             first = first_too (behind p None) (begin_from start) room out' end.added end.first goes_start (back_start end.added end.first.meets);
           }
 
-          others_on : AreNone code bounds rest (behind p None) room out' → (us : List ThreadPath) → Made us → begin_from start us ≡ true
-              → (begin_from (after p) us ≡ true) ⊎ IsLeftOut bounds.most room out' us
+          others_on : AreNone code live bounds rest (behind p None) room out' → (us : List ThreadPath) → Made us → begin_from start us ≡ true
+              → (begin_from (after p) us ≡ true) ⊎ Excused room out' us
           others_on none us made from = by (parts us made from)
             where
-              by : (behind p None us ≡ true) ⊎ ((begin_from (after p) us ≡ true) ⊎ IsLeftOut bounds.most room out' us)
-                  → (begin_from (after p) us ≡ true) ⊎ IsLeftOut bounds.most room out' us
+              by : (behind p None us ≡ true) ⊎ ((begin_from (after p) us ≡ true) ⊎ Excused room out' us)
+                  → (begin_from (after p) us ≡ true) ⊎ Excused room out' us
               by (inl same) = inr (none us made same)
               by (inr more) = more
 
-          next_at : AreNone code bounds rest (behind p None) room out' → (found' : Found) → IsFirst code (scope_of bounds rest next) (after p) found'
+          next_at : AreNone code live bounds rest (behind p None) room out' → (found' : Found) → IsFirst code live (scope_of bounds rest next) (after p) found'
               → IsAt found' out'
           next_at none found' first = record {
             from = after p;
@@ -665,11 +684,11 @@ module _ (code : Code) (bounds : Bounds) (rest : Rest) where
             others = others_on none;
           }
 
-          pub go_on : (before now : List ThreadPath) (v : Bool) → v ≡ false → IsEnd code bounds rest (behind p None) room before now out' v
-              → (found' : Found) (scope : Scope) → scope ≡ scope_of bounds rest next → IsFirst code scope (after p) found' → IsAt found' out'
+          pub go_on : (before now : List ThreadPath) (v : Bool) → v ≡ false → IsEnd code live bounds rest (behind p None) room before now out' v
+              → (found' : Found) (scope : Scope) → scope ≡ scope_of bounds rest next → IsFirst code live scope (after p) found' → IsAt found' out'
           go_on before now true is_false end found' scope same first = absurd cc
           go_on before now false is_false end found' scope same first =
-              next_at end.none found' (subst (λ (x : Scope). IsFirst code x (after p) found') same first)
+              next_at end.none found' (subst (λ (x : Scope). IsFirst code live x (after p) found') same first)
 
     -- Fewer paths are left.
 
@@ -683,7 +702,7 @@ module _ (code : Code) (bounds : Bounds) (rest : Rest) where
         by (inr same) = let top = rank_below n q.outcomes in omega (arith, same.0, same.1, top, ps, qs)
 
     pub fewer : (x : Option Path) (p : Path) → x ≡ Some p → IsTaken code bounds rest next p → (scope : Scope) → scope ≡ scope_of bounds rest next
-        → (found : Found) → IsFirst code scope (after p) found → IfSome found.path (IsTaken code bounds rest next)
+        → (found : Found) → IsFirst code live scope (after p) found → IfSome found.path (IsTaken code bounds rest next)
         → left_of bounds.most found.path < left_of bounds.most x
     fewer x p is taken scope same found first next_taken =
         subst (λ (y : Option Path). left_of bounds.most found.path < left_of bounds.most y) (sym is) (by found.path first.within next_taken)

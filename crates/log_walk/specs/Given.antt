@@ -4,8 +4,10 @@ use Rattle.std.specs.List.{All, list_any}
 use Rattle.tc_base.specs.Paths.{ThreadPath}
 use Rattle.tc_limits.specs.declared.limits.TheConstants.{DEPTH, STEPS, THREADS}
 use Rattle.tc_code.specs.Code.{Code}
+use Rattle.thread_paths.specs.pure_turns.Live.{Liveness}
 use Rattle.log_walk.specs.Order.{are_from, are_to_come}
 use Rattle.log_walk.specs.Rest.{all, MakeUp}
+use Rattle.log_walk.specs.Turns.{ShowTurn}
 use Rattle.log_walk.specs.declared.bounds.Bounds.{Bounds}
 use Rattle.log_walk.specs.declared.bounds.LeftOut.{LeftOut}
 
@@ -49,11 +51,14 @@ abbrev pub AreNotAfter : Option (List ThreadPath) → List ThreadPath → Type 0
 AreNotAfter None us = ⊥
 AreNotAfter (Some ts) us = are_from ts us ≡ true
 
--- the search found the first threads to come that make up a log, apart from those left out
-pub record IsFirst (code : Code) (bounds : Bounds) (last : Option (List ThreadPath))
-    (given : Given) : Type 0 where
+-- the search found the first threads to come that make up a log, apart from those left out and some
+-- with a pure turn
+pub record IsFirst (code : Code) (live : Liveness) (bounds : Bounds)
+    (last : Option (List ThreadPath)) (given : Given) : Type 0 where
   pub is_one : IfSome given.threads (IsOne code bounds)
   pub to_come : IfSome given.threads (λ ts. are_to_come last ts ≡ true)
   pub others : (us : List ThreadPath) → MakeUp code bounds.kind (all code bounds.kind) us
       → are_to_come last us ≡ true
-      → AreNotAfter given.threads us ⊎ IsLeftOut bounds.most THREADS given.out us
+      → AreNotAfter given.threads us
+      ⊎ (IsLeftOut bounds.most THREADS given.out us
+      ⊎ ShowTurn code live bounds.kind (all code bounds.kind) us)

@@ -4,7 +4,8 @@
 //! child's path may end: a joined child exits, and if the create is the last step of its creator,
 //! the child's last step is one that another thread may use. Only the paths are kept from one log
 //! to the next: the next log has the next path of the last thread that has one, and the first path
-//! of each thread after it.
+//! of each thread after it. Logs are left out in which some path has a pure turn: a round of a loop
+//! that changes nothing.
 #![tactic(auto)]
 
 mod bounds;
@@ -13,4 +14,5 @@ mod told;
 mod walk;
 
 pub use bounds::{Bounds, Kind, LeftOut};
+pub use thread_paths::Program;
 pub use walk::{Given, first_threads, next_threads};

@@ -2,6 +2,7 @@
 ghost use Rattle.std.specs.Prelude.{◌≡◌, ◌≤◌, List, [], ◌∷◌, ◌++◌, None, Some, IfOk, IfSome, is_none, option_map, slice_get};
 ghost use Rattle.tc_base.specs.Paths.{Path as PlainPath, ThreadPath as PlainThread};
 ghost use Rattle.thread_paths.specs.Search.{IsFirst as IsFirstPath};
+ghost use Rattle.slot_liveness.specs.Tables.{liveness};
 ghost use Rattle.log_walk.specs.Order.{are_to_come};
 ghost use Rattle.log_walk.specs.Given.{IsFirst, IsOne};
 ghost use Rattle.log_walk.specs.Rest.{Rest as PlainRest, all, leave};
@@ -12,9 +13,8 @@ use crate::rest::{Awaited, Rest};
 use run_log::ThreadPath;
 use std::alloc::{AllocError, Global};
 use std::marker::Model;
-use tc_code::Code;
 use tc_limits::limits::{DEPTH, THREADS};
-use thread_paths::{Cut, Found, Path, Scope, first_path, next_path};
+use thread_paths::{Cut, Found, Path, Program, Scope, first_path, next_path};
 
 /// The threads of a log, if one was found, and what the search left out before it.
 #[derive(Debug, Drop)]
@@ -141,15 +141,15 @@ impl Walk {
     fn search(
         &mut self,
         alloc: Global,
-        code: &Code,
+        program: Program<'_>,
         bounds: Bounds,
         rest: &Rest,
         last: Option<&[ThreadPath]>,
         room: usize,
     ) -> Result<bool, AllocError>
-        requires last { CanFollow code.now bounds rest.now (option_map (λ r. r.now) last) }
+        requires last { CanFollow program.code.now bounds rest.now (option_map (λ r. r.now) last) }
         ensures kept { IfOk result (λ _. IsKept self.old.out self.new.out) }
-        ensures end { IfOk result (IsEnd code.now bounds rest.now (are_to_come (option_map (λ r. r.now) last.entry)) room
+        ensures end { IfOk result (IsEnd program.entry.code.now (liveness program.entry.live.now) bounds rest.now (are_to_come (option_map (λ r. r.now) last.entry)) room
             self.old.threads.items self.new.threads.items self.new.out) }
     {
         let Some(next) = rest.next() else {
@@ -160,13 +160,13 @@ impl Walk {
         }
         let scope = scope_of(bounds, rest, next);
         let Some(thread) = first_of(last) else {
-            let found = first_path(alloc, code, scope)?;
-            return self.first_from(alloc, code, bounds, rest, next, found, room);
+            let found = first_path(alloc, program, scope)?;
+            return self.first_from(alloc, program, bounds, rest, next, found, room);
         };
         let path = path_of(alloc, thread)?;
         if self.below(
             alloc,
-            code,
+            program,
             bounds,
             rest,
             next,
@@ -176,8 +176,8 @@ impl Walk {
         )? {
             return Ok(true);
         }
-        let found = next_path(alloc, code, scope, path)?;
-        self.first_from(alloc, code, bounds, rest, next, found, room)
+        let found = next_path(alloc, program, scope, path)?;
+        self.first_from(alloc, program, bounds, rest, next, found, room)
     }
 
     /// The same for threads that begin with this path or a later one.
@@ -185,7 +185,7 @@ impl Walk {
     fn first_from(
         &mut self,
         alloc: Global,
-        code: &Code,
+        program: Program<'_>,
         bounds: Bounds,
         rest: &Rest,
         next: &Awaited,
@@ -194,10 +194,10 @@ impl Walk {
     ) -> Result<bool, AllocError>
         requires next { slice_get rest.now.awaited 0 ≡ Some next.now }
         requires room { 1 ≤ room }
-        requires taken { IfSome found.path (IsTaken code.now bounds rest.now next.now) }
+        requires taken { IfSome found.path (IsTaken program.code.now bounds rest.now next.now) }
         ensures kept { IfOk result (λ _. IsKept self.old.out self.new.out) }
-        ensures end { (start : PlainPath) → IsFirstPath code.now (scope_of bounds rest.now next.now) start found
-            → IfOk result (IsEnd code.now bounds rest.now (begin_from start) room self.old.threads.items self.new.threads.items self.new.out) }
+        ensures end { (start : PlainPath) → IsFirstPath program.entry.code.now (liveness program.entry.live.now) (scope_of bounds rest.now next.now) start found
+            → IfOk result (IsEnd program.entry.code.now (liveness program.entry.live.now) bounds rest.now (begin_from start) room self.old.threads.items self.new.threads.items self.new.out) }
     {
         let scope = scope_of(bounds, rest, next);
         let mut found = found;
@@ -207,10 +207,10 @@ impl Walk {
             let Some(path) = path else {
                 return Ok(false);
             };
-            if self.below(alloc, code, bounds, rest, next, &path, None, room)? {
+            if self.below(alloc, program, bounds, rest, next, &path, None, room)? {
                 return Ok(true);
             }
-            found = next_path(alloc, code, scope, path)?;
+            found = next_path(alloc, program, scope, path)?;
         }
     }
 
@@ -220,7 +220,7 @@ impl Walk {
     fn below(
         &mut self,
         alloc: Global,
-        code: &Code,
+        program: Program<'_>,
         bounds: Bounds,
         rest: &Rest,
         next: &Awaited,
@@ -230,18 +230,18 @@ impl Walk {
     ) -> Result<bool, AllocError>
         requires next { slice_get rest.now.awaited 0 ≡ Some next.now }
         requires room { 1 ≤ room }
-        requires taken { IsTaken code.now bounds rest.now next.now path.now }
-        requires last { (later : PlainRest) → leave code.now bounds.kind rest.now.awaited rest.now path.now ≡ Some later
-            → CanFollow code.now bounds later (option_map (λ r. r.now) last) }
+        requires taken { IsTaken program.code.now bounds rest.now next.now path.now }
+        requires last { (later : PlainRest) → leave program.code.now bounds.kind rest.now.awaited rest.now path.now ≡ Some later
+            → CanFollow program.code.now bounds later (option_map (λ r. r.now) last) }
         ensures kept { IfOk result (λ _. IsKept self.old.out self.new.out) }
-        ensures end { IfOk result (IsEnd code.now bounds rest.now (behind path.now (option_map (λ r. r.now) last.entry)) room
+        ensures end { IfOk result (IsEnd program.entry.code.now (liveness program.entry.live.now) bounds rest.now (behind path.now (option_map (λ r. r.now) last.entry)) room
             self.old.threads.items self.new.threads.items self.new.out) }
     {
-        let Some(later) = rest.leave(alloc, code, bounds.kind, path)? else {
+        let Some(later) = rest.leave(alloc, program.code, bounds.kind, path)? else {
             return Ok(false);
         };
         self.threads.push(thread_of(next, path)?)?;
-        if self.search(alloc, code, bounds, &later, last, room - 1)? {
+        if self.search(alloc, program, bounds, &later, last, room - 1)? {
             return Ok(true);
         }
         self.take_off();
@@ -252,14 +252,14 @@ impl Walk {
 /// The first threads that make up a log and come after the last ones.
 fn find(
     alloc: Global,
-    code: &Code,
+    program: Program<'_>,
     bounds: Bounds,
     last: Option<&[ThreadPath]>,
 ) -> Result<Given, AllocError>
-    requires last { CanFollow code.now bounds (all code.now bounds.kind) (option_map (λ r. r.now) last) }
-    ensures { IfOk result (IsFirst code.now bounds (option_map (λ r. r.now) last.entry)) }
+    requires last { CanFollow program.code.now bounds (all program.code.now bounds.kind) (option_map (λ r. r.now) last) }
+    ensures { IfOk result (IsFirst program.entry.code.now (liveness program.entry.live.now) bounds (option_map (λ r. r.now) last.entry)) }
 {
-    let rest = Rest::all(alloc, code, bounds.kind)?;
+    let rest = Rest::all(alloc, program.code, bounds.kind)?;
     let mut walk = Walk {
         threads: Vec::new(alloc),
         out: LeftOut {
@@ -269,28 +269,32 @@ fn find(
             threads: false,
         },
     };
-    let found = walk.search(alloc, code, bounds, &rest, last, THREADS)?;
+    let found = walk.search(alloc, program, bounds, &rest, last, THREADS)?;
     let Walk { threads, out } = walk;
     let threads = if found { Some(threads) } else { None };
     Ok(Given { threads, out })
 }
 
 /// The threads of the first log.
-pub fn first_threads(alloc: Global, code: &Code, bounds: Bounds) -> Result<Given, AllocError>
-    ensures { IfOk result (IsFirst code.now bounds None) }
+pub fn first_threads(
+    alloc: Global,
+    program: Program<'_>,
+    bounds: Bounds,
+) -> Result<Given, AllocError>
+    ensures { IfOk result (IsFirst program.entry.code.now (liveness program.entry.live.now) bounds None) }
 {
-    find(alloc, code, bounds, None)
+    find(alloc, program, bounds, None)
 }
 
 /// The threads of the log after this one.
 pub fn next_threads(
     alloc: Global,
-    code: &Code,
+    program: Program<'_>,
     bounds: Bounds,
     last: &[ThreadPath],
 ) -> Result<Given, AllocError>
-    requires { IsOne code.now bounds last.now }
-    ensures { IfOk result (IsFirst code.now bounds (Some last.now)) }
+    requires { IsOne program.code.now bounds last.now }
+    ensures { IfOk result (IsFirst program.entry.code.now (liveness program.entry.live.now) bounds (Some last.now)) }
 {
-    find(alloc, code, bounds, Some(last))
+    find(alloc, program, bounds, Some(last))
 }

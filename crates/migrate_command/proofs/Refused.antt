@@ -7,14 +7,14 @@ use Rattle.path_walk.specs.declared.fault.WalkFault.TheVariants as walk
 use Rattle.run_log.specs.Logs.{StoredLog}
 use Rattle.path_walk.specs.tc_code.Code.{Code}
 use Rattle.command_inputs.specs.tc_compile.Programs.{IsCodeOf}
-use Rattle.command_inputs.specs.Forms.{IsOther, IsUnread, IsWhy}
+use Rattle.command_inputs.specs.Forms.{IsOther, IsUnread, IsWhy, Pair}
 use Rattle.command_inputs.specs.helpers.Faults.{walk_fault}
 use Rattle.command_inputs.specs.declared.refusal.Fault.{Fault}
 use Rattle.command_inputs.specs.declared.refusal.Fault.TheVariants.{Refused, Memory}
 use Rattle.command_inputs.specs.declared.refusal.LogRefusal.TheVariants.{Form, OtherProgram}
 use Rattle.command_inputs.specs.declared.refusal.Refusal.{Refusal}
 use Rattle.command_inputs.specs.declared.refusal.Refusal.TheVariants.{Program, Log, LogOver}
-use Rattle.migrate_command.specs.Migrated.{IsExcess, IsOwn, IsUnmigrated, excess_of}
+use Rattle.migrate_command.specs.Migrated.{IsExcess, IsUnmigrated, excess_of}
 
 module _ (program log : List ℕ) where
   unread_refusal : (r : Refusal) → IsUnread program log r → IsUnmigrated program log r
@@ -27,18 +27,18 @@ module _ (program log : List ℕ) where
   unread Memory h = tt
 
   module _ (code : Code) (run : StoredLog) (f : IsCodeOf program code) (g : IsLog log run) where
+    abbrev pub pair : Pair program log
+    pair = record { code = code; run = run; programs = f; logs = g }
+
     pub other : (r : Refusal) → IsOther program run r → IsUnmigrated program log r
-    other (Log OtherProgram) h = (code, f, run, g, h)
+    other (Log OtherProgram) h = (pair, h)
     other _ h = absurd h
 
     module _ (own : IsOfOther program run → ⊥) where
-      pub is_own : IsOwn program log code run
-      is_own = record { programs = f; logs = g; own = own }
-
       pub over : (r : Refusal) → IsExcess run.log r → IsUnmigrated program log r
-      over (LogOver part number) h = (code, run, is_own, h)
+      over (LogOver part number) h = (pair, own, h)
       over _ h = absurd h
 
       pub unfit : excess_of run.log ≡ None → (fault : WalkFault) → IsFault code run.log fault → IsWhy (IsUnmigrated program log) (walk_fault fault)
-      unfit within (walk.Unfit name misfit) h = (code, run, is_own, within, h)
+      unfit within (walk.Unfit name misfit) h = (pair, own, within, h)
       unfit within walk.Memory h = tt

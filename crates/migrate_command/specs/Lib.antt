@@ -2,4 +2,3 @@ pub use Rattle.tc_limits.specs as tc_limits
 pub mod Migrated
 pub mod Meanings
 pub mod Answers
-pub mod helpers

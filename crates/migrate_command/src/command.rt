@@ -1,6 +1,6 @@
 //! The command.
 ghost use Rattle.migrate_command.specs.Meanings.{migrate_of};
-ghost use Rattle.migrate_command.specs.helpers.Asked.{plain_migrate};
+ghost use Rattle.migrate_command.specs.Meanings.{plain_migrate};
 
 use crate::migrate::{Migration, migrated};
 use command_frame::{Command, Keep, Status, Work};

@@ -6,40 +6,19 @@ use command_inputs::{LogPart, Refusal};
 use run_log::{Log, ThreadPath};
 use tc_limits::limits::{DEPTH, THREADS};
 
-/// A limit that a log exceeds, and the number that it has.
-#[derive(Clone, Copy)]
-pub(crate) struct Excess {
-    pub(crate) part: LogPart,
-    pub(crate) number: u64,
-}
-
 /// Refuses a log with too many threads, or one too deep.
 pub(crate) fn refuse_excess(log: &Log) -> Result<(), Refusal>
     ensures within { OnOk result (excess_of log.now.log ≡ None) }
     ensures over { IfErr result (IsExcess log.now.log) }
 {
-    match excess_of(log) {
-        Some(excess) => Err(Refusal::LogOver(excess.part, excess.number)),
-        None => Ok(()),
-    }
-}
-
-/// The limit that a log exceeds, if any.
-fn excess_of(log: &Log) -> Option<Excess>
-    ensures { result ≡ excess_of log.now.log }
-{
     let count = log.threads().len();
     if count > THREADS {
-        return Some(Excess {
-            part: LogPart::Threads,
-            number: count as u64,
-        });
+        return Err(Refusal::LogOver(LogPart::Threads, count as u64));
     }
-    let depth = too_deep(log.threads())?;
-    Some(Excess {
-        part: LogPart::Depth,
-        number: depth as u64,
-    })
+    match too_deep(log.threads()) {
+        Some(depth) => Err(Refusal::LogOver(LogPart::Depth, depth as u64)),
+        None => Ok(()),
+    }
 }
 
 /// The depth of the first thread name that is too deep.

@@ -11,7 +11,7 @@ ghost use Rattle.command_frame.specs.Run.{Runs};
 ghost use Rattle.migrate_command.specs.Answers.{MigrateAnswers};
 ghost use Rattle.migrate_command.specs.Meanings.{migrate_of};
 ghost use Rattle.migrate_command.specs.Migrated.{IsMigrated};
-ghost use Rattle.migrate_command.specs.helpers.Asked.{plain_migrate};
+ghost use Rattle.migrate_command.specs.Meanings.{plain_migrate};
 
 mod command;
 mod excess;

@@ -1,5 +1,5 @@
 -- In a deadlock each blocked thread has a cause.
-use Rattle.std.proofs.Common.{◌≡◌, ◌∙◌, ℕ, true, false, length, List, Some, IsSome, sym, ap, subst, arith}
+use Rattle.std.proofs.Common.{◌≡◌, ◌∙◌, ℕ, false, length, List, Some, IsSome, sym, ap, subst, arith}
 use Rattle.std.proofs.lemmas.Bool.{false≢true}
 use Rattle.tc_record.specs.tc_base.Names.{Name, child}
 use Rattle.tc_record.specs.tc_base.declared.failing.Failing.TheVariants.{Deadlock}

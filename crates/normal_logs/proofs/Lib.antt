@@ -5,4 +5,5 @@ pub mod Deeds
 pub mod Reproduced
 pub mod Least
 pub mod Deadlock
+pub mod Histories
 pub mod Logs

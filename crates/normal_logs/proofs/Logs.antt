@@ -1,42 +1,29 @@
 -- Each failure and each deadlock has a normal log.
 use Rattle.std.proofs.Common.{◌≡◌, ◌∙◌, ℕ, Bool, true, List, ◌++◌, length, Option, Some, None, IsSome, refl, sym, ap, subst, arith}
-use Rattle.std.specs.Prelude.{option_map, slice_get, IsSomeAnd}
+use Rattle.std.specs.Prelude.{option_map}
 use Rattle.std.specs.FinMap as fin
 use Rattle.std.proofs.lemmas.Bool.{leb-true, le-leb}
 use Rattle.std.proofs.lemmas.List.{length-append}
 use Rattle.std.proofs.lemmas.Option.{none-some, same_Some}
 use Rattle.tc_record.specs.run_log.Logs.{Log}
-use Rattle.tc_record.specs.tc_base.Paths.{Path, ThreadPath, path_under}
+use Rattle.tc_record.specs.tc_base.Paths.{Path, path_under}
 use Rattle.tc_record.specs.tc_base.Names.{Name}
 use Rattle.tc_record.specs.tc_base.States.{Thread, State}
-use Rattle.tc_record.specs.tc_base.declared.failing.Failing.{Failing}
-use Rattle.tc_record.specs.tc_base.declared.failing.Failing.TheVariants as failing
 use Rattle.tc_record.specs.tc_base.declared.moves.Move.{Move}
 use Rattle.tc_record.specs.tc_code.Run.{run, path_of, path_in, EndsAs, IsStuck, Reproduces}
 use Rattle.tc_record.proofs.tc_code.Facts.{failed_as_logged}
-use Rattle.least_runs.proofs.run_laws.Basics.{some_is, some_value}
+use Rattle.least_runs.proofs.run_laws.Basics.{some_value}
 use Rattle.least_runs.specs.run_history.History.{Deed, history}
-use Rattle.least_runs.specs.run_history.Told.{failed_in}
 use Rattle.least_runs.specs.run_follows.Machine.{Machine}
-use Rattle.least_runs.specs.run_follows.Follow.{moves_for}
 use Rattle.least_runs.specs.run_follows.Logged.{path_by, path_told}
 use Rattle.least_runs.proofs.run_follows.Follows.{AllTold, all_told}
-use Rattle.least_runs.proofs.run_follows.Plays.{follows_is_run}
-use Rattle.least_runs.proofs.run_follows.Reproduced.{reproduces_as_logged}
+use Rattle.least_runs.proofs.run_follows.Stuck.{stuck_is_told}
 use Rattle.tc_record.proofs.path_laws.Prefixes.{thread_path}
-use Rattle.least_runs.specs.Least.{IsLeast, HasLeast}
+use Rattle.least_runs.specs.Least.{HasLeast}
 use Rattle.least_runs.proofs.Least.{has_least}
-use Rattle.tc_record.specs.Logged.{IsLogOf}
-use Rattle.tc_record.proofs.OneLog.{some_log}
-use Rattle.tc_record.proofs.Paths.{reproduced}
-use Rattle.tc_record.proofs.Reached.{has_threads}
-use Rattle.tc_record.specs.run_log.Logs.{StoredLog}
 use Rattle.normal_logs.specs.Normal.{IsNormal, IsNormalDeadlock}
 use Rattle.normal_logs.specs.Within.{Allowed, at_most, HasBeginnings, ComesTo, ReproducesSome}
-use Rattle.normal_logs.proofs.Reproduced.{fit_together}
-use Rattle.normal_logs.proofs.Least.{used}
-use Rattle.normal_logs.proofs.Deadlock.{caused}
-use Rattle.tc_record.specs.path_laws.history.Along.{path_thread}
+use Rattle.normal_logs.proofs.Histories.{HasLog, path_is, failure_log, deadlock_log}
 
 module _ {B : Type 0} where
   path_of_local : (o : Option (Thread B)) → option_map path_by (option_map (λ (t : Thread B). t.local) o) ≡ option_map path_of o
@@ -53,17 +40,8 @@ module _ {B : Type 0} where
       → (p : Path) → path_in s n ≡ Some p → a p.outcomes ≡ true
   bounded s n a within p is = bounded_by s n a within (fin.get s.threads n) refl p is
 
-  -- a state without a failed thread isn't the end of a failure's log
-  not_failed : (s : State B) → s.failed ≡ None → (o : Option ThreadPath) → IsSomeAnd o (λ t. s.failed ≡ Some t.name) → ⊥
-  not_failed s none None e = absurd e
-  not_failed s none (Some t) e = none-some t.name (sym none ∙ e)
-
 module _ {B : Type 0} (machine : Machine B) (allowed : Allowed) where
   open machine use {ops, model, bound, code}
-
-  deadlock_by : (s : State B) (f : Failing) (ts : List ThreadPath) → s.failed ≡ None → EndsAs ops code f ts s → f ≡ failing.Deadlock
-  deadlock_by s (failing.Thread k) ts none e = absurd (not_failed s none (slice_get ts k) e)
-  deadlock_by s failing.Deadlock ts none e = refl
 
   -- a log whose paths are allowed leads to a state with allowed outcomes
   within_log : (log : Log) (moves : List Move) (again : Reproduces ops code log moves)
@@ -89,25 +67,29 @@ module _ {B : Type 0} (machine : Machine B) (allowed : Allowed) where
     within = within_log r.log r.moves r.again r.within;
   }
 
+  -- the paths of a run are those of its history
+  told_path : (moves : List Move) (s : State B) → run ops code moves ≡ Some s → (n : Name) → path_told code (history ops code moves) n ≡ path_in s n
+  told_path moves s leads n = ap (option_map path_by) ((all_told machine moves s leads).tells.locals n) ∙ path_of_local (fin.get s.threads n)
+
+  -- the paths of the history are allowed
+  pub told_within : (moves : List Move) (s : State B) → run ops code moves ≡ Some s
+      → ((n : Name) (t : Thread B) → fin.get s.threads n ≡ Some t → allowed n t.local.outcomes ≡ true)
+      → (n : Name) (p : Path) → path_told code (history ops code moves) n ≡ Some p → allowed n p.outcomes ≡ true
+  told_within moves s leads within n p is = bounded s n (allowed n) (within n) p (sym (told_path moves s leads n) ∙ is)
+
   -- the log of a deadlock
   pub stuck_to : ComesTo ops code allowed (IsStuck ops code) → ReproducesSome ops code allowed model (IsNormalDeadlock code)
   stuck_to c =
-      let x = some_log model c.state (has_threads ops code c.state (record { moves = c.moves; leads = c.leads })) in
-      let log = x.0.log in
-      let again = reproduced ops code c.state model x.0 c.moves c.leads (λ none. c.is) x.1 in
-      let none = failed_as_logged ops code log again.state again.ends ∙ x.1.failing ∙ c.is.unfailed in
-      let dead = deadlock_by again.state log.failing log.threads none again.ends in
+      let g = history ops code c.moves in
+      let r =
+      deadlock_log machine g (all_told machine c.moves c.state c.leads).follow ((stuck_is_told machine c.moves c.state c.leads).0 c.is) in
       record {
-        log = log;
-        is = record {
-          paths = fit_together (record { machine = machine; log = log; log_is = x.1.is_log }) c.moves again;
-          ends = dead;
-          caused = caused (record { machine = machine; log = log; log_is = x.1.is_log }) c.moves again dead;
-        };
-        under = x.1.model;
-        within = λ n p is. bounded c.state n (allowed n) (c.within n) p (x.1.paths n ∙ is);
-        moves = c.moves;
-        again = again;
+        log = r.log;
+        is = r.is;
+        under = r.under;
+        within = λ n p is. told_within c.moves c.state c.leads c.within n p (path_is machine g (IsNormalDeadlock code) r n p is);
+        moves = r.moves;
+        again = r.again;
       }
 
   -- the log of a least run
@@ -121,52 +103,18 @@ module _ {B : Type 0} (machine : Machine B) (allowed : Allowed) where
     least : HasLeast ops.buffered bound code whole f
     least = has_least machine f whole told.follow (sym told.tells.failure ∙ fails)
 
-    abbrev moves : List Move
-    moves = moves_for bound least.deeds
+    its_log : HasLog machine least.deeds (IsNormal code)
+    its_log = failure_log machine least.deeds least.run f least.fails least.least
 
-    abbrev reached : (s : State B) × (run ops code (moves_for bound least.deeds) ≡ Some s) × (history ops code (moves_for bound least.deeds) ≡ least.deeds)
-    reached = follows_is_run machine least.deeds least.run
-
-    failed_there : failed_in (history ops code moves) ≡ Some f
-    failed_there = ap failed_in reached.2 ∙ least.fails
-
-    state_failed : reached.0.failed ≡ Some f
-    state_failed = (all_told machine moves reached.0 reached.1).tells.failure ∙ failed_there
-
-    abbrev stored : (x : StoredLog) × IsLogOf model reached.0 x
-    stored = some_log model reached.0 (has_threads ops code reached.0 (record { moves = moves; leads = reached.1 }))
-
-    abbrev log : Log
-    log = stored.0.log
-
-    again : Reproduces ops code log moves
-    again = reproduced ops code reached.0 model stored.0 moves reached.1 (λ none. absurd (none-some f (sym none ∙ state_failed))) stored.1
-
-    whole_path : (n : Name) → path_told code whole n ≡ path_in c.state n
-    whole_path n = ap (option_map path_by) (told.tells.locals n) ∙ path_of_local (fin.get c.state.threads n)
-
-    within : (n : Name) (p : Path) → path_under n log.threads ≡ Some p → allowed n p.outcomes ≡ true
+    within : (n : Name) (p : Path) → path_under n its_log.log.threads ≡ Some p → allowed n p.outcomes ≡ true
     within n p is =
-        let goes = (reproduces_as_logged machine log moves again).paths n in
-        let b = least.part n p (ap (λ g. path_told code g n) (sym reached.2) ∙ goes ∙ is) in
+        let b = least.part n p (path_is machine least.deeds (IsNormal code) its_log n p is) in
         begins n p.outcomes b.later
-        (subst (λ os. allowed n os ≡ true) b.outcomes (bounded c.state n (allowed n) (c.within n) b.path (sym (whole_path n) ∙ b.there)))
+        (subst (λ os. allowed n os ≡ true) b.outcomes (told_within c.moves c.state c.leads c.within n b.path b.there))
 
     fails_by : ReproducesSome ops code allowed model (IsNormal code)
-    fails_by = record {
-      log = log;
-      is = record {
-        paths = fit_together (record { machine = machine; log = log; log_is = stored.1.is_log }) moves again;
-        fails = subst IsSome (sym stored.1.failing) (some_is reached.0.failed f state_failed);
-        used = λ j w there other.
-            used (record { machine = machine; log = log; log_is = stored.1.is_log }) moves again f failed_there
-            (subst (IsLeast f) (sym reached.2) least.least) (path_thread j w there) other w.places refl;
-      };
-      under = stored.1.model;
-      within = within;
-      moves = moves;
-      again = again;
-    }
+    fails_by =
+        record { log = its_log.log; is = its_log.is; under = its_log.under; within = within; moves = its_log.moves; again = its_log.again }
 
   pub fails_to : HasBeginnings allowed → ComesTo ops code allowed (λ s. IsSome s.failed) → ReproducesSome ops code allowed model (IsNormal code)
   fails_to begins c = let f = some_value c.state.failed c.is in fails_by begins c f.0 f.1

@@ -11,7 +11,6 @@ use Rattle.least_runs.specs.run_history.History.{Deed, Did, history}
 use Rattle.least_runs.specs.run_history.Told.{is_exit_of, owner_in, steps_in, has_exited_in}
 use Rattle.least_runs.proofs.run_history.of_pending.In.{In, in_split, any_in, in_mapped, from_mapped}
 use Rattle.least_runs.specs.run_follows.Follow.{AllFollow, StepsAreOfThreads}
-use Rattle.tc_record.specs.run_log.Logs.{is_log}
 use Rattle.tc_record.specs.path_walk.Events.{join_by, joins_of}
 use Rattle.tc_record.specs.path_walk.Paths.{Walk}
 use Rattle.tc_record.specs.path_walk.declared.event.Event.{Event}

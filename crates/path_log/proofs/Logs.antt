@@ -14,10 +14,10 @@ use Rattle.memory_models.specs.declared.model.Model.{Model}
 use Rattle.memory_models.specs.declared.model.Model.TheVariants.{Sc, Tso, Pso}
 use Rattle.run_log.proofs.Digests.{digest_is}
 use Rattle.run_log.specs.Logs.{StoredLog, is_log, is_digest, is_there, rises_from}
-use Rattle.path_log.specs.Texts.{AreBytes, HasText, IsLog, is_thread, has_ending, is_within}
+use Rattle.path_log.specs.Texts.{AreBytes, HasText, IsLog, is_thread}
 use Rattle.path_log.specs.Texts.{thread_text, model_code, head_text, ending_code, log_text}
 use Rattle.path_log.specs.Fields.{Place, done, behind, ◌such◌, ◌>>=◌, field, byte, two, model_of, model, digest_in, head, ending_of, ending, threads}
-use Rattle.path_log.specs.Fields.{body, ended, whole}
+use Rattle.path_log.specs.Fields.{body, ended, has_ending, is_within, whole}
 use Rattle.path_log.specs.Faults.{BreaksAt}
 use Rattle.path_log.specs.declared.fault.LogFault.{LogFault}
 use Rattle.path_log.specs.declared.fault.LogFault.TheVariants.{Form, Memory}
@@ -293,7 +293,7 @@ body_again s rest offset h =
 
 -- Whole texts.
 
-pub whole_takes : (text : List ℕ) (x : StoredLog × Place) → AreBytes text → whole (0, text) ≡ Ok x → IsLog text x.0
+whole_takes : (text : List ℕ) (x : StoredLog × Place) → AreBytes text → whole (0, text) ≡ Ok x → HasText x.0 × (text ≡ log_text x.0)
 unfolding whole
 whole_takes text x h e =
     let a = behind_ok (body (0, text)) (λ s. ended >>= λ _. done s) x e in
@@ -302,7 +302,10 @@ whole_takes text x h e =
     let t = body_takes (0, text) a.0 h a.1 in
     let nothing : a.0.1.1 ≡ [] = nil_from_length a.0.1.1 (eqb-true _ _ g.0) in
     let all : text ≡ log_text a.0.0 = t.0.parts ∙ (ap (λ (r : List ℕ). log_text a.0.0 ++ r) nothing ∙ append-nil (log_text a.0.0)) in
-    subst (λ (y : StoredLog × Place). IsLog text y.0) (read_is (a.0.0, b.0.1) x b.2) (record { has_text = t.1; text = all })
+    subst (λ (y : StoredLog × Place). HasText y.0 × (text ≡ log_text y.0)) (read_is (a.0.0, b.0.1) x b.2) (t.1, all)
+
+pub is_read : (text : List ℕ) (x : StoredLog × Place) → AreBytes text → whole (0, text) ≡ Ok x → IsLog text x.0
+is_read text x h e = record { are_bytes = h; end = x.1; reads = e }
 
 pub whole_again : (s : StoredLog) → HasText s → ReadsAs (whole (0, log_text s)) s []
 unfolding whole
@@ -316,12 +319,21 @@ whole_again s h =
 
 -- The laws.
 
+-- a log that is read has that text
+pub has_text : {text : List ℕ} {log : StoredLog} → IsLog text log → HasText log
+has_text {text} {log} is = (whole_takes text (log, is.end) is.are_bytes is.reads).0
+
+pub text_is : {text : List ℕ} {log : StoredLog} → IsLog text log → text ≡ log_text log
+text_is {text} {log} is = (whole_takes text (log, is.end) is.are_bytes is.reads).1
+
+pub is_log_of : (text : List ℕ) (log : StoredLog) → AreBytes text → HasText log → text ≡ log_text log → IsLog text log
+is_log_of text log h has is =
+    let a = whole_again log has in
+    record { are_bytes = h; end = (a.end, []); reads = ap (λ (x : List ℕ). whole (0, x)) is ∙ a.read_is }
+
 pub one_log : (text : List ℕ) (this that : StoredLog) → IsLog text this → IsLog text that → this ≡ that
 one_log text this that h k =
-    let a = whole_again this h.has_text in
-    let b = whole_again that k.has_text in
-    let same = read_is (this, (a.end, [])) (that, (b.end, []))
-    (sym a.read_is ∙ (ap (λ (x : List ℕ). whole (0, x)) (sym h.text ∙ k.text) ∙ b.read_is)) in
+    let same = read_is (this, h.end) (that, k.end) (sym h.reads ∙ k.reads) in
     ap (λ (x : StoredLog × Place). x.0) same
 
 pub whole_text : (this that : StoredLog) (more : List ℕ) → HasText this → HasText that → log_text this ++ more ≡ log_text that → more ≡ []
@@ -334,7 +346,7 @@ whole_text this that more h k e =
 
 some_fault_of : (text : List ℕ) (read : Read StoredLog) → whole (0, text) ≡ read → AreBytes text → ((log : StoredLog) → IsLog text log → ⊥)
     → (offset : ℕ) × BreaksAt text offset
-some_fault_of text (Ok x) e h none = absurd (none x.0 (whole_takes text x h e))
+some_fault_of text (Ok x) e h none = absurd (none x.0 (is_read text x h e))
 some_fault_of text (Err offset) e h none = (offset, e)
 
 pub some_fault : (text : List ℕ) → AreBytes text → ((log : StoredLog) → IsLog text log → ⊥) → (offset : ℕ) × BreaksAt text offset
@@ -344,10 +356,7 @@ pub one_fault : (text : List ℕ) (this that : ℕ) → BreaksAt text this → B
 one_fault text this that h k = let same = sym h ∙ k in cc
 
 pub log_or_fault : (text : List ℕ) (log : StoredLog) (offset : ℕ) → IsLog text log → BreaksAt text offset → ⊥
-log_or_fault text log offset h breaks =
-    let a = whole_again log h.has_text in
-    let same = sym a.read_is ∙ subst (λ (t : List ℕ). BreaksAt t offset) h.text breaks in
-    cc
+log_or_fault text log offset h breaks = let same = sym h.reads ∙ breaks in cc
 
 -- The reader's answers at a log's text.
 
@@ -356,4 +365,4 @@ only_memory Memory text h s is = refl
 only_memory (Form offset) text h s is = absurd (log_or_fault text s offset is h)
 
 pub same_log : (text : List ℕ) (x : StoredLog × Place) → AreBytes text → whole (0, text) ≡ Ok x → (s : StoredLog) → IsLog text s → x.0 ≡ s
-same_log text x h e s is = one_log text x.0 s (whole_takes text x h e) is
+same_log text x h e s is = one_log text x.0 s (is_read text x h e) is

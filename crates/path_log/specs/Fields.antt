@@ -1,5 +1,5 @@
 -- The fields of a log's text, in their order, each with its length and its rule.
-use Rattle.std.specs.Prelude.{ℕ, zero, suc, ◌+◌, ◌-◌, ◌^◌, Bool, true, false, not, ◌&&◌, ◌==◌, nat_le, nat_lt, if◌then◌else◌, bytes_eq}
+use Rattle.std.specs.Prelude.{ℕ, zero, suc, ◌+◌, ◌-◌, ◌/◌, ◌^◌, Bool, true, false, not, ◌&&◌, ◌==◌, nat_le, nat_lt, if◌then◌else◌, bytes_eq}
 use Rattle.std.specs.Prelude.{List, [], ◌∷◌, ◌++◌, length, take, drop, slice_index, replicate, Option, Some, None, is_some, Result, Ok, Err, codes, ◌%◌}
 use Rattle.std.specs.List.{flat_map, list_all}
 use Rattle.byteorder.specs.Endian.{big_number}
@@ -10,7 +10,6 @@ use Rattle.tc_base.specs.declared.failing.Failing.TheVariants.{Thread, Deadlock}
 use Rattle.memory_models.specs.declared.model.Model.{Model}
 use Rattle.memory_models.specs.declared.model.Model.TheVariants.{Sc, Tso, Pso}
 use Rattle.run_log.specs.Logs.{StoredLog, is_above, is_there}
-use Rattle.path_log.specs.Texts.{is_within, has_ending, bytes_for}
 
 -- an offset, and the bytes from there on
 abbrev pub Place : Type 0
@@ -51,6 +50,10 @@ infixl 12 ◌such◌
 abbrev pub ◌such◌ : {X : Type 0} → Fields X → (X → Bool) → Fields X
 (fields such rule) place = kept rule place.0 (fields place)
 
+-- whether a number lies between low and high, both included
+abbrev pub is_within : ℕ → ℕ → ℕ → Bool
+is_within low high n = nat_le low n && nat_le n high
+
 -- a number of one byte
 abbrev pub byte : Fields ℕ
 byte = field 1 >>= λ bytes. done (slice_index bytes 0)
@@ -80,6 +83,10 @@ bits_of (suc k) n = nat_le (2 ^ k) n ∷ bits_of k (n % 2 ^ k)
 -- the bits of all bytes, in order
 abbrev pub all_bits : List ℕ → List Bool
 all_bits bytes = flat_map (bits_of 8) bytes
+
+-- the least number of bytes that hold this many bits
+abbrev pub bytes_for : ℕ → ℕ
+bytes_for bits = (bits + 7) / 8
 
 -- whether all bits after the first n are 0
 abbrev pub is_padded : ℕ → List ℕ → Bool
@@ -155,6 +162,12 @@ head = do
 -- the ending with this code: the index of the thread that failed, or 255 for a deadlock
 abbrev pub ending_of : ℕ → Failing
 ending_of code = if code == 255 then Deadlock else Thread code
+
+-- whether the format has this ending: format 2 has both, format 1 only failures
+abbrev pub has_ending : Bool → Failing → Bool
+has_ending true failing = true
+has_ending false (Thread k) = true
+has_ending false Deadlock = false
 
 -- how a run of `count` threads ended
 abbrev pub ending : Bool → ℕ → Fields Failing

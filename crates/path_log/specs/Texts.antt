@@ -1,6 +1,6 @@
 -- The text of a log.
 use Rattle.std.specs.Prelude.{◌≡◌, ◌≢◌, ℕ, zero, suc, ◌+◌, ◌/◌, ◌^◌, ◌<◌, Bool, true, false, ◌&&◌, nat_le, nat_lt, ◌==◌, if◌then◌else◌, IsTrue, IfSome}
-use Rattle.std.specs.Prelude.{List, [], ◌∷◌, ◌++◌, length, drop, slice_index, Option, Some, None, is_some, codes, IsSomeAnd}
+use Rattle.std.specs.Prelude.{List, [], ◌∷◌, ◌++◌, length, drop, slice_index, Option, Some, None, is_some, Ok, codes, IsSomeAnd}
 use Rattle.std.specs.List.{flat_map, list_all}
 use Rattle.std.specs.Bool.{beq}
 use Rattle.std.specs.Ordering.{is_lt, nat_cmp}
@@ -15,6 +15,8 @@ use Rattle.tc_base.specs.declared.failing.Failing.{Failing}
 use Rattle.tc_base.specs.declared.failing.Failing.TheVariants.{Thread, Deadlock}
 use Rattle.memory_models.specs.declared.model.Model.{Model}
 use Rattle.memory_models.specs.declared.model.Model.TheVariants.{Sc, Tso, Pso}
+use Rattle.path_log.specs.Fields.{Place, whole}
+pub use Rattle.path_log.specs.Fields.{bytes_for, has_ending, is_within}
 
 -- Bits of a byte, the highest first.
 
@@ -28,10 +30,6 @@ bits_value (suc n) (bit ∷ bits) = (if bit then 2 ^ n else 0) + bits_value n bi
 abbrev pub packed : ℕ → List Bool → List ℕ
 packed zero bits = []
 packed (suc n) bits = bits_value 8 bits ∷ packed n (drop 8 bits)
-
--- the least number of bytes that hold this many bits
-abbrev pub bytes_for : ℕ → ℕ
-bytes_for bits = (bits + 7) / 8
 
 -- Runs of equal outcomes.
 
@@ -85,10 +83,6 @@ log_text s = head_text s.digest s.log.model
 
 -- Which logs have a text.
 
--- whether a number lies between low and high, both included
-abbrev pub is_within : ℕ → ℕ → ℕ → Bool
-is_within low high n = nat_le low n && nat_le n high
-
 -- at most 255 creates, numbered 1 to 255, and step and outcome counts that fit in two bytes
 abbrev pub is_thread : ThreadPath → Bool
 is_thread t = (nat_le (length t.name) 255 && list_all (is_within 1 255) t.name)
@@ -97,12 +91,6 @@ is_thread t = (nat_le (length t.name) 255 && list_all (is_within 1 255) t.name)
 -- at most 255 threads, each within the format
 abbrev pub is_of_format : Log → Bool
 is_of_format log = nat_le (length log.threads) 255 && list_all is_thread log.threads
-
--- whether the format has this ending: format 2 has both, format 1 only failures
-abbrev pub has_ending : Bool → Failing → Bool
-has_ending true failing = true
-has_ending false (Thread k) = true
-has_ending false Deadlock = false
 
 -- every number is a byte
 abbrev pub AreBytes : List ℕ → Type 0
@@ -115,10 +103,11 @@ pub record HasText (s : StoredLog) : Type 0 where
   pub has_ending : IsTrue (has_ending (is_some s.digest) s.log.failing)
   pub is_digest : IfSome s.digest (λ digest. IsTrue (is_digest digest))
 
--- the bytes are the log's text
-pub record IsLog (bytes : List ℕ) (log : StoredLog) : Type 0 where
-  pub has_text : HasText log
-  pub text : bytes ≡ log_text log
+-- the bytes are the log's text: its fields, read in order, give the log
+pub record IsLog (text : List ℕ) (log : StoredLog) : Type 0 where
+  pub are_bytes : AreBytes text
+  pub end : Place
+  pub reads : whole (0, text) ≡ Ok (log, end)
 
 -- the log has a digest, and it isn't that of this program
 abbrev pub IsOfOther : (program : List ℕ) → StoredLog → Type 0

@@ -4,8 +4,11 @@ ghost use Rattle.run_log.specs.Logs.{StoredLog};
 ghost use Rattle.path_log.specs.Texts.{HasText, IsLog, AreBytes, log_text};
 ghost use Rattle.path_log.specs.Faults.{BreaksAt};
 
-/// A text is that of at most one log, and no log's text is a proper prefix of another's.
+/// A text is that of at most one log, which tells each byte of it, and no log's text is a proper
+/// prefix of another's.
 pub fn logs_are_one()
+    ensures text { (text : List ℕ) (log : StoredLog) → IsLog text log → HasText log × (text ≡ log_text log) }
+    ensures written { (text : List ℕ) (log : StoredLog) → AreBytes text → HasText log → text ≡ log_text log → IsLog text log }
     ensures one { (text : List ℕ) (this that : StoredLog) → IsLog text this → IsLog text that → this ≡ that }
     ensures whole { (this that : StoredLog) (more : List ℕ) → HasText this → HasText that → log_text this ++ more ≡ log_text that → more ≡ [] }
 {}

@@ -19,8 +19,7 @@ use Rattle.command_frame.proofs.AllRuns.{if_told}
 use Rattle.command_inputs.specs.declared.refusal.Refusal.{Refusal}
 use Rattle.command_inputs.specs.declared.refusal.Refusal.TheVariants.{Program}
 use Rattle.record_command.specs.Answers.{LeavesLog, RecordAnswers, TellsEnding}
-use Rattle.record_command.specs.Lines.{end_status, ending_status, ran_status}
-use Rattle.record_command.specs.Logs.{IsRecorded}
+use Rattle.record_command.specs.Lines.{end_status, ending_said, ran_said}
 use Rattle.record_command.specs.Meanings.{ComesTo, IsRanAs, IsRanOf, IsUnread, inputs_of, record_of, report_of}
 use Rattle.record_command.specs.Runs.{HasEnded, HasOutcome, Record, run_of}
 use Rattle.record_command.specs.declared.ending.Ending.{Ending}
@@ -37,19 +36,19 @@ module _ {B : Type 0} (model : Model) (program : List ℕ) (code : Code) (run : 
   outcome_status (Failed f) h = ap end_status h.ended
   outcome_status (Deadlock n) h = ap end_status h.0
 
-  ended_status : (e : Ending) → HasEnded run e → end_status run.end ≡ ending_status e
+  ended_status : (e : Ending) → HasEnded run e → end_status run.end ≡ (ending_said e).0
   ended_status Finished h = ap end_status h
   ended_status (StepLimit n) h = ap end_status h.0
   ended_status (Over which) h = ap end_status h
 
-  status_in : (x : Ran) → IsRanAs model program code run x → ran_status x ≡ end_status run.end
+  status_in : (x : Ran) → IsRanAs model program code run x → (ran_said x).0 ≡ end_status run.end
   status_in (Logged o text) h = sym (outcome_status o h.0)
   status_in (Unlogged e) h = sym (ended_status e h)
 
 status_of_run : (call : Record) (program : List ℕ) (code : Code) → IsCodeOf program code → (x : Ran) → IsRanOf call program x
-    → ran_status x ≡ end_status (run_of call code).end
+    → (ran_said x).0 ≡ end_status (run_of call code).end
 status_of_run call program code is x w =
-    subst (λ c. ran_status x ≡ end_status (run_of call c).end) (one_code program w.0 code w.1 is)
+    subst (λ c. (ran_said x).0 ≡ end_status (run_of call c).end) (one_code program w.0 code w.1 is)
     (status_in call.model program w.0 (run_of call w.0) x w.2)
 
 -- a text is refused for one reason, and isn't run then
@@ -73,22 +72,21 @@ module _ (call : Record) (files : Files) (old new : ShelfTells) (number : ℕ) (
   abbrev IsReported : Ran → Type 0
   IsReported x = Reports (inputs_of call) (ComesTo call) (report_of call) files e x
 
-  recorded_by : (x : Ran) → ran_status x ≡ Done → IsReported x → (o : Outcome) × (text : List ℕ) × LeavesLog call files e o text
+  recorded_by : (x : Ran) → (ran_said x).0 ≡ Done → IsReported x → (o : Outcome) × (text : List ℕ) × LeavesLog call files e o text
   recorded_by (Logged o text) is r =
       let w = r.comes in
-      let one : IsRecorded call program o text.items = record { code = w.0; programs = w.1; outcome = w.2.0; is_text = w.2.1 } in
-      (o, text.items, (one, recorded_reproduced call program text.items o one, (r.held, r.wrote)))
+      (o, text.items, (recorded_reproduced call program text.items w.0 o w.1 w.2.0 w.2.1, (r.held, r.wrote)))
   recorded_by (Unlogged Finished) is r = absurd (let bad : Fails ≡ Done = is in cc)
   recorded_by (Unlogged (StepLimit n)) is r = absurd (let bad : Open ≡ Done = is in cc)
   recorded_by (Unlogged (Over which)) is r = absurd (let bad : OverLimit ≡ Done = is in cc)
 
-  finished_by : (x : Ran) → ran_status x ≡ Fails → IsReported x → TellsEnding call files e Finished
+  finished_by : (x : Ran) → (ran_said x).0 ≡ Fails → IsReported x → TellsEnding call files e Finished
   finished_by (Unlogged Finished) is r = (r.comes, (r.held, r.wrote))
   finished_by (Logged o text) is r = absurd (let bad : Done ≡ Fails = is in cc)
   finished_by (Unlogged (StepLimit n)) is r = absurd (let bad : Open ≡ Fails = is in cc)
   finished_by (Unlogged (Over which)) is r = absurd (let bad : OverLimit ≡ Fails = is in cc)
 
-  goes_on_by : (x : Ran) → ran_status x ≡ Open → IsReported x → (moves : ℕ) × TellsEnding call files e (StepLimit moves)
+  goes_on_by : (x : Ran) → (ran_said x).0 ≡ Open → IsReported x → (moves : ℕ) × TellsEnding call files e (StepLimit moves)
   goes_on_by (Unlogged (StepLimit n)) is r = (n, (r.comes, (r.held, r.wrote)))
   goes_on_by (Logged o text) is r = absurd (let bad : Done ≡ Open = is in cc)
   goes_on_by (Unlogged Finished) is r = absurd (let bad : Fails ≡ Open = is in cc)

@@ -2,6 +2,7 @@
 use Rattle.std.proofs.Common.{◌≡◌, ap, sym, subst, refl, arith, inl, inr, List, ℕ, length, None, true}
 use Rattle.sha2.specs.Sha256.{sha256}
 use Rattle.kept_logs.proofs.Digests.{sha256_is}
+use Rattle.kept_logs.proofs.path_log.Logs.{text_is}
 use Rattle.memory_models.specs.declared.model.Model.{Model}
 use Rattle.memory_models.specs.declared.model.Model.TheVariants.{Sc, Tso, Pso}
 use Rattle.kept_logs.specs.run_log.Logs.{Log, StoredLog}
@@ -21,9 +22,9 @@ use Rattle.tc_compile.specs.Programs.{IsCodeOf, language}
 use Rattle.tc_compile.proofs.tc_lower.Ints.{program_ints}
 use Rattle.tc_compile.proofs.tc_lower.Programs.{program_is_lawful}
 use Rattle.tc_compile.proofs.tc_parser.Words.{has_ints}
-use Rattle.tc_record.proofs.Ended.{log_has_text, log_is_short, run_is_told, run_reproduces}
+use Rattle.tc_record.proofs.Ended.{log_is_short, run_reproduces}
 use Rattle.tc_record.specs.Seeded.{Ended, HasLog}
-use Rattle.record_command.specs.Logs.{IsRecorded, IsReproduced, allows}
+use Rattle.record_command.specs.Logs.{IsLogText, IsRecorded, allows}
 use Rattle.record_command.specs.Runs.{HasOutcome, Record, run_of}
 use Rattle.record_command.specs.declared.ending.Outcome.{Outcome}
 use Rattle.record_command.specs.declared.ending.Outcome.TheVariants.{Failed, Deadlock}
@@ -45,30 +46,24 @@ has_log code run (Failed f) h = inl h.ended
 has_log code run (Deadlock moves) h = inr h.0
 
 -- the moves of a recorded run reproduce its log
-pub recorded_reproduced : (call : Record) (program text : List ℕ) (o : Outcome) → IsRecorded call program o text → IsReproduced call program text
-recorded_reproduced call program text o w =
-    let code = w.code in
-    let is = w.is_text in
-    let has = has_log code (run_of call code) o w.outcome in
+pub recorded_reproduced : (call : Record) (program text : List ℕ) (code : Code) (o : Outcome) → IsCodeOf program code → HasOutcome code (run_of call code) o
+    → IsLogText call.model program (run_of call code) text → IsRecorded call program o text
+recorded_reproduced call program text code o f outcome is =
+    let has = has_log code (run_of call code) o outcome in
     let stored : StoredLog = record { digest = None; log = is.log } in
     let made = call.model in
     let ops = buffer_of made in
     let laws = model_laws made in
-    let lawful = code_is_lawful program code w.programs in
+    let lawful = code_is_lawful program code f in
     let digest = sha256_is program in
     let size = log_is_short ops made laws.0 laws.1 code lawful call.seed call.steps stored has is.is (sha256 program) digest in
     record {
       code = code;
-      log = is.log;
-      programs = w.programs;
-      logs = record {
-        has_text = log_has_text ops made laws.0 laws.1 code lawful call.seed call.steps stored has is.is (sha256 program) digest;
-        text = is.is_text;
-      };
-      model_is = is.is.model;
-      tells = run_is_told ops made laws.0 laws.1 code lawful call.seed call.steps stored has is.is;
+      programs = f;
+      outcome = outcome;
+      logged = is;
       reproduces = run_reproduces ops made laws.0 laws.1 code lawful call.seed call.steps stored has is.is;
-      short = omega (arith, size, ap length is.is_text);
+      short = omega (arith, size, ap length (text_is is.is_text));
     }
 
 -- a log that one model reproduces is reproduced by a model that allows more
@@ -97,8 +92,7 @@ more Pso Tso e code log moves r = cc
 
 -- a recorded log is possible under its model and under each model that allows more
 pub recorded_possible : (call : Record) (program text : List ℕ) (o : Outcome) (m : Model) → IsRecorded call program o text → allows call.model m ≡ true
-    → (r : IsReproduced call program text) × (moves : List Move) × Reproduces (buffer_of m) r.code r.log moves
-recorded_possible call program text o m w e =
-    let r = recorded_reproduced call program text o w in
-    let others = more call.model m e r.code r.log (run_of call r.code).moves r.reproduces in
+    → (r : IsRecorded call program o text) × (moves : List Move) × Reproduces (buffer_of m) r.code r.logged.log moves
+recorded_possible call program text o m r e =
+    let others = more call.model m e r.code r.logged.log (run_of call r.code).moves r.reproduces in
     (r, others.0, others.1)

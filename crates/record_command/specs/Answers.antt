@@ -9,8 +9,8 @@ use Rattle.command_ends.specs.Ends.{Declines, HasDeclined}
 use Rattle.command_frame.specs.Answers.{number_of}
 use Rattle.command_frame.specs.ByStatus.{IsStatus}
 use Rattle.command_frame.specs.End.{End, Leaves, LeavesNothing}
-use Rattle.record_command.specs.Lines.{end_status, ending_line, outcome_line}
-use Rattle.record_command.specs.Logs.{IsRecorded, IsReproduced}
+use Rattle.record_command.specs.Lines.{end_status, ending_said, outcome_line}
+use Rattle.record_command.specs.Logs.{IsRecorded}
 use Rattle.record_command.specs.Meanings.{IsRanOf, IsUnread, inputs_of}
 use Rattle.record_command.specs.Runs.{Record, run_of}
 use Rattle.record_command.specs.declared.ending.Ending.{Ending}
@@ -25,12 +25,11 @@ module _ (call : Record) (files : Files) (e : End) where
 
   -- its run failed or deadlocked so; LOG holds the text of its log, which the run's moves reproduce
   abbrev pub LeavesLog : Outcome → (text : List ℕ) → Type 0
-  LeavesLog o text = IsRecorded call program o text × IsReproduced call program text
-      × Leaves files e call.log text (outcome_line o)
+  LeavesLog o text = IsRecorded call program o text × Leaves files e call.log text (outcome_line o)
 
   -- its run ended so, without a log, and this was told
   abbrev pub TellsEnding : Ending → Type 0
-  TellsEnding x = IsRanOf call program (Unlogged x) × LeavesNothing files e (ending_line x)
+  TellsEnding x = IsRanOf call program (Unlogged x) × LeavesNothing files e (ending_said x).1
 
   -- the answers of `record`
   pub record RecordAnswers : Type 0 where

@@ -4,4 +4,3 @@ pub mod Logs
 pub mod Lines
 pub mod Meanings
 pub mod Answers
-pub mod helpers

@@ -1,4 +1,4 @@
--- The line and the status of each end of a run.
+-- The status and the line of each end of a run.
 use Rattle.std.specs.Prelude.{ℕ, ◌+◌, List, ◌++◌, codes}
 use Rattle.std.specs.Fmt.{decimal}
 use Rattle.tc_base.specs.Names.{name_text}
@@ -11,7 +11,6 @@ use Rattle.command_frame.specs.declared.status.Status.{Status}
 use Rattle.command_frame.specs.declared.status.Status.TheVariants.{Done, Fails, OverLimit, Open}
 use Rattle.record_command.specs.declared.ending.Ending.{Ending}
 use Rattle.record_command.specs.declared.ending.Ending.TheVariants.{Finished, StepLimit, Over}
-use Rattle.record_command.specs.declared.ending.Failure.{Failure}
 use Rattle.record_command.specs.declared.ending.Outcome.{Outcome}
 use Rattle.record_command.specs.declared.ending.Outcome.TheVariants.{Failed, Deadlock}
 use Rattle.record_command.specs.declared.ending.Ran.{Ran}
@@ -29,23 +28,22 @@ over_line which = codes "limit " ++ (which_text which
     ++ (codes " " ++ (decimal (limit_of which + 1)
     ++ (codes " of " ++ (decimal (limit_of which) ++ codes "\n")))))
 
-abbrev pub failure_line : Failure → List ℕ
-failure_line f = codes "failed "
+abbrev pub outcome_line : Outcome → List ℕ
+outcome_line (Failed f) = codes "failed "
     ++ (name_text f.name ++ (codes " line " ++ (decimal f.line
     ++ (codes " after " ++ (decimal f.moves ++ codes " moves\n")))))
-
-abbrev pub outcome_line : Outcome → List ℕ
-outcome_line (Failed f) = failure_line f
 outcome_line (Deadlock moves) = codes "deadlock after " ++ (decimal moves ++ codes " moves\n")
 
-abbrev pub ending_line : Ending → List ℕ
-ending_line Finished = codes "finished\n"
-ending_line (StepLimit moves) = codes "no failure in " ++ (decimal moves ++ codes " moves\n")
-ending_line (Over which) = over_line which
+-- the status and the line of a run that ended so, without a log
+abbrev pub ending_said : Ending → Status × List ℕ
+ending_said Finished = (Fails, codes "finished\n")
+ending_said (StepLimit moves) =
+    (Open, codes "no failure in " ++ (decimal moves ++ codes " moves\n"))
+ending_said (Over which) = (OverLimit, over_line which)
 
-abbrev pub ran_line : Ran → List ℕ
-ran_line (Logged o text) = outcome_line o
-ran_line (Unlogged e) = ending_line e
+abbrev pub ran_said : Ran → Status × List ℕ
+ran_said (Logged o text) = (Done, outcome_line o)
+ran_said (Unlogged e) = ending_said e
 
 -- the status of a run that ended
 abbrev pub end_status : End → Status
@@ -54,12 +52,3 @@ end_status end.Deadlock = Done
 end_status end.Finished = Fails
 end_status (end.Over _) = OverLimit
 end_status end.StepLimit = Open
-
-abbrev pub ending_status : Ending → Status
-ending_status Finished = Fails
-ending_status (StepLimit _) = Open
-ending_status (Over _) = OverLimit
-
-abbrev pub ran_status : Ran → Status
-ran_status (Logged _ _) = Done
-ran_status (Unlogged e) = ending_status e

@@ -11,7 +11,7 @@ use Rattle.command_frame.specs.Meaning.{Meaning}
 use Rattle.command_inputs.specs.Limits.{program_limit}
 use Rattle.command_inputs.specs.declared.refusal.Refusal.{Refusal}
 use Rattle.command_inputs.specs.declared.refusal.Refusal.TheVariants.{Program}
-use Rattle.record_command.specs.Lines.{ran_line, ran_status}
+use Rattle.record_command.specs.Lines.{ran_said}
 use Rattle.record_command.specs.Logs.{IsLogText}
 use Rattle.record_command.specs.Runs.{HasEnded, HasOutcome, Record, run_of}
 use Rattle.record_command.specs.declared.ending.Ran.{Ran}
@@ -49,7 +49,11 @@ keeps_of call (Unlogged e) = []
 
 -- what is done with a run
 abbrev pub report_of : Record → Report Ran
-report_of call = record { keeps_of = keeps_of call; line_of = ran_line; status_of = ran_status }
+report_of call = record {
+  keeps_of = keeps_of call;
+  line_of = λ x. (ran_said x).1;
+  status_of = λ x. (ran_said x).0;
+}
 
 -- `record`
 abbrev pub record_of : Record → Meaning (Result Ran Refusal)

@@ -11,6 +11,7 @@ use Rattle.record_command.specs.declared.ending.Ending.TheVariants.{Finished, St
 use Rattle.record_command.specs.declared.ending.Failure.{Failure}
 use Rattle.record_command.specs.declared.ending.Outcome.{Outcome}
 use Rattle.record_command.specs.declared.ending.Outcome.TheVariants.{Failed, Deadlock}
+use Rattle.record_command.specs.declared.command.Record.{Record as RawRecord}
 
 -- `record PROGRAM LOG [--model MODEL] [--seed N] [--steps N]`: its files, by name, and its options
 pub record Record : Type 0 where
@@ -19,6 +20,15 @@ pub record Record : Type 0 where
   pub model : Model
   pub seed : ℕ
   pub steps : ℕ
+
+abbrev pub plain_record : RawRecord → Record
+plain_record call = record {
+  program = call.program.name.now;
+  log = call.log.now;
+  model = call.model;
+  seed = call.seed;
+  steps = call.steps;
+}
 
 -- the run of a code under that model, by moves chosen with that seed
 abbrev pub run_of : (call : Record) → Code → Ended (BufferOf call.model)

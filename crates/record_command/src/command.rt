@@ -1,6 +1,6 @@
 //! The command.
 ghost use Rattle.record_command.specs.Meanings.{record_of};
-ghost use Rattle.record_command.specs.helpers.Asked.{plain_record};
+ghost use Rattle.record_command.specs.Runs.{plain_record};
 
 use crate::ending::Ran;
 use crate::running::run_program;

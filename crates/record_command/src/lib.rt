@@ -6,14 +6,16 @@ ghost use Rattle.std.specs.Prelude.{◌≡◌, true, ℕ, List, IfSome};
 ghost use Rattle.memory_models.specs.declared.model.Model.{Model};
 ghost use Rattle.store_buffers.specs.Buffers.{buffer_of};
 ghost use Rattle.tc_base.specs.declared.moves.Move.{Move};
+ghost use Rattle.tc_code.specs.Code.{Code};
 ghost use Rattle.tc_code.specs.Run.{Reproduces};
+ghost use Rattle.tc_compile.specs.Programs.{IsCodeOf};
 ghost use Rattle.command_frame.specs.Run.{Runs};
 ghost use Rattle.record_command.specs.Answers.{RecordAnswers};
-ghost use Rattle.record_command.specs.Logs.{IsRecorded, IsReproduced, allows};
+ghost use Rattle.record_command.specs.Logs.{IsLogText, IsRecorded, allows};
 ghost use Rattle.record_command.specs.Meanings.{record_of};
-ghost use Rattle.record_command.specs.Runs.{Record as PlainRecord};
+ghost use Rattle.record_command.specs.Runs.{HasOutcome, Record as PlainRecord, run_of};
 ghost use Rattle.record_command.specs.declared.ending.Outcome.{Outcome};
-ghost use Rattle.record_command.specs.helpers.Asked.{plain_record};
+ghost use Rattle.record_command.specs.Runs.{plain_record};
 
 mod command;
 mod ending;
@@ -40,15 +42,16 @@ pub fn record_run<H: Shelf, K: Sink>(
     run(alloc, call, shelf, sink)
 }
 
-/// The log of a failed or deadlocked run is reproduced by that run's moves, and its text, which
-/// `record` keeps, is read back as that log.
+/// The log of a failed or deadlocked run, whose text `record` keeps, is reproduced by that run's
+/// moves.
 pub fn recorded_logs_are_reproduced()
-    ensures { (call : PlainRecord) (program text : List ℕ) (o : Outcome) → IsRecorded call program o text → IsReproduced call program text }
+    ensures { (call : PlainRecord) (program text : List ℕ) (code : Code) (o : Outcome) → IsCodeOf program code → HasOutcome code (run_of call code) o
+        → IsLogText call.model program (run_of call code) text → IsRecorded call program o text }
 {}
 
 /// Some moves reproduce a log that `record` wrote, under its memory model and under each that
 /// allows more, so `solve` never calls it impossible there.
 pub fn recorded_logs_are_possible()
     ensures { (call : PlainRecord) (program text : List ℕ) (o : Outcome) (m : Model) → IsRecorded call program o text → allows call.model m ≡ true
-        → (r : IsReproduced call program text) × (moves : List Move) × Reproduces (buffer_of m) r.code r.log moves }
+        → (r : IsRecorded call program o text) × (moves : List Move) × Reproduces (buffer_of m) r.code r.logged.log moves }
 {}

@@ -1,6 +1,7 @@
 //! The line and the status of each end of a run.
 ghost use Rattle.std.specs.Prelude.{◌≡◌, IfOk, string_bytes};
-ghost use Rattle.record_command.specs.Lines.{ending_line, failure_line, outcome_line, over_line, ran_line, ran_status, which_text};
+ghost use Rattle.record_command.specs.Lines.{ending_said, outcome_line, over_line, ran_said, which_text};
+ghost use Rattle.record_command.specs.declared.ending.Outcome.TheVariants.{Failed};
 
 use crate::ending::{Ending, Failure, Outcome, Ran};
 use command_frame::Status;
@@ -10,7 +11,7 @@ use tc_record::Which;
 impl Ran {
     /// The line that says it.
     pub(crate) fn line(&self, alloc: Global) -> Result<String, AllocError>
-        ensures { IfOk result (λ text. string_bytes text ≡ ran_line self.now) }
+        ensures { IfOk result (λ text. string_bytes text ≡ (ran_said self.now).1) }
     {
         match self {
             Ran::Logged(outcome, _) => outcome_line(alloc, outcome),
@@ -20,7 +21,7 @@ impl Ran {
 
     /// Its status.
     pub(crate) fn status(&self) -> Status
-        ensures { result ≡ ran_status self.now }
+        ensures { result ≡ (ran_said self.now).0 }
     {
         match self {
             Ran::Logged(_, _) => Status::Done,
@@ -41,14 +42,14 @@ fn outcome_line(alloc: Global, outcome: &Outcome) -> Result<String, AllocError>
 }
 
 fn failure_line(alloc: Global, failure: &Failure) -> Result<String, AllocError>
-    ensures { IfOk result (λ text. string_bytes text ≡ failure_line failure.now) }
+    ensures { IfOk result (λ text. string_bytes text ≡ outcome_line (Failed failure.now)) }
 {
     let Failure { name, line, moves } = failure;
     format!(in alloc; "failed {name} line {line} after {moves} moves\n")
 }
 
 fn ending_line(alloc: Global, ending: Ending) -> Result<String, AllocError>
-    ensures { IfOk result (λ text. string_bytes text ≡ ending_line ending) }
+    ensures { IfOk result (λ text. string_bytes text ≡ (ending_said ending).1) }
 {
     match ending {
         Ending::Finished => String::from_str(alloc, "finished\n"),

@@ -5,7 +5,7 @@ ghost use Rattle.tc_record.specs.Seeded.{seeded_run};
 ghost use Rattle.command_inputs.specs.Forms.{IsWhy};
 ghost use Rattle.record_command.specs.Meanings.{IsRanAs, IsRanOf, IsUnread};
 ghost use Rattle.record_command.specs.Runs.{run_of};
-ghost use Rattle.record_command.specs.helpers.Asked.{plain_record};
+ghost use Rattle.record_command.specs.Runs.{plain_record};
 
 use crate::command::Record;
 use crate::ending::{Ending, Failure, Outcome, Ran};

@@ -14,26 +14,26 @@ use Rattle.command_frame.specs.declared.status.Status.{Status}
 use Rattle.command_frame.specs.declared.status.Status.TheVariants as status
 use Rattle.command_frame.proofs.Statuses.{any_status, at_limit, outcome_at, said_alike, status_is}
 use Rattle.command_inputs.specs.Outcomes.{outcome_status, outcome_text}
-use Rattle.command_inputs.specs.Refusals.{log_line, program_line, schedule_line}
+use Rattle.command_inputs.specs.Refusals.{refusal_said}
 use Rattle.command_inputs.specs.declared.refusal.LogRefusal.{LogRefusal}
 use Rattle.command_inputs.specs.declared.refusal.Refusal.{Refusal}
 use Rattle.command_inputs.specs.declared.refusal.Refusal.TheVariants as refusal
 use Rattle.replay_command.specs.Answers.{ReplayAnswers}
 use Rattle.replay_command.specs.Causes.{IsReplayed, IsUnreplayed}
-use Rattle.replay_command.specs.Lines.{verdict_line, verdict_status}
+use Rattle.replay_command.specs.Lines.{verdict_said}
 use Rattle.replay_command.specs.Meanings.{replay_of}
 use Rattle.replay_command.proofs.OneReplay.{IsReplay, one_replay}
 
 -- the status of what comes of three files
 abbrev ends : Result Verdict Refusal → Status
-ends x = outcome_status verdict_status x
+ends x = outcome_status (λ v. (verdict_said v).0) x
 
 -- a verdict that says that the log is reproduced, and any other
 abbrev IsGood : Verdict → Type 0
-IsGood v = (v ≡ verdict.Reproduces) × (verdict_status v ≡ status.Done)
+IsGood v = (v ≡ verdict.Reproduces) × ((verdict_said v).0 ≡ status.Done)
 
 abbrev IsBad : Verdict → Type 0
-IsBad v = (v ≢ verdict.Reproduces) × (verdict_status v ≡ status.Fails)
+IsBad v = (v ≢ verdict.Reproduces) × ((verdict_said v).0 ≡ status.Fails)
 
 good_or_bad : (v : Verdict) → IsGood v ⊎ IsBad v
 good_or_bad verdict.Reproduces = inl (refl, refl)
@@ -46,14 +46,14 @@ good_or_bad (verdict.OtherPath n) = inr (λ e. cc, refl)
 module _ (program log schedule : List ℕ) (j k : SinkTells) where
   -- what comes of the files, with its text put
   abbrev IsPut : Result Verdict Refusal → List ℕ → Type 0
-  IsPut x text = IsReplay program log schedule x × (text ≡ outcome_text verdict_line x) × Wrote j k text
+  IsPut x text = IsReplay program log schedule x × (text ≡ outcome_text (λ v. (verdict_said v).1) x) × Wrote j k text
 
   -- the outcomes with each status
   done : (x : Result Verdict Refusal) (text : List ℕ) → ends x ≡ status.Done → IsPut x text
-      → IsReplayed program log schedule verdict.Reproduces × Wrote j k (verdict_line verdict.Reproduces)
+      → IsReplayed program log schedule verdict.Reproduces × Wrote j k (verdict_said verdict.Reproduces).1
   done (Ok v) text is put = elim (good_or_bad v) [
     | inl good ↦
-        (subst (IsReplayed program log schedule) good.0 put.0, subst (λ w. Wrote j k (verdict_line w)) good.0 (subst (Wrote j k) put.1 put.2))
+        (subst (IsReplayed program log schedule) good.0 put.0, subst (λ w. Wrote j k (verdict_said w).1) good.0 (subst (Wrote j k) put.1 put.2))
     | inr bad ↦ absurd (let other : status.Fails ≡ status.Done = sym bad.1 ∙ is in cc)
   ]
   done (Err (refusal.Program fault)) text is put = absurd (let bad : status.ProgramRefused ≡ status.Done = is in cc)
@@ -62,7 +62,7 @@ module _ (program log schedule : List ℕ) (j k : SinkTells) where
   done (Err _) text is put = absurd put.0
 
   fails : (x : Result Verdict Refusal) (text : List ℕ) → ends x ≡ status.Fails → IsPut x text
-      → (v : Verdict) × (v ≢ verdict.Reproduces) × IsReplayed program log schedule v × Wrote j k (verdict_line v)
+      → (v : Verdict) × (v ≢ verdict.Reproduces) × IsReplayed program log schedule v × Wrote j k (verdict_said v).1
   fails (Ok v) text is put = elim (good_or_bad v) [
     | inl good ↦ absurd (let other : status.Done ≡ status.Fails = sym good.1 ∙ is in cc)
     | inr bad ↦ (v, bad.0, put.0, subst (Wrote j k) put.1 put.2)
@@ -73,14 +73,14 @@ module _ (program log schedule : List ℕ) (j k : SinkTells) where
   fails (Err _) text is put = absurd put.0
 
   -- a verdict has none of the statuses of refusals
-  no_verdict : {P : Type 0} (v : Verdict) (s : Status) → verdict_status v ≡ s → s ≢ status.Done → s ≢ status.Fails → P
+  no_verdict : {P : Type 0} (v : Verdict) (s : Status) → (verdict_said v).0 ≡ s → s ≢ status.Done → s ≢ status.Fails → P
   no_verdict v s is no_done no_fails = elim (good_or_bad v) [
     | inl good ↦ absurd (no_done (sym is ∙ good.1))
     | inr bad ↦ absurd (no_fails (sym is ∙ bad.1))
   ]
 
   unread : (x : Result Verdict Refusal) (text : List ℕ) → ends x ≡ status.ProgramRefused → IsPut x text
-      → (fault : TextFault) × IsRefusal program fault × Wrote j k (program_line fault)
+      → (fault : TextFault) × IsRefusal program fault × Wrote j k (refusal_said (refusal.Program fault)).1
   unread (Ok v) text is put = no_verdict v status.ProgramRefused is (λ e. cc) (λ e. cc)
   unread (Err (refusal.Program fault)) text is put = (fault, put.0, subst (Wrote j k) put.1 put.2)
   unread (Err (refusal.Log r)) text is put = absurd (let bad : status.LogRefused ≡ status.ProgramRefused = is in cc)
@@ -88,7 +88,7 @@ module _ (program log schedule : List ℕ) (j k : SinkTells) where
   unread (Err _) text is put = absurd put.0
 
   unlogged : (x : Result Verdict Refusal) (text : List ℕ) → ends x ≡ status.LogRefused → IsPut x text
-      → (r : LogRefusal) × IsUnreplayed program log schedule (refusal.Log r) × Wrote j k (log_line r)
+      → (r : LogRefusal) × IsUnreplayed program log schedule (refusal.Log r) × Wrote j k (refusal_said (refusal.Log r)).1
   unlogged (Ok v) text is put = no_verdict v status.LogRefused is (λ e. cc) (λ e. cc)
   unlogged (Err (refusal.Log r)) text is put = (r, put.0, subst (Wrote j k) put.1 put.2)
   unlogged (Err (refusal.Program fault)) text is put = absurd (let bad : status.ProgramRefused ≡ status.LogRefused = is in cc)
@@ -96,7 +96,7 @@ module _ (program log schedule : List ℕ) (j k : SinkTells) where
   unlogged (Err _) text is put = absurd put.0
 
   unplanned : (x : Result Verdict Refusal) (text : List ℕ) → ends x ≡ status.InputRefused → IsPut x text
-      → (line : ℕ) × IsUnreplayed program log schedule (refusal.Schedule line) × Wrote j k (schedule_line line)
+      → (line : ℕ) × IsUnreplayed program log schedule (refusal.Schedule line) × Wrote j k (refusal_said (refusal.Schedule line)).1
   unplanned (Ok v) text is put = no_verdict v status.InputRefused is (λ e. cc) (λ e. cc)
   unplanned (Err (refusal.Schedule n)) text is put = (n, put.0, subst (Wrote j k) put.1 put.2)
   unplanned (Err (refusal.Program fault)) text is put = absurd (let bad : status.ProgramRefused ≡ status.InputRefused = is in cc)

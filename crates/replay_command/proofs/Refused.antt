@@ -28,10 +28,10 @@ module _ (program log schedule : List ℕ) where
 
   module _ (code : Code) (run : StoredLog) (programs : IsCodeOf program code) (logs : IsLog log run) where
     pub unread_schedule : (f : ScheduleFault) → IsFault schedule f → IsWhy (IsUnreplayed program log schedule) (schedule_fault f)
-    unread_schedule (Form line) h = (code, programs, run, logs, h)
+    unread_schedule (Form line) h = (record { code = code; run = run; programs = programs; logs = logs }, h)
     unread_schedule Memory h = tt
 
     pub foreign : (plan : Schedule) → IsSchedule schedule plan → (r : Refusal) → IsOther program run r → IsUnreplayed program log schedule r
     foreign plan plans (Log OtherProgram) h =
-        (record { code = code; run = run; plan = plan; programs = programs; logs = logs; schedules = plans }, h)
+        (record { pair = record { code = code; run = run; programs = programs; logs = logs }; plan = plan; schedules = plans }, h)
     foreign plan plans _ h = absurd h

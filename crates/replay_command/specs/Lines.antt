@@ -1,4 +1,4 @@
--- The line and the status of each verdict.
+-- The status and the line of each verdict.
 use Rattle.std.specs.Prelude.{ℕ, List, ◌++◌, codes}
 use Rattle.std.specs.Fmt.{decimal}
 use Rattle.run_log.specs.tc_base.Names.{name_text}
@@ -8,15 +8,16 @@ use Rattle.schedule_replay.specs.declared.verdict.Verdict.TheVariants as verdict
 use Rattle.command_frame.specs.declared.status.Status.{Status}
 use Rattle.command_frame.specs.declared.status.Status.TheVariants.{Done, Fails}
 
-abbrev pub verdict_line : Verdict → List ℕ
-verdict_line verdict.Reproduces = codes "reproduces\n"
-verdict_line (verdict.Stops n reason) =
-    codes "stops at move " ++ (decimal n ++ (codes ": " ++ (why_text reason ++ codes "\n")))
-verdict_line verdict.NoFailure = codes "no failure\n"
-verdict_line verdict.NotStuck = codes "not stuck\n"
-verdict_line (verdict.OtherFailure n) = codes "other failure " ++ (name_text n ++ codes "\n")
-verdict_line (verdict.OtherPath n) = codes "other path " ++ (name_text n ++ codes "\n")
-
-abbrev pub verdict_status : Verdict → Status
-verdict_status verdict.Reproduces = Done
-verdict_status _ = Fails
+abbrev pub verdict_said : Verdict → Status × List ℕ
+verdict_said verdict.Reproduces = (Done, codes "reproduces\n")
+verdict_said (verdict.Stops n reason) = (
+  Fails,
+  codes "stops at move "
+      ++ (decimal n ++ (codes ": " ++ (why_text reason ++ codes "\n"))),
+)
+verdict_said verdict.NoFailure = (Fails, codes "no failure\n")
+verdict_said verdict.NotStuck = (Fails, codes "not stuck\n")
+verdict_said (verdict.OtherFailure n) =
+    (Fails, codes "other failure " ++ (name_text n ++ codes "\n"))
+verdict_said (verdict.OtherPath n) =
+    (Fails, codes "other path " ++ (name_text n ++ codes "\n"))

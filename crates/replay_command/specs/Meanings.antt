@@ -7,7 +7,7 @@ use Rattle.command_inputs.specs.Limits.{log_limit, program_limit, schedule_limit
 use Rattle.command_inputs.specs.Outcomes.{outcome_status, outcome_text}
 use Rattle.command_inputs.specs.declared.refusal.Refusal.{Refusal}
 use Rattle.replay_command.specs.Causes.{Replays}
-use Rattle.replay_command.specs.Lines.{verdict_line, verdict_status}
+use Rattle.replay_command.specs.Lines.{verdict_said}
 
 -- the three files, by their names
 abbrev pub files_of : (program log schedule : List ℕ) → List Wanted
@@ -20,6 +20,6 @@ replay_of program log schedule = record {
   inputs = files_of program log schedule;
   ComesOf = Replays;
   keeps_of = λ _. [];
-  IsTextOf = λ outcome text. text ≡ outcome_text verdict_line outcome;
-  status_of = outcome_status verdict_status;
+  IsTextOf = λ outcome text. text ≡ outcome_text (λ v. (verdict_said v).1) outcome;
+  status_of = outcome_status (λ v. (verdict_said v).0);
 }

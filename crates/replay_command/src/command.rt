@@ -1,6 +1,6 @@
 //! The command.
 ghost use Rattle.std.specs.Prelude.{◌≡◌, IfOk, string_bytes};
-ghost use Rattle.replay_command.specs.Lines.{verdict_line, verdict_status};
+ghost use Rattle.replay_command.specs.Lines.{verdict_said};
 ghost use Rattle.replay_command.specs.Meanings.{replay_of};
 
 use crate::replay::replayed;
@@ -70,7 +70,7 @@ impl<'a> Work for Replay<'a> {
 
 /// The line that says a verdict.
 fn verdict_line(alloc: Global, verdict: &Verdict) -> Result<String, AllocError>
-    ensures { IfOk result (λ text. string_bytes text ≡ verdict_line verdict.now) }
+    ensures { IfOk result (λ text. string_bytes text ≡ (verdict_said verdict.now).1) }
 {
     match verdict {
         Verdict::Reproduces => String::from_str(alloc, "reproduces\n"),
@@ -84,7 +84,7 @@ fn verdict_line(alloc: Global, verdict: &Verdict) -> Result<String, AllocError>
 
 /// The status of a verdict.
 fn verdict_status(verdict: &Verdict) -> Status
-    ensures { result ≡ verdict_status verdict.now }
+    ensures { result ≡ (verdict_said verdict.now).0 }
 {
     match verdict {
         Verdict::Reproduces => Status::Done,

@@ -17,32 +17,33 @@ use Rattle.command_inputs.specs.Forms.{IsSchedule}
 use Rattle.log_tasks.specs.Tasks.{model_of}
 use Rattle.log_tasks.specs.Texts.{IsTextOf}
 use Rattle.command_ends.proofs.Ended.{Reports, declines, reported, reported_or_declined, result_at}
-use Rattle.log_tasks.proofs.Tasks.{not_possible, one_unsearched, task_or_refusal}
+use Rattle.log_tasks.specs.Asked.{ComesTo, inputs_of}
+use Rattle.log_tasks.proofs.Tasks.{one_unsearched, task_or_refusal}
 use Rattle.solve_command.specs.Answers.{SolveAnswers}
-use Rattle.solve_command.specs.Calls.{Solve, inputs_of}
-use Rattle.solve_command.specs.Meanings.{ComesTo, answer_line, answer_status, report_of, solve_of}
+use Rattle.solve_command.specs.Calls.{Solve}
+use Rattle.solve_command.specs.Meanings.{IsFound, answer_said, report_of, solve_of}
 use Rattle.solve_command.specs.declared.solution.Solution.{Solution}
 
 -- an answer with each status
-is_found : (a : Answer) → answer_status a ≡ Done → (s : Schedule) × (a ≡ Found s)
-is_found (Found s) is = (s, refl)
-is_found (Impossible _) is = absurd (let bad : Fails ≡ Done = is in cc)
-is_found (Spent _) is = absurd (let bad : Open ≡ Done = is in cc)
+is_found : (b : ℕ) (a : Answer) → (answer_said b a).0 ≡ Done → (s : Schedule) × (a ≡ Found s)
+is_found b (Found s) is = (s, refl)
+is_found b (Impossible _) is = absurd (let bad : Fails ≡ Done = is in cc)
+is_found b (Spent _) is = absurd (let bad : Open ≡ Done = is in cc)
 
-is_impossible : (a : Answer) → answer_status a ≡ Fails → (lines : List Line) × (a ≡ Impossible lines)
-is_impossible (Impossible lines) is = (lines, refl)
-is_impossible (Found _) is = absurd (let bad : Done ≡ Fails = is in cc)
-is_impossible (Spent _) is = absurd (let bad : Open ≡ Fails = is in cc)
+is_impossible : (b : ℕ) (a : Answer) → (answer_said b a).0 ≡ Fails → (lines : List Line) × (a ≡ Impossible lines)
+is_impossible b (Impossible lines) is = (lines, refl)
+is_impossible b (Found _) is = absurd (let bad : Done ≡ Fails = is in cc)
+is_impossible b (Spent _) is = absurd (let bad : Open ≡ Fails = is in cc)
 
-is_spent : (a : Answer) → answer_status a ≡ Open → (lines : List Line) × (a ≡ Spent lines)
-is_spent (Spent lines) is = (lines, refl)
-is_spent (Found _) is = absurd (let bad : Done ≡ Open = is in cc)
-is_spent (Impossible _) is = absurd (let bad : Fails ≡ Open = is in cc)
+is_spent : (b : ℕ) (a : Answer) → (answer_said b a).0 ≡ Open → (lines : List Line) × (a ≡ Spent lines)
+is_spent b (Spent lines) is = (lines, refl)
+is_spent b (Found _) is = absurd (let bad : Done ≡ Open = is in cc)
+is_spent b (Impossible _) is = absurd (let bad : Fails ≡ Open = is in cc)
 
-any_answer : (n : ℕ) (a : Answer) → n ≡ number_of (answer_status a) → (n ≡ 0) ⊎ (n ≡ 1) ⊎ (n ≡ 10)
-any_answer n (Found _) is = inl is
-any_answer n (Impossible _) is = inr (inl is)
-any_answer n (Spent _) is = inr (inr is)
+any_answer : (n b : ℕ) (a : Answer) → n ≡ number_of (answer_said b a).0 → (n ≡ 0) ⊎ (n ≡ 1) ⊎ (n ≡ 10)
+any_answer n b (Found _) is = inl is
+any_answer n b (Impossible _) is = inr (inl is)
+any_answer n b (Spent _) is = inr (inr is)
 
 module _ (call : Solve) (files : Files) (old new : ShelfTells) (number : ℕ) (before after : SinkTells) (told : old.held ≡ Some files)
     (runs : Runs (solve_of call) old new number before after) where
@@ -50,12 +51,12 @@ module _ (call : Solve) (files : Files) (old new : ShelfTells) (number : ℕ) (b
   e = record { status = number; held = new.held; before = before; after = after }
 
   abbrev IsReport : Solution → Type 0
-  IsReport x = Reports (inputs_of call) (ComesTo call) (report_of call) files e x
+  IsReport x = Reports (inputs_of call.asked) (ComesTo call.asked.model (IsFound call.budget)) (report_of call) files e x
 
   -- a solution whose answer is this one, under the memory model that is meant
   module _ (x : Solution) (r : IsReport x) (a : Answer) (is : x.answer ≡ a) where
     abbrev m : Model
-    m = model_of call.model r.comes.0.pair
+    m = model_of call.asked.model r.comes.0.pair
 
     answer : IsAnswer (buffer_of m) m (bound_of m) r.comes.0.pair.code r.comes.0.pair.run.log call.budget a
     answer = subst (IsAnswer (buffer_of m) m (bound_of m) r.comes.0.pair.code r.comes.0.pair.run.log call.budget) is r.comes.1.answer
@@ -63,34 +64,34 @@ module _ (call : Solve) (files : Files) (old new : ShelfTells) (number : ℕ) (b
     text : IsTextOf m a x.text.items
     text = subst (λ b. IsTextOf m b x.text.items) is r.comes.1.text
 
-    line : Wrote before after (answer_line call.budget a)
-    line = subst (λ b. Wrote before after (answer_line call.budget b)) is r.wrote
+    line : Wrote before after (answer_said call.budget a).1
+    line = subst (λ b. Wrote before after (answer_said call.budget b).1) is r.wrote
 
   pub solve_answers : SolveAnswers call files e
   solve_answers = record {
     found = λ is.
-        let o = result_at (inputs_of call) (ComesTo call) (report_of call) files old new number before after told runs Done tt is in
-        let f = is_found o.0.answer o.1 in
+        let o = result_at (inputs_of call.asked) (ComesTo call.asked.model (IsFound call.budget)) (report_of call) files old new number before after told runs Done tt is in
+        let f = is_found call.budget o.0.answer o.1 in
         let h = answer o.0 o.2 (Found f.0) f.1 in
         let schedule = subst (λ n. IsSchedule o.0.text.items (record { model = n; moves = f.0.moves.items })) h.0 (text o.0 o.2 (Found f.0) f.1) in
         (o.2.comes.0, f.0.moves.items, h.1, (o.0.text.items, schedule, (o.2.held, line o.0 o.2 (Found f.0) f.1)));
     impossible = λ is.
-        let o = result_at (inputs_of call) (ComesTo call) (report_of call) files old new number before after told runs Fails tt is in
-        let f = is_impossible o.0.answer o.1 in
+        let o = result_at (inputs_of call.asked) (ComesTo call.asked.model (IsFound call.budget)) (report_of call) files old new number before after told runs Fails tt is in
+        let f = is_impossible call.budget o.0.answer o.1 in
         let h = answer o.0 o.2 (Impossible f.0) f.1 in (
           o.2.comes.0,
-          not_possible call.model o.2.comes.0.pair h.1,
+          h.1,
           (f.0, h.0, (o.0.text.items, text o.0 o.2 (Impossible f.0) f.1, (o.2.held, line o.0 o.2 (Impossible f.0) f.1))),
         );
     spent = λ is.
-        let o = result_at (inputs_of call) (ComesTo call) (report_of call) files old new number before after told runs Open tt is in
-        let f = is_spent o.0.answer o.1 in (
+        let o = result_at (inputs_of call.asked) (ComesTo call.asked.model (IsFound call.budget)) (report_of call) files old new number before after told runs Open tt is in
+        let f = is_spent call.budget o.0.answer o.1 in (
           o.2.comes.0,
           (f.0, answer o.0 o.2 (Spent f.0) f.1, (o.0.text.items, text o.0 o.2 (Spent f.0) f.1, (o.2.held, line o.0 o.2 (Spent f.0) f.1))),
         );
     searched = λ t short.
-        elim (reported (inputs_of call) (ComesTo call) (report_of call) files old new number before after told runs short (task_or_refusal t)) [
-          | inl x ↦ elim (any_answer number x.0.answer x.1.status) [
+        elim (reported (inputs_of call.asked) (ComesTo call.asked.model (IsFound call.budget)) (report_of call) files old new number before after told runs short (task_or_refusal t)) [
+          | inl x ↦ elim (any_answer number call.budget x.0.answer x.1.status) [
             | inl zero ↦ inl zero
             | inr (inl one) ↦ inr (inl one)
             | inr (inr ten) ↦ inr (inr (inl ten))
@@ -98,11 +99,11 @@ module _ (call : Solve) (files : Files) (old new : ShelfTells) (number : ℕ) (b
           | inr fault ↦ inr (inr (inr fault))
         ];
     declines =
-        declines (inputs_of call) (ComesTo call) (report_of call) files old new number before after told runs
-        (one_unsearched (bytes_at files call.program) (bytes_at files call.log))
+        declines (inputs_of call.asked) (ComesTo call.asked.model (IsFound call.budget)) (report_of call) files old new number before after told runs
+        (one_unsearched (bytes_at files call.asked.program) (bytes_at files call.asked.log))
         (λ r x is comes. task_or_refusal comes.0 r is);
-    alone = elim (reported_or_declined (inputs_of call) (ComesTo call) (report_of call) files old new number before after told runs) [
-      | inl x ↦ elim (any_answer number x.0.answer x.1.status) [
+    alone = elim (reported_or_declined (inputs_of call.asked) (ComesTo call.asked.model (IsFound call.budget)) (report_of call) files old new number before after told runs) [
+      | inl x ↦ elim (any_answer number call.budget x.0.answer x.1.status) [
         | inl zero ↦ inl zero
         | inr (inl one) ↦ inr (inl one)
         | inr (inr ten) ↦ inr (inr (inl ten))

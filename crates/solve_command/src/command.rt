@@ -1,7 +1,7 @@
 //! The command.
 ghost use Rattle.std.specs.Prelude.{◌≡◌, IfOk, string_bytes};
-ghost use Rattle.solve_command.specs.Meanings.{answer_line, answer_status, solve_of};
-ghost use Rattle.solve_command.specs.helpers.Asked.{plain_solve};
+ghost use Rattle.solve_command.specs.Meanings.{answer_said, solve_of};
+ghost use Rattle.solve_command.specs.Calls.{plain_solve};
 
 use crate::search::searched;
 use crate::solution::Solution;
@@ -55,7 +55,11 @@ impl<'a> Command for Solve<'a> {
 
     fn status(&self, outcome: &Result<Solution, Refusal>) -> Status {
         match outcome {
-            Ok(solution) => answer_status(&solution.answer),
+            Ok(solution) => match &solution.answer {
+                Answer::Found(_) => Status::Done,
+                Answer::Impossible(_) => Status::Fails,
+                Answer::Spent(_) => Status::Open,
+            },
             Err(refusal) => refusal.status(),
         }
     }
@@ -83,22 +87,11 @@ impl<'a> Work for Solve<'a> {
 
 /// The line for what a search with this budget found.
 fn answer_line(alloc: Global, budget: Budget, answer: &Answer) -> Result<String, AllocError>
-    ensures { IfOk result (λ text. string_bytes text ≡ answer_line budget.conflicts answer.now) }
+    ensures { IfOk result (λ text. string_bytes text ≡ (answer_said budget.conflicts answer.now).1) }
 {
     match answer {
         Answer::Found(schedule) => moves_line(alloc, schedule),
         Answer::Impossible(derivation) => impossible_line(alloc, derivation),
         Answer::Spent(_) => spent_line(alloc, budget.conflicts),
-    }
-}
-
-/// Its status.
-fn answer_status(answer: &Answer) -> Status
-    ensures { result ≡ answer_status answer.now }
-{
-    match answer {
-        Answer::Found(_) => Status::Done,
-        Answer::Impossible(_) => Status::Fails,
-        Answer::Spent(_) => Status::Open,
     }
 }

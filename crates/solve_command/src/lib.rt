@@ -6,7 +6,7 @@ ghost use Rattle.std.specs.Prelude.{IfSome};
 ghost use Rattle.command_frame.specs.Run.{Runs};
 ghost use Rattle.solve_command.specs.Answers.{SolveAnswers};
 ghost use Rattle.solve_command.specs.Meanings.{solve_of};
-ghost use Rattle.solve_command.specs.helpers.Asked.{plain_solve};
+ghost use Rattle.solve_command.specs.Calls.{plain_solve};
 
 mod command;
 mod search;

@@ -10,16 +10,16 @@ use Rattle.clap_debug_cli.specs.command_frame.declared.status.Status.TheVariants
 use Rattle.clap_debug_cli.specs.check_command.Meanings.{check_of}
 use Rattle.clap_debug_cli.specs.refutation_verdicts.Verdicts.{verdict_status}
 use Rattle.clap_debug_cli.specs.cnf_command.Meanings.{cnf_of}
-use Rattle.clap_debug_cli.specs.import_command.Lines.{imported_status}
+use Rattle.clap_debug_cli.specs.import_command.Lines.{imported_said}
 use Rattle.clap_debug_cli.specs.import_command.Meanings.{import_of}
-use Rattle.clap_debug_cli.specs.least_command.Meanings.{least_of, least_status}
+use Rattle.clap_debug_cli.specs.least_command.Meanings.{least_of, least_said}
 use Rattle.clap_debug_cli.specs.list_command.Listing.{list_of}
 use Rattle.clap_debug_cli.specs.migrate_command.Meanings.{migrate_of}
-use Rattle.clap_debug_cli.specs.record_command.Lines.{ran_status}
+use Rattle.clap_debug_cli.specs.record_command.Lines.{ran_said}
 use Rattle.clap_debug_cli.specs.record_command.Meanings.{record_of}
-use Rattle.clap_debug_cli.specs.replay_command.Lines.{verdict_status as replayed_status}
+use Rattle.clap_debug_cli.specs.replay_command.Lines.{verdict_said}
 use Rattle.clap_debug_cli.specs.replay_command.Meanings.{replay_of}
-use Rattle.clap_debug_cli.specs.solve_command.Meanings.{answer_status, solve_of}
+use Rattle.clap_debug_cli.specs.solve_command.Meanings.{answer_said, solve_of}
 use Rattle.clap_debug_cli.specs.why_command.Meanings.{why_of}
 use Rattle.clap_debug_cli.specs.workload_command.Lines.{has_spent, work_status}
 use Rattle.clap_debug_cli.specs.workload_command.Meanings.{workload_of}
@@ -35,15 +35,15 @@ module _ (old new : ShelfTells) (number : ℕ) (j k : SinkTells) (quiet : new.fa
       → ((A : Type 0) (m : Meaning A) → ((x : A) → IsSound (m.status_of x)) → (HasEntire m.inputs → ReadsEntire call) → Runs m old new number j k → P) → P
   with_meaning (Lists program) P runs f = f _ (list_of program) (sound_outcome (λ _. Done) (λ _. tt)) (λ h. h) runs
   with_meaning (Replays program log schedule) P runs f =
-      f _ (replay_of program log schedule) (sound_outcome replayed_status sound_replayed) (λ h. h) runs
-  with_meaning (Records call) P runs f = f _ (record_of call) (sound_outcome ran_status sound_ran) (λ h. h) runs
+      f _ (replay_of program log schedule) (sound_outcome (λ v. (verdict_said v).0) sound_replayed) (λ h. h) runs
+  with_meaning (Records call) P runs f = f _ (record_of call) (sound_outcome (λ x. (ran_said x).0) sound_ran) (λ h. h) runs
   with_meaning (Migrates call) P runs f = f _ (migrate_of call) (sound_outcome (λ _. Done) (λ _. tt)) (λ h. h) runs
-  with_meaning (Solves call) P runs f = f _ (solve_of call) (sound_outcome (λ x. answer_status x.answer) (λ x. sound_answer x.answer)) (λ h. h) runs
-  with_meaning (Minimizes call) P runs f = f _ (least_of call) (sound_outcome (λ x. least_status x.least) (λ x. sound_least x.least)) (λ h. h) runs
+  with_meaning (Solves call) P runs f = f _ (solve_of call) (sound_outcome (λ x. (answer_said call.budget x.answer).0) (λ x. sound_answer call.budget x.answer)) (λ h. h) runs
+  with_meaning (Minimizes call) P runs f = f _ (least_of call) (sound_outcome (λ x. (least_said call.budget x.least).0) (λ x. sound_least call.budget x.least)) (λ h. h) runs
   with_meaning (Checks call) P runs f = f _ (check_of call) (sound_outcome verdict_status sound_verdict) (λ h. h) runs
   with_meaning (Workloads call) P runs f = f _ (workload_of call) (sound_outcome work_status (λ x. sound_work (has_spent x))) (λ h. h) runs
   with_meaning (Exports call) P runs f = f _ (cnf_of call) (sound_outcome (λ _. Done) (λ _. tt)) (λ h. h) runs
-  with_meaning (Imports call) P runs f = f _ (import_of call) (sound_outcome imported_status sound_imported) (λ h. h) runs
+  with_meaning (Imports call) P runs f = f _ (import_of call) (sound_outcome (λ x. (imported_said x).0) sound_imported) (λ h. h) runs
   with_meaning (Explains call) P runs f = f _ (why_of call) (sound_outcome verdict_status sound_verdict) (λ h. tt) runs
 
   said_usage : number ≡ 8 → SaysLine usage_text Usage number j k → ⊥

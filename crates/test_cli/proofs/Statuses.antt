@@ -1,5 +1,5 @@
 -- No outcome has the status of a fault.
-use Rattle.std.proofs.Common.{Result, Ok, Err, Bool, true, false}
+use Rattle.std.proofs.Common.{ℕ, Result, Ok, Err, Bool, true, false}
 use Rattle.std.specs.Prelude.{if◌then◌else◌}
 use Rattle.clap_debug_cli.specs.clap_solve.declared.answer.Answer.{Answer}
 use Rattle.clap_debug_cli.specs.clap_solve.declared.answer.Answer.TheVariants as answer
@@ -15,17 +15,17 @@ use Rattle.clap_debug_cli.specs.command_inputs.declared.refusal.Refusal.TheVaria
 use Rattle.clap_debug_cli.specs.refutation_verdicts.Verdicts.{verdict_status}
 use Rattle.clap_debug_cli.specs.refutation_verdicts.declared.verdict.Verdict.{Verdict}
 use Rattle.clap_debug_cli.specs.refutation_verdicts.declared.verdict.Verdict.TheVariants as verdict
-use Rattle.clap_debug_cli.specs.import_command.Lines.{imported_status}
+use Rattle.clap_debug_cli.specs.import_command.Lines.{imported_said}
 use Rattle.clap_debug_cli.specs.import_command.declared.imported.Imported.{Imported}
 use Rattle.clap_debug_cli.specs.import_command.declared.imported.Imported.TheVariants as imported
-use Rattle.clap_debug_cli.specs.least_command.Meanings.{least_status}
-use Rattle.clap_debug_cli.specs.record_command.Lines.{ending_status, ran_status}
+use Rattle.clap_debug_cli.specs.least_command.Meanings.{least_said}
+use Rattle.clap_debug_cli.specs.record_command.Lines.{ending_said, ran_said}
 use Rattle.clap_debug_cli.specs.record_command.declared.ending.Ending.{Ending}
 use Rattle.clap_debug_cli.specs.record_command.declared.ending.Ending.TheVariants as ending
 use Rattle.clap_debug_cli.specs.record_command.declared.ending.Ran.{Ran}
 use Rattle.clap_debug_cli.specs.record_command.declared.ending.Ran.TheVariants as ran
-use Rattle.clap_debug_cli.specs.replay_command.Lines.{verdict_status as replayed_status}
-use Rattle.clap_debug_cli.specs.solve_command.Meanings.{answer_status}
+use Rattle.clap_debug_cli.specs.replay_command.Lines.{verdict_said}
+use Rattle.clap_debug_cli.specs.solve_command.Meanings.{answer_said}
 use Rattle.test_cli.proofs.Surely.{IsSound}
 
 pub sound_outcome : {R : Type 0} (status_of : R → Status) → ((x : R) → IsSound (status_of x)) → (x : Result R Refusal) → IsSound (outcome_status status_of x)
@@ -37,7 +37,7 @@ sound_outcome status_of sound (Err (refusal.Schedule _)) = tt
 sound_outcome status_of sound (Err (refusal.Refutation _)) = tt
 sound_outcome status_of sound (Err (refusal.Answer _)) = tt
 
-pub sound_replayed : (v : Replayed) → IsSound (replayed_status v)
+pub sound_replayed : (v : Replayed) → IsSound (verdict_said v).0
 sound_replayed replayed.Reproduces = tt
 sound_replayed (replayed.Stops _ _) = tt
 sound_replayed replayed.NoFailure = tt
@@ -45,32 +45,32 @@ sound_replayed replayed.NotStuck = tt
 sound_replayed (replayed.OtherFailure _) = tt
 sound_replayed (replayed.OtherPath _) = tt
 
-sound_ending : (e : Ending) → IsSound (ending_status e)
+sound_ending : (e : Ending) → IsSound (ending_said e).0
 sound_ending ending.Finished = tt
 sound_ending (ending.StepLimit _) = tt
 sound_ending (ending.Over _) = tt
 
-pub sound_ran : (x : Ran) → IsSound (ran_status x)
+pub sound_ran : (x : Ran) → IsSound (ran_said x).0
 sound_ran (ran.Logged _ _) = tt
 sound_ran (ran.Unlogged e) = sound_ending e
 
-pub sound_answer : (x : Answer) → IsSound (answer_status x)
-sound_answer (answer.Found _) = tt
-sound_answer (answer.Impossible _) = tt
-sound_answer (answer.Spent _) = tt
+pub sound_answer : (budget : ℕ) (x : Answer) → IsSound (answer_said budget x).0
+sound_answer budget (answer.Found _) = tt
+sound_answer budget (answer.Impossible _) = tt
+sound_answer budget (answer.Spent _) = tt
 
-pub sound_least : (x : Least) → IsSound (least_status x)
-sound_least (least.Found _ _ _) = tt
-sound_least (least.Impossible _) = tt
-sound_least (least.Spent _) = tt
-sound_least (least.SpentAt _ _ _) = tt
+pub sound_least : (budget : ℕ) (x : Least) → IsSound (least_said budget x).0
+sound_least budget (least.Found _ _ _) = tt
+sound_least budget (least.Impossible _) = tt
+sound_least budget (least.Spent _) = tt
+sound_least budget (least.SpentAt _ _ _) = tt
 
 pub sound_verdict : {A : Type 0} (v : Verdict A) → IsSound (verdict_status v)
 sound_verdict (verdict.Closed _) = tt
 sound_verdict verdict.Open = tt
 sound_verdict (verdict.LineRefused _) = tt
 
-pub sound_imported : (x : Imported) → IsSound (imported_status x)
+pub sound_imported : (x : Imported) → IsSound (imported_said x).0
 sound_imported (imported.Found _ _) = tt
 sound_imported (imported.False _) = tt
 

@@ -4,11 +4,11 @@ ghost use Rattle.log_walk.specs.Given.{IsOne};
 
 use crate::threads::code_of;
 use anyhow::{Context, Result, bail};
-use log_walk::{Bounds, Given, Kind, LeftOut, first_threads, next_threads};
+use log_walk::{Bounds, Given, Kind, LeftOut, Program, first_threads, next_threads};
 use run_log::ThreadPath;
+use slot_liveness::live_slots;
 use std::alloc::Global;
 use std::fmt::Write;
-use tc_code::Code;
 
 /// The greatest number of logs in a row.
 const MOST: u32 = 1_000;
@@ -67,25 +67,25 @@ fn push_end(text: &mut String, out: LeftOut) -> Result<()> {
 /// The first log, or the one after a given log.
 fn following(
     alloc: Global,
-    code: &Code,
+    program: Program<'_>,
     bounds: Bounds,
     last: &Option<Vec<ThreadPath>>,
 ) -> Result<Given>
-    requires { IfSome (option_map (λ v. v.items) last.now) (IsOne code.now bounds) }
-    ensures { IfOk result (λ given. IfSome given.threads (IsOne code.now bounds)) }
+    requires { IfSome (option_map (λ v. v.items) last.now) (IsOne program.code.now bounds) }
+    ensures { IfOk result (λ given. IfSome given.threads (IsOne program.entry.code.now bounds)) }
 {
     match last {
-        Some(threads) => Ok(next_threads(alloc, code, bounds, threads)?),
-        None => Ok(first_threads(alloc, code, bounds)?),
+        Some(threads) => Ok(next_threads(alloc, program, bounds, threads)?),
+        None => Ok(first_threads(alloc, program, bounds)?),
     }
 }
 
 /// The logs, one after another.
-fn all_logs(alloc: Global, code: &Code, bounds: Bounds) -> Result<String> {
+fn all_logs(alloc: Global, program: Program<'_>, bounds: Bounds) -> Result<String> {
     let mut text = String::new(alloc);
     let mut last = None;
     'logs: for _ in 0..MOST {
-        let given = following(alloc, code, bounds, &last)?;
+        let given = following(alloc, program, bounds, &last)?;
         last = given.threads;
         match &last {
             Some(threads) => push_log(&mut text, threads)?,
@@ -103,5 +103,10 @@ pub(crate) fn logs(alloc: Global, given: &str) -> Result<String> {
     let (words, program) = given.split_once(" : ").context("no program")?;
     let bounds = bounds_of(words)?;
     let code = code_of(alloc, program.as_bytes())?;
-    all_logs(alloc, &code, bounds)
+    let live = live_slots(alloc, &code)?;
+    let program = Program {
+        code: &code,
+        live: &live,
+    };
+    all_logs(alloc, program, bounds)
 }

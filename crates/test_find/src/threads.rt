@@ -2,12 +2,13 @@
 ghost use Rattle.std.specs.Prelude.{◌≤◌, length, IfOk, IfSome};
 
 use anyhow::{Context, Result, bail};
+use slot_liveness::live_slots;
 use std::alloc::Global;
 use std::fmt::Write;
 use tc_code::Code;
 use tc_compile::compile;
 use tc_limits::limits::PROGRAM_BYTES;
-use thread_paths::{Aim, Cut, End, Found, Path, Scope, first_path, next_path};
+use thread_paths::{Aim, Cut, End, Found, Path, Program, Scope, first_path, next_path};
 
 /// The greatest number of paths in a row.
 const MOST: u32 = 1_000;
@@ -77,13 +78,13 @@ pub(crate) fn code_of(alloc: Global, text: &[u8]) -> Result<Code> {
 }
 
 /// The first path, or the one after a given path.
-fn following(alloc: Global, code: &Code, scope: Scope, last: Option<Path>) -> Result<Found>
+fn following(alloc: Global, program: Program<'_>, scope: Scope, last: Option<Path>) -> Result<Found>
     requires { IfSome last (λ p. length p.outcomes ≤ scope.most) }
     ensures { IfOk result (λ found. IfSome found.path (λ p. length p.outcomes ≤ scope.most)) }
 {
     match last {
-        Some(path) => Ok(next_path(alloc, code, scope, path)?),
-        None => Ok(first_path(alloc, code, scope)?),
+        Some(path) => Ok(next_path(alloc, program, scope, path)?),
+        None => Ok(first_path(alloc, program, scope)?),
     }
 }
 
@@ -92,6 +93,11 @@ pub(crate) fn paths(alloc: Global, given: &str) -> Result<String> {
     let (words, program) = given.split_once(" : ").context("no program")?;
     let scope = scope_of(words)?;
     let code = code_of(alloc, program.as_bytes())?;
+    let live = live_slots(alloc, &code)?;
+    let program = Program {
+        code: &code,
+        live: &live,
+    };
     let mut text = String::new(alloc);
     let mut cut = Cut {
         outcomes: false,
@@ -99,7 +105,7 @@ pub(crate) fn paths(alloc: Global, given: &str) -> Result<String> {
     };
     let mut last = None;
     'paths: for _ in 0..MOST {
-        let found = following(alloc, &code, scope, last)?;
+        let found = following(alloc, program, scope, last)?;
         cut = both(cut, found.cut);
         last = found.path;
         match &last {

@@ -5,3 +5,4 @@ pub mod Nodes
 pub mod Steps
 pub mod Searches
 pub mod Taken
+pub mod Turned

@@ -1,6 +1,6 @@
 -- One descent, node by node.
 use Rattle.std.proofs.Common.{◌≡◌, ◌∙◌, ℕ, zero, suc, ◌+◌, ◌<◌, ◌≤◌, inl, inr, Bool, true, false, not, ◌&&◌, List, [], ◌∷◌, ◌++◌, length, get_or}
-use Rattle.std.proofs.Common.{Some, None, refl, ap, sym, subst, arith, append_assoc, append-nil, add-zero, zero-add, eq-eqb}
+use Rattle.std.proofs.Common.{Some, None, Result, Ok, Err, refl, ap, sym, subst, arith, append_assoc, append-nil, add-zero, zero-add, eq-eqb}
 use Rattle.std.specs.Prelude.{◌⊎◌, ◌==◌, nat_le, if◌then◌else◌}
 use Rattle.std.specs.Option.{option_map_or}
 use Rattle.std.proofs.lemmas.Bool.{and_parts, eqb-true, not-true}
@@ -12,12 +12,16 @@ use Rattle.tc_code.specs.declared.instr.Instr.{Instr}
 use Rattle.tc_code.specs.declared.instr.Instr.TheVariants.{Branch, Goto}
 use Rattle.thread_marks.specs.path_walk.Events.{excludes}
 use Rattle.thread_marks.specs.path_walk.Marks.{Marks, marks_at_start, marks_after_instr}
-use Rattle.thread_marks.specs.path_walk.Steps.{Onward, onward}
-use Rattle.thread_marks.specs.Own.{Own, own_of}
+use Rattle.thread_marks.specs.path_walk.Steps.{Onward, onward, places_from}
+use Rattle.thread_marks.specs.path_walk.declared.fault.Misfit.{Misfit}
+use Rattle.thread_marks.specs.path_walk.helpers.Accounts.{prefixed}
+use Rattle.thread_marks.proofs.path_walk.Places.{step_more, prefixed_before}
+use Rattle.thread_marks.specs.Own.{own_of}
 use Rattle.thread_paths.specs.Order.{is_from}
 use Rattle.thread_paths.specs.declared.aim.Aim.{Aim}
 use Rattle.thread_paths.specs.declared.aim.Scope.{Scope}
 use Rattle.thread_paths.specs.declared.descent.At.{At}
+use Rattle.thread_paths.specs.declared.past.Past.{Past}
 use Rattle.thread_paths.specs.helpers.Descents.{is_branch, place_after, is_last, goes, takes, leaves_behind, at_after, is_end}
 use Rattle.thread_paths.specs.helpers.Descents.{IsPushed, Passes, IsNode, IsLowest, IsSpent, worth}
 use Rattle.thread_paths.proofs.Outcomes.{all_from, behind_from, front_from, behind_after, behind_added, behind_less, worth_added, GoesOn}
@@ -145,7 +149,7 @@ module _ (code : Code) (scope : Scope) where
 
   module _ (start : List Bool) (first n : ℕ) where
     -- one more false
-    module _ (i : Instr) (at at' : At) (o o' : List Bool) (own : Own) (node : IsNode code scope start first n at o own)
+    module _ (i : Instr) (at at' : At) (o o' : List Bool) (past : Past) (node : IsNode code scope start first n at o past)
         (there : instr_at code scope.function at.place ≡ Some i) (pushed : IsPushed scope.most i at o o' at') where
       no_rest : (rest : List Bool) → o ≡ node.done ++ rest → rest ≡ []
       no_rest [] is = refl
@@ -185,7 +189,7 @@ module _ (code : Code) (scope : Scope) where
           ap (λ x. is_from start first x s) (on.is ∙ ap (λ x. x ++ true ∷ on.later) is_done)
           ∙ node.back (true ∷ on.later) s (ap (λ x. is_from x at.least (true ∷ on.later) s) (no_rest node.rest node.whole))
 
-      pub pushed_node : IsNode code scope start first n at' o' own
+      pub pushed_node : IsNode code scope start first n at' o' past
       pushed_node = record {
         marks = node.marks;
         is = node.is;
@@ -196,13 +200,16 @@ module _ (code : Code) (scope : Scope) where
         few = omega (arith, ap length pushed.added, length-append o (false ∷ []), pushed.room);
         value = ap (worth scope.most) pushed.added ∙ worth_added scope.most o ∙ node.value;
         same = λ m r. node.same m r ∙ ap (λ k. goes code scope.function scope.aim m node.marks k r) (sym (ap (λ (a : At). a.place) pushed.is));
+        long = node.long;
+        along = λ m r. node.along m r
+            ∙ ap (λ k. prefixed past.places.items (places_from code scope.function m k r)) (sym (ap (λ (a : At). a.place) pushed.is));
         back = λ r s from. back_more r s (ap (λ k. is_from (false ∷ []) k r s) (sym (ap (λ (a : At). a.least) pushed.is)) ∙ from);
         behind = λ q s is. behind_more q s (behind_less o q (ap (λ x. leaves_behind x q) (sym pushed.added) ∙ is));
         left = λ q s may from. subst (λ k. (leaves_behind o' q ≡ true) ⊎ Passes n node.done (false ∷ []) k q s)
             (sym (ap (λ (a : At). a.least) pushed.is)) (left_more q s may (node.left q s may from));
       }
 
-    module _ (at : At) (o : List Bool) (own : Own) (node : IsNode code scope start first n at o own) where
+    module _ (at : At) (o : List Bool) (past : Past) (node : IsNode code scope start first n at o past) where
       -- no path goes on, except those with an excuse
       spent_by : (Excused : List Bool → ℕ → Type 0)
           → ((q : List Bool) (s : ℕ) → takes code scope q s ≡ true → Passes n node.done node.rest at.least q s → Excused q s)
@@ -385,8 +392,20 @@ module _ (code : Code) (scope : Scope) where
               ∙ goes_more code scope.function scope.aim node.marks at.place (piece_is.piece ++ r) i there (to next.place r) (leads r) m
               ∙ ap (λ v. not v && goes code scope.function scope.aim m (marks_after_instr node.marks i) next.place r) can
 
-          pub next_node : (own' : Own) → own' ≡ own_of (marks_after_instr node.marks i) → IsNode code scope start first (n + 1) next o own'
-          next_node own' is = record {
+          along_on : (m : ℕ) (r : List Bool) → places_from code scope.function ((n + 1) + m) 0 (done ++ r)
+              ≡ prefixed (past.places.items ++ at.place ∷ []) (places_from code scope.function m next.place r)
+          along_on m r =
+              let steps : (n + 1) + m ≡ n + suc m = omega arith in
+              ap (λ k. places_from code scope.function k 0 (done ++ r)) steps
+              ∙ ap (places_from code scope.function (n + suc m) 0) (append_assoc node.done piece_is.piece r)
+              ∙ node.along (suc m) (piece_is.piece ++ r)
+              ∙ ap (prefixed past.places.items)
+              (step_more code scope.function (suc m) m at.place (piece_is.piece ++ r) i (to next.place r) (omega arith) there (leads r))
+              ∙ prefixed_before past.places.items at.place (places_from code scope.function m next.place r)
+
+          pub next_node : (past' : Past) → past'.own ≡ own_of (marks_after_instr node.marks i) → past'.places.items ≡ past.places.items ++ at.place ∷ []
+              → IsNode code scope start first (n + 1) next o past'
+          next_node past' is places = record {
             marks = marks_after_instr node.marks i;
             is = is;
             done = done;
@@ -396,6 +415,8 @@ module _ (code : Code) (scope : Scope) where
             few = node.few;
             value = node.value;
             same = same_on;
+            long = ap length places ∙ length-append past.places.items (at.place ∷ []) ∙ ap (λ k. k + 1) node.long;
+            along = λ m r. along_on m r ∙ ap (λ ps. prefixed ps (places_from code scope.function m next.place r)) (sym places);
             back = λ r s from. ap (λ x. is_from start first x s) (append_assoc node.done piece_is.piece r)
                 ∙ node.back (piece_is.piece ++ r) s (piece_is.back at.least r s from);
             behind = node.behind;
@@ -480,9 +501,13 @@ module _ (code : Code) (scope : Scope) where
     first_left q (suc n) may from =
         inr (record { later = q; more = n; outcomes = refl; steps = omega arith; within = from })
 
-    pub first_node : (own : Own) → own ≡ own_of (marks_at_start code scope.function)
-        → IsNode code scope o least 0 (record { place = 0; used = 0; least = least }) o own
-    first_node own is = record {
+    none_before : (r : Result (List ℕ) Misfit) → r ≡ prefixed [] r
+    none_before (Ok places) = refl
+    none_before (Err fault) = refl
+
+    pub first_node : (past : Past) → past.own ≡ own_of (marks_at_start code scope.function) → past.places.items ≡ []
+        → IsNode code scope o least 0 (record { place = 0; used = 0; least = least }) o past
+    first_node past is none = record {
       marks = marks_at_start code scope.function;
       is = is;
       done = [];
@@ -492,6 +517,9 @@ module _ (code : Code) (scope : Scope) where
       few = few;
       value = refl;
       same = λ m r. ap (λ k. ways k r) (zero-add m);
+      long = ap length none;
+      along = λ m r. ap (λ k. places_from code scope.function k 0 r) (zero-add m) ∙ none_before (places_from code scope.function m 0 r)
+          ∙ ap (λ ps. prefixed ps (places_from code scope.function m 0 r)) (sym none);
       back = λ r s from. from;
       behind = λ q s is. behind_from o least q s is;
       left = first_left;

@@ -4,11 +4,13 @@ use Rattle.std.specs.Prelude.{◌⊎◌}
 use Rattle.std.proofs.lemmas.Bool.{lt-leb}
 use Rattle.tc_code.specs.tc_base.Paths.{Path}
 use Rattle.tc_code.specs.Code.{Code}
+use Rattle.slot_liveness.specs.pure_turns.Live.{Liveness}
 use Rattle.thread_paths.specs.Order.{is_from}
 use Rattle.thread_paths.specs.Search.{Found, IsLeftOut, IsNotAfter, IsFirst}
+use Rattle.thread_paths.specs.Turns.{HasTurn}
 use Rattle.thread_paths.specs.declared.aim.Scope.{Scope}
 use Rattle.thread_paths.specs.declared.descent.Reason.{Reason}
-use Rattle.thread_paths.specs.declared.descent.Reason.TheVariants.{Dead, TooMany, TooLong}
+use Rattle.thread_paths.specs.declared.descent.Reason.TheVariants.{Dead, TooMany, TooLong, Turn}
 use Rattle.thread_paths.specs.declared.found.Cut.{Cut}
 use Rattle.thread_paths.specs.helpers.Descents.{leaves_behind, takes, worth, cut_by, TurnsTo, IsExcused, IsLowest, IsSpent}
 use Rattle.thread_paths.proofs.Outcomes.{worth_below}
@@ -20,19 +22,27 @@ path o s = record { outcomes = o; steps = s }
 abbrev pub found : Option Path → Cut → Found
 found p cut = record { path = p; cut = cut }
 
--- paths that are left out stay so with one more reason
-kept_out : (scope : Scope) (cut : Cut) (why : Reason) (q : Path) → IsLeftOut scope cut q → IsLeftOut scope (cut_by cut why) q
-kept_out scope cut Dead q out = out
-kept_out scope cut TooMany q (inl out) = inl (out.0, refl)
-kept_out scope cut TooMany q (inr out) = inr out
-kept_out scope cut TooLong q (inl out) = inl out
-kept_out scope cut TooLong q (inr out) = inr (out.0, refl)
+module _ (code : Code) (live : Liveness) (scope : Scope) where
+  -- a path is left out, or shows a turn
+  abbrev pub IsMissed : Cut → Path → Type 0
+  IsMissed cut q = IsLeftOut scope cut q ⊎ HasTurn code live scope.function q
 
--- paths with an excuse are left out
-excused_out : (scope : Scope) (cut : Cut) (why : Reason) (q : Path) → IsExcused scope why q.outcomes q.steps → IsLeftOut scope (cut_by cut why) q
-excused_out scope cut Dead q never = absurd never
-excused_out scope cut TooMany q more = inl (more, refl)
-excused_out scope cut TooLong q more = inr (more, refl)
+  -- paths that are missed stay so with one more reason
+  kept_out : (cut : Cut) (why : Reason) (q : Path) → IsMissed cut q → IsMissed (cut_by cut why) q
+  kept_out cut why q (inr turn) = inr turn
+  kept_out cut Dead q (inl out) = inl out
+  kept_out cut Turn q (inl out) = inl out
+  kept_out cut TooMany q (inl (inl out)) = inl (inl (out.0, refl))
+  kept_out cut TooMany q (inl (inr out)) = inl (inr out)
+  kept_out cut TooLong q (inl (inl out)) = inl (inl out)
+  kept_out cut TooLong q (inl (inr out)) = inl (inr (out.0, refl))
+
+  -- paths with an excuse are missed
+  excused_out : (cut : Cut) (why : Reason) (q : Path) → IsExcused code live scope why q.outcomes q.steps → IsMissed (cut_by cut why) q
+  excused_out cut Dead q never = absurd never
+  excused_out cut TooMany q more = inl (inl (more, refl))
+  excused_out cut TooLong q more = inl (inr (more, refl))
+  excused_out cut Turn q turn = inr turn
 
 pub none_behind : (o : List Bool) → leaves_behind o [] ≡ false
 none_behind [] = refl
@@ -43,13 +53,13 @@ pub none_later : (stays : Bool) (o : List Bool) (n : ℕ) → (stays && is_from 
 none_later stays [] n = ap (λ v. stays && v) (lt-leb (n + 1) 0 (omega arith)) ∙ and_none stays
 none_later stays (b ∷ o) n = and_none stays
 
-module _ (code : Code) (scope : Scope) (start : List Bool) (first : ℕ) where
+module _ (code : Code) (live : Liveness) (scope : Scope) (start : List Bool) (first : ℕ) where
   -- the rest of the search
   pub record IsLeft (o : List Bool) (least : ℕ) (cut : Cut) : Type 0 where
     pub few : length o ≤ scope.most
     pub back : (q : List Bool) (s : ℕ) → is_from o least q s ≡ true → is_from start first q s ≡ true
     pub others : (q : List Bool) (s : ℕ) → takes code scope q s ≡ true → is_from start first q s ≡ true
-        → (is_from o least q s ≡ true) ⊎ IsLeftOut scope cut (path q s)
+        → (is_from o least q s ≡ true) ⊎ IsMissed code live scope cut (path q s)
     pub steps : (takes code scope [] 0 && is_from o least [] 0) ≡ false
 
   pub all_left : (cut : Cut) → length start ≤ scope.most → (takes code scope [] 0 && is_from start first [] 0) ≡ false → IsLeft start first cut
@@ -58,12 +68,12 @@ module _ (code : Code) (scope : Scope) (start : List Bool) (first : ℕ) where
   module _ (o : List Bool) (least : ℕ) (cut : Cut) (left : IsLeft o least cut) (o' : List Bool) where
     -- a path was found
     module _ (n : ℕ) (lowest : IsLowest code scope o least o' n) where
-      found_others : (q : List Bool) (s : ℕ) → takes code scope q s ≡ true → (is_from o least q s ≡ true) ⊎ IsLeftOut scope cut (path q s)
-          → IsNotAfter (Some (path o' n)) (path q s) ⊎ IsLeftOut scope cut (path q s)
+      found_others : (q : List Bool) (s : ℕ) → takes code scope q s ≡ true → (is_from o least q s ≡ true) ⊎ IsMissed code live scope cut (path q s)
+          → IsNotAfter (Some (path o' n)) (path q s) ⊎ IsMissed code live scope cut (path q s)
       found_others q s may (inl from) = inl (lowest.others q s may from)
       found_others q s may (inr out) = inr out
 
-      pub is_found : IsFirst code scope (path start first) (found (Some (path o' n)) cut)
+      pub is_found : IsFirst code live scope (path start first) (found (Some (path o' n)) cut)
       is_found = record {
         takes = may_take code scope o' n lowest.may;
         within = left.back o' n lowest.within;
@@ -73,28 +83,28 @@ module _ (code : Code) (scope : Scope) (start : List Bool) (first : ℕ) where
       }
 
     -- no path was found
-    module _ (why : Reason) (spent : IsSpent code scope o least o' (IsExcused scope why)) where
-      excused : (q : List Bool) (s : ℕ) → (leaves_behind o' q ≡ true) ⊎ IsExcused scope why q s
-          → (leaves_behind o' q ≡ true) ⊎ IsLeftOut scope (cut_by cut why) (path q s)
+    module _ (why : Reason) (spent : IsSpent code scope o least o' (IsExcused code live scope why)) where
+      excused : (q : List Bool) (s : ℕ) → (leaves_behind o' q ≡ true) ⊎ IsExcused code live scope why q s
+          → (leaves_behind o' q ≡ true) ⊎ IsMissed code live scope (cut_by cut why) (path q s)
       excused q s (inl is) = inl is
-      excused q s (inr is) = inr (excused_out scope cut why (path q s) is)
+      excused q s (inr is) = inr (excused_out code live scope cut why (path q s) is)
 
-      still : (q : List Bool) (s : ℕ) → takes code scope q s ≡ true → (is_from o least q s ≡ true) ⊎ IsLeftOut scope cut (path q s)
-          → (leaves_behind o' q ≡ true) ⊎ IsLeftOut scope (cut_by cut why) (path q s)
+      still : (q : List Bool) (s : ℕ) → takes code scope q s ≡ true → (is_from o least q s ≡ true) ⊎ IsMissed code live scope cut (path q s)
+          → (leaves_behind o' q ≡ true) ⊎ IsMissed code live scope (cut_by cut why) (path q s)
       still q s may (inl from) = excused q s (spent.others q s may from)
-      still q s may (inr out) = inr (kept_out scope cut why (path q s) out)
+      still q s may (inr out) = inr (kept_out code live scope cut why (path q s) out)
 
       all_others : (q : List Bool) (s : ℕ) → takes code scope q s ≡ true → is_from start first q s ≡ true
-          → (leaves_behind o' q ≡ true) ⊎ IsLeftOut scope (cut_by cut why) (path q s)
+          → (leaves_behind o' q ≡ true) ⊎ IsMissed code live scope (cut_by cut why) (path q s)
       all_others q s may from = still q s may (left.others q s may from)
 
       -- and no outcomes come after these
       none_by : (all : (q : List Bool) → leaves_behind o' q ≡ false) (q : List Bool) (s : ℕ)
-          → (leaves_behind o' q ≡ true) ⊎ IsLeftOut scope (cut_by cut why) (path q s) → IsNotAfter None (path q s) ⊎ IsLeftOut scope (cut_by cut why) (path q s)
+          → (leaves_behind o' q ≡ true) ⊎ IsMissed code live scope (cut_by cut why) (path q s) → IsNotAfter None (path q s) ⊎ IsMissed code live scope (cut_by cut why) (path q s)
       none_by all q s (inl is) = absurd (let never = all q in cc)
       none_by all q s (inr out) = inr out
 
-      pub is_none : ((q : List Bool) → leaves_behind o' q ≡ false) → IsFirst code scope (path start first) (found None (cut_by cut why))
+      pub is_none : ((q : List Bool) → leaves_behind o' q ≡ false) → IsFirst code live scope (path start first) (found None (cut_by cut why))
       is_none all = record {
         takes = tt;
         within = tt;
@@ -105,8 +115,8 @@ module _ (code : Code) (scope : Scope) (start : List Bool) (first : ℕ) where
 
       -- the next outcomes
       module _ (next : List Bool) (turns : TurnsTo o' next) where
-        next_by : (q : List Bool) (s : ℕ) → (leaves_behind o' q ≡ true) ⊎ IsLeftOut scope (cut_by cut why) (path q s)
-            → (is_from next 0 q s ≡ true) ⊎ IsLeftOut scope (cut_by cut why) (path q s)
+        next_by : (q : List Bool) (s : ℕ) → (leaves_behind o' q ≡ true) ⊎ IsMissed code live scope (cut_by cut why) (path q s)
+            → (is_from next 0 q s ≡ true) ⊎ IsMissed code live scope (cut_by cut why) (path q s)
         next_by q s (inl is) = inl (sym (turns.same q s) ∙ is)
         next_by q s (inr out) = inr out
 

@@ -1,22 +1,24 @@
 -- A step of the descent, from the promises of the functions that it calls.
-use Rattle.std.proofs.Common.{◌≡◌, ◌∙◌, ℕ, ◌+◌, ◌<◌, ◌≤◌, inl, inr, Bool, true, false, List, [], ◌∷◌, length, Option, Some, None, ap, sym, subst, arith}
+use Rattle.std.proofs.Common.{◌≡◌, ◌∙◌, ℕ, ◌+◌, ◌<◌, ◌≤◌, inl, inr, Bool, true, false, List, [], ◌∷◌, ◌++◌, length, Option, Some, None, ap, sym, subst, arith}
 use Rattle.std.proofs.lemmas.List.{length-append}
 use Rattle.tc_limits.specs.declared.limits.TheConstants.{STEPS}
 use Rattle.tc_code.specs.Code.{Code, instr_at}
 use Rattle.tc_code.specs.declared.instr.Instr.{Instr}
 use Rattle.thread_marks.specs.path_walk.Events.{excludes}
 use Rattle.thread_marks.specs.path_walk.Marks.{Marks, marks_after_instr}
-use Rattle.thread_marks.specs.Own.{Own, own_of}
+use Rattle.thread_marks.specs.Own.{own_of}
+use Rattle.slot_liveness.specs.pure_turns.Live.{Liveness}
 use Rattle.thread_paths.specs.declared.aim.Scope.{Scope}
 use Rattle.thread_paths.specs.declared.descent.At.{At}
 use Rattle.thread_paths.specs.declared.descent.Reason.TheVariants.{Dead, TooMany}
+use Rattle.thread_paths.specs.declared.past.Past.{Past}
 use Rattle.thread_paths.specs.helpers.Descents.{is_branch, at_after, is_end, IsOpened, IsNode, IsLowest, IsSpent, IsExcused}
 use Rattle.thread_paths.proofs.Nodes.{pushed_node, too_many, dead, next_node, found}
 
 -- at most all outcomes are used
-pub used_within : (code : Code) (scope : Scope) (start : List Bool) (first n : ℕ) (at : At) (o : List Bool) (own : Own)
-    → IsNode code scope start first n at o own → at.used ≤ length o
-used_within code scope start first n at o own node = omega (arith, node.count, ap length node.whole, length-append node.done node.rest)
+pub used_within : (code : Code) (scope : Scope) (start : List Bool) (first n : ℕ) (at : At) (o : List Bool) (past : Past)
+    → IsNode code scope start first n at o past → at.used ≤ length o
+used_within code scope start first n at o past node = omega (arith, node.count, ap length node.whole, length-append node.done node.rest)
 
 -- a branch that was opened has an outcome
 pub has_outcome : (most : ℕ) (i : Instr) (at at' : At) (o o' : List Bool) (x : Option At) → x ≡ Some at' → IsOpened most i at o o' x → at.used ≤ length o
@@ -28,25 +30,25 @@ has_outcome most i at at' o o' x is opened within = by (subst (IsOpened most i a
     by (inr pushed) branch =
         omega (arith, ap (λ (a : At). a.used) pushed.is, ap length pushed.added, length-append o (false ∷ []), pushed.end, within)
 
-module _ (code : Code) (scope : Scope) (start : List Bool) (first n : ℕ) (at : At) (o : List Bool) (own : Own)
-    (node : IsNode code scope start first n at o own) (i : Instr) (there : instr_at code scope.function at.place ≡ Some i)
+module _ (code : Code) (live : Liveness) (scope : Scope) (start : List Bool) (first n : ℕ) (at : At) (o : List Bool) (past : Past)
+    (node : IsNode code scope start first n at o past) (i : Instr) (there : instr_at code scope.function at.place ≡ Some i)
     (o' : List Bool) (x : Option At) (opened : IsOpened scope.most i at o o' x) where
   -- there are too many outcomes
-  pub full : x ≡ None → IsSpent code scope start first o' (IsExcused scope TooMany)
+  pub full : x ≡ None → IsSpent code scope start first o' (IsExcused code live scope TooMany)
   full none = by (subst (IsOpened scope.most i at o o') none opened)
     where
-      by : IsOpened scope.most i at o o' None → IsSpent code scope start first o' (IsExcused scope TooMany)
-      by is = subst (λ z. IsSpent code scope start first z (IsExcused scope TooMany)) (sym is.3)
-          (too_many code scope start first n at o own node i there is.0 is.1 is.2)
+      by : IsOpened scope.most i at o o' None → IsSpent code scope start first o' (IsExcused code live scope TooMany)
+      by is = subst (λ z. IsSpent code scope start first z (IsExcused code live scope TooMany)) (sym is.3)
+          (too_many code scope start first n at o past node i there is.0 is.1 is.2)
 
   module _ (at' : At) (is : x ≡ Some at') where
-    opened_node : IsNode code scope start first n at' o' own
+    opened_node : IsNode code scope start first n at' o' past
     opened_node = by (subst (IsOpened scope.most i at o o') is opened)
       where
-        by : IsOpened scope.most i at o o' (Some at') → IsNode code scope start first n at' o' own
-        by (inl same) = subst (λ z. IsNode code scope start first n at' z own) (sym same.1)
-            (subst (λ z. IsNode code scope start first n z o own) (sym same.0) node)
-        by (inr pushed) = pushed_node code scope start first n i at at' o o' own node there pushed
+        by : IsOpened scope.most i at o o' (Some at') → IsNode code scope start first n at' o' past
+        by (inl same) = subst (λ z. IsNode code scope start first n at' z past) (sym same.1)
+            (subst (λ z. IsNode code scope start first n z o past) (sym same.0) node)
+        by (inr pushed) = pushed_node code scope start first n i at at' o o' past node there pushed
 
     same_place : at'.place ≡ at.place
     same_place = by (subst (IsOpened scope.most i at o o') is opened)
@@ -65,24 +67,25 @@ module _ (code : Code) (scope : Scope) (start : List Bool) (first n : ℕ) (at :
       is_next : to ≡ at_after at' i o'
       is_next = goes ∙ ap (at_after at' i) is_seen
 
-      ends : (v : Bool) → ((t : Marks) → own ≡ own_of t → v ≡ is_end code scope (n + 1) t i to later)
+      ends : (v : Bool) → ((t : Marks) → past.own ≡ own_of t → v ≡ is_end code scope (n + 1) t i to later)
           → is_end code scope (n + 1) opened_node.marks i (at_after at' i o') o' ≡ v
       ends v told =
           sym (told opened_node.marks opened_node.is
           ∙ ap (λ z. is_end code scope (n + 1) opened_node.marks i z later) is_next
           ∙ ap (is_end code scope (n + 1) opened_node.marks i (at_after at' i o')) is_later)
 
-      pub is_found : ((t : Marks) → own ≡ own_of t → true ≡ is_end code scope (n + 1) t i to later) → n < STEPS → IsLowest code scope start first o' (n + 1)
-      is_found told room = found code scope start first n at' o' own opened_node i still_there some (ends true told) room
+      pub is_found : ((t : Marks) → past.own ≡ own_of t → true ≡ is_end code scope (n + 1) t i to later) → n < STEPS → IsLowest code scope start first o' (n + 1)
+      is_found told room = found code scope start first n at' o' past opened_node i still_there some (ends true told) room
 
-      module _ (told : (t : Marks) → own ≡ own_of t → false ≡ is_end code scope (n + 1) t i to later) where
-        pub is_dead : ((t : Marks) → own ≡ own_of t → true ≡ excludes t i false) → IsSpent code scope start first o' (IsExcused scope Dead)
+      module _ (told : (t : Marks) → past.own ≡ own_of t → false ≡ is_end code scope (n + 1) t i to later) where
+        pub is_dead : ((t : Marks) → past.own ≡ own_of t → true ≡ excludes t i false) → IsSpent code scope start first o' (IsExcused code live scope Dead)
         is_dead cannot =
-            dead code scope start first n at' o' own opened_node i still_there some (ends false told) (sym (cannot opened_node.marks opened_node.is))
+            dead code scope start first n at' o' past opened_node i still_there some (ends false told) (sym (cannot opened_node.marks opened_node.is))
 
-        pub is_next_node : ((t : Marks) → own ≡ own_of t → false ≡ excludes t i false) → (own' : Own)
-            → ((t : Marks) → own ≡ own_of t → own' ≡ own_of (marks_after_instr t i)) → IsNode code scope start first (n + 1) to o' own'
-        is_next_node can own' marks =
-            subst (λ z. IsNode code scope start first (n + 1) z o' own') (sym is_next)
-            (next_node code scope start first n at' o' own opened_node i still_there some (ends false told) (sym (can opened_node.marks opened_node.is))
-            own' (marks opened_node.marks opened_node.is))
+        pub is_next_node : ((t : Marks) → past.own ≡ own_of t → false ≡ excludes t i false) → (past' : Past)
+            → ((t : Marks) → past.own ≡ own_of t → past'.own ≡ own_of (marks_after_instr t i))
+            → past'.places.items ≡ past.places.items ++ at.place ∷ [] → IsNode code scope start first (n + 1) to o' past'
+        is_next_node can past' marks places =
+            subst (λ z. IsNode code scope start first (n + 1) z o' past') (sym is_next)
+            (next_node code scope start first n at' o' past opened_node i still_there some (ends false told) (sym (can opened_node.marks opened_node.is))
+            past' (marks opened_node.marks opened_node.is) (places ∙ ap (λ k. past.places.items ++ k ∷ []) (sym same_place)))

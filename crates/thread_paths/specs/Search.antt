@@ -3,8 +3,10 @@ use Rattle.std.specs.Prelude.{◌≡◌, ◌<◌, ◌≤◌, ◌⊎◌, length, 
 use Rattle.tc_code.specs.tc_base.Paths.{Path}
 use Rattle.tc_limits.specs.declared.limits.TheConstants.{STEPS}
 use Rattle.tc_code.specs.Code.{Code}
+use Rattle.slot_liveness.specs.pure_turns.Live.{Liveness}
 use Rattle.thread_paths.specs.Ends.{MayTake}
 use Rattle.thread_paths.specs.Order.{comes_from}
+use Rattle.thread_paths.specs.Turns.{HasTurn}
 use Rattle.thread_paths.specs.declared.aim.Scope.{Scope}
 use Rattle.thread_paths.specs.declared.found.Cut.{Cut}
 
@@ -25,10 +27,12 @@ IsNotAfter None q = ⊥
 IsNotAfter (Some p) q = comes_from p q ≡ true
 
 -- the search found the first path from a position on that the thread may take, apart from those
--- left out
-pub record IsFirst (code : Code) (scope : Scope) (start : Path) (found : Found) : Type 0 where
+-- left out and some with a pure turn
+pub record IsFirst (code : Code) (live : Liveness) (scope : Scope) (start : Path)
+    (found : Found) : Type 0 where
   pub takes : IfSome found.path (MayTake code scope.function scope.aim)
   pub within : IfSome found.path (λ p. comes_from start p ≡ true)
   pub few : IfSome found.path (λ p. (length p.outcomes ≤ scope.most) × (p.steps ≤ STEPS))
   pub others : (q : Path) → MayTake code scope.function scope.aim q → comes_from start q ≡ true
-      → IsNotAfter found.path q ⊎ IsLeftOut scope found.cut q
+      → IsNotAfter found.path q
+      ⊎ (IsLeftOut scope found.cut q ⊎ HasTurn code live scope.function q)

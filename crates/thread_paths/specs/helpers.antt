@@ -1,2 +1,3 @@
 -- No promise names a definition of this folder: only private contracts cite them.
 pub mod Descents
+pub mod Rounds

@@ -4,11 +4,15 @@ ghost use Rattle.std.specs.Prelude.{◌≡◌, ℕ, List, Bool, true, false, ◌
 ghost use Rattle.tc_limits.specs.declared.limits.TheConstants.{STEPS};
 ghost use Rattle.thread_marks.specs.path_walk.Marks.{Marks};
 ghost use Rattle.thread_marks.specs.Own.{own_of};
+ghost use Rattle.slot_liveness.specs.Tables.{liveness};
 ghost use Rattle.thread_paths.specs.Order.{is_from};
 ghost use Rattle.thread_paths.specs.helpers.Descents.{is_branch, takes, at_after, is_end, IsOpened, IsNode, IsAdvance, IsDescent};
 
 use crate::aim::Scope;
 use crate::leads::{is_branch, is_last, place_after};
+use crate::past::Past;
+use crate::program::Program;
+use crate::rounds::ends_turn;
 use std::alloc::{AllocError, Global};
 use tc_code::{Code, Instr};
 use tc_limits::limits::STEPS;
@@ -23,6 +27,8 @@ pub enum Reason {
     TooMany,
     /// The thread has taken as many steps as a log holds.
     TooLong,
+    /// The last steps are a pure turn.
+    Turn,
 }
 
 /// The result of a descent.
@@ -111,32 +117,44 @@ fn is_end(
 
 /// Takes one step further, after `steps` of them.
 fn go_on(
-    code: &Code,
+    program: Program<'_>,
     scope: Scope,
     steps: usize,
     at: At,
-    own: &mut Own,
+    past: &mut Past,
     outcomes: &mut Vec<bool>,
 ) -> Result<Advance, AllocError>
     requires steps { steps < STEPS }
     requires used { at.used ≤ length outcomes.old.items }
-    ensures { (start : List Bool) (first : ℕ) → IsNode code.now scope start first steps at outcomes.old.items own.old
-        → IfOk result (IsAdvance code.now scope start first steps outcomes.new.items own.new) }
+    ensures { (start : List Bool) (first : ℕ) → IsNode program.entry.code.now scope start first steps at outcomes.old.items past.old
+        → IfOk result (IsAdvance program.entry.code.now (liveness program.entry.live.now) scope start first steps outcomes.new.items past.new) }
 {
-    let Some(instr) = code.instr(scope.function, at.place) else {
+    let Some(instr) = program.code.instr(scope.function, at.place) else {
         return Ok(Advance::Ends(Descent::Spent(Reason::Dead)));
     };
+    past.places.push(at.place)?;
+    if ends_turn(program, scope.function, &past.places) {
+        return Ok(Advance::Ends(Descent::Spent(Reason::Turn)));
+    }
     let Some(at) = with_outcome(scope.most, instr, at, outcomes)? else {
         return Ok(Advance::Ends(Descent::Spent(Reason::TooMany)));
     };
     let to = after(instr, at, outcomes);
-    if is_end(code, scope, steps + 1, own, instr, to, outcomes) {
+    if is_end(
+        program.code,
+        scope,
+        steps + 1,
+        &past.own,
+        instr,
+        to,
+        outcomes,
+    ) {
         return Ok(Advance::Ends(Descent::Found(steps as u16 + 1)));
     }
-    if own.excludes(instr, false) {
+    if past.own.excludes(instr, false) {
         return Ok(Advance::Ends(Descent::Spent(Reason::Dead)));
     }
-    own.apply(instr);
+    past.own.apply(instr);
     Ok(Advance::On(to))
 }
 
@@ -144,23 +162,26 @@ fn go_on(
 /// begins like them. Skips the path of no steps.
 pub fn descend(
     alloc: Global,
-    code: &Code,
+    program: Program<'_>,
     scope: Scope,
     outcomes: &mut Vec<bool>,
     least: usize,
 ) -> Result<Descent, AllocError>
     requires few { length outcomes.old.items ≤ scope.most }
-    requires steps { (takes code.now scope [] 0 && is_from outcomes.old.items least [] 0) ≡ false }
-    ensures { IfOk result (IsDescent code.now scope outcomes.old.items least outcomes.new.items) }
+    requires steps { (takes program.code.now scope [] 0 && is_from outcomes.old.items least [] 0) ≡ false }
+    ensures { IfOk result (IsDescent program.entry.code.now (liveness program.entry.live.now) scope outcomes.old.items least outcomes.new.items) }
 {
-    let mut own = Own::at_start(alloc, code, scope.function)?;
+    let mut past = Past {
+        own: Own::at_start(alloc, program.code, scope.function)?,
+        places: Vec::new(alloc),
+    };
     let mut at = At {
         place: 0,
         used: 0,
         least,
     };
     for steps in 0..STEPS as usize {
-        match go_on(code, scope, steps, at, &mut own, outcomes)? {
+        match go_on(program, scope, steps, at, &mut past, outcomes)? {
             Advance::On(to) => at = to,
             Advance::Ends(descent) => return Ok(descent),
         }

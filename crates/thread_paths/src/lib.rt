@@ -1,5 +1,6 @@
 //! The paths that a thread may take, one after another: they fit its function, don't alone rule out
-//! every run, and end as the log of a failure or a deadlock needs it.
+//! every run, and end as the log of a failure or a deadlock needs it. Paths with a pure turn are left
+//! out: rounds of a loop that change nothing.
 //!
 //! A path is determined by its outcomes and its number of steps, so only these are kept between two
 //! paths. The search for the next path follows the outcomes of the one before it, and then turns
@@ -8,11 +9,16 @@
 
 mod aim;
 mod descent;
+mod failed;
 mod found;
 mod leads;
+mod past;
+mod program;
+mod rounds;
 mod search;
 mod turn;
 
 pub use aim::{Aim, End, Scope};
 pub use found::{Cut, Found, Path};
+pub use program::Program;
 pub use search::{first_path, next_path};

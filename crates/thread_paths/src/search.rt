@@ -1,5 +1,6 @@
 //! The first path, and the next one after a path.
 ghost use Rattle.std.specs.Prelude.{◌≡◌, ◌+◌, ◌≤◌, ◌&&◌, [], length, false, IfOk};
+ghost use Rattle.slot_liveness.specs.Tables.{liveness};
 ghost use Rattle.thread_paths.specs.Order.{is_from};
 ghost use Rattle.thread_paths.specs.Search.{IsFirst};
 ghost use Rattle.thread_paths.specs.helpers.Descents.{cut_by, stays, takes};
@@ -8,6 +9,7 @@ use crate::aim::{End, Scope};
 use crate::descent::{Descent, Reason, descend};
 use crate::found::{Cut, Found, Path};
 use crate::leads::can_rest;
+use crate::program::Program;
 use crate::turn::turn;
 use std::alloc::{AllocError, Global};
 use tc_code::Code;
@@ -28,7 +30,7 @@ fn cut_by(cut: Cut, why: Reason) -> Cut
     ensures { result ≡ cut_by cut why }
 {
     match why {
-        Reason::Dead => cut,
+        Reason::Dead | Reason::Turn => cut,
         Reason::TooMany => Cut {
             outcomes: true,
             ..cut
@@ -40,14 +42,14 @@ fn cut_by(cut: Cut, why: Reason) -> Cut
 /// The first path that has a step and comes at or after these outcomes and this number of steps.
 fn search(
     alloc: Global,
-    code: &Code,
+    program: Program<'_>,
     scope: Scope,
     outcomes: Vec<bool>,
     least: usize,
 ) -> Result<Found, AllocError>
     requires few { length outcomes.items ≤ scope.most }
-    requires steps { (takes code.now scope [] 0 && is_from outcomes.items least [] 0) ≡ false }
-    ensures { IfOk result (IsFirst code.now scope (record { outcomes = outcomes.items; steps = least })) }
+    requires steps { (takes program.code.now scope [] 0 && is_from outcomes.items least [] 0) ≡ false }
+    ensures { IfOk result (IsFirst program.entry.code.now (liveness program.entry.live.now) scope (record { outcomes = outcomes.items; steps = least })) }
 {
     let mut outcomes = outcomes;
     let mut least = least;
@@ -56,7 +58,7 @@ fn search(
         steps: false,
     };
     'ways: loop {
-        match descend(alloc, code, scope, &mut outcomes, least)? {
+        match descend(alloc, program, scope, &mut outcomes, least)? {
             Descent::Found(steps) => {
                 let path = Some(Path { outcomes, steps });
                 return Ok(Found { path, cut });
@@ -71,11 +73,11 @@ fn search(
 }
 
 /// The first path that a thread may take.
-pub fn first_path(alloc: Global, code: &Code, scope: Scope) -> Result<Found, AllocError>
-    ensures { IfOk result (IsFirst code.now scope (record { outcomes = []; steps = 0 })) }
+pub fn first_path(alloc: Global, program: Program<'_>, scope: Scope) -> Result<Found, AllocError>
+    ensures { IfOk result (IsFirst program.entry.code.now (liveness program.entry.live.now) scope (record { outcomes = []; steps = 0 })) }
 {
     let outcomes = Vec::new(alloc);
-    if stays(code, scope.function, scope.aim.end) {
+    if stays(program.code, scope.function, scope.aim.end) {
         let path = Some(Path { outcomes, steps: 0 });
         let cut = Cut {
             outcomes: false,
@@ -83,14 +85,19 @@ pub fn first_path(alloc: Global, code: &Code, scope: Scope) -> Result<Found, All
         };
         return Ok(Found { path, cut });
     }
-    search(alloc, code, scope, outcomes, 0)
+    search(alloc, program, scope, outcomes, 0)
 }
 
 /// The first path after this one.
-pub fn next_path(alloc: Global, code: &Code, scope: Scope, path: Path) -> Result<Found, AllocError>
+pub fn next_path(
+    alloc: Global,
+    program: Program<'_>,
+    scope: Scope,
+    path: Path,
+) -> Result<Found, AllocError>
     requires { length path.outcomes ≤ scope.most }
-    ensures { IfOk result (IsFirst code.now scope (record { outcomes = path.outcomes; steps = path.steps + 1 })) }
+    ensures { IfOk result (IsFirst program.entry.code.now (liveness program.entry.live.now) scope (record { outcomes = path.outcomes; steps = path.steps + 1 })) }
 {
     let Path { outcomes, steps } = path;
-    search(alloc, code, scope, outcomes, usize::from(steps) + 1)
+    search(alloc, program, scope, outcomes, usize::from(steps) + 1)
 }

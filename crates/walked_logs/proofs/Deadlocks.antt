@@ -40,7 +40,8 @@ use Rattle.normal_logs.specs.Ends.{IsJoined, IsHeldAtEnd, NeverExits}
 use Rattle.normal_logs.specs.Normal.{IsNormalDeadlock}
 use Rattle.walked_logs.proofs.Ends.{says, says_so, ends_exit, last_place, exit_event}
 use Rattle.walked_logs.proofs.Takes.{same_places}
-use Rattle.walked_logs.proofs.Logs.{Facts, threads_make_up, in_get}
+use Rattle.walked_logs.proofs.Known.{in_get}
+use Rattle.walked_logs.proofs.Logs.{Facts, threads_make_up}
 
 abbrev the_ok : List ℕ → Result (List ℕ) Misfit
 the_ok ps = Ok ps

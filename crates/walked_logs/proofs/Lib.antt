@@ -4,6 +4,7 @@ pub mod Told
 pub mod Names
 pub mod Children
 pub mod Ends
+pub mod Known
 pub mod Takes
 pub mod Logs
 pub mod Failures

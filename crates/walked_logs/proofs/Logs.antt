@@ -22,11 +22,11 @@ use Rattle.log_walk.specs.path_walk.Fits.{places_in, started, child_function, fu
 use Rattle.log_walk.specs.path_walk.Marks.{marks_at_start}
 use Rattle.log_walk.specs.path_walk.Paths.{Walk}
 use Rattle.log_walk.specs.path_walk.Steps.{steps_at}
-use Rattle.log_walk.proofs.path_walk.Faults.{function_of_child, missing, fitting}
+use Rattle.log_walk.proofs.path_walk.Faults.{missing, fitting}
 use Rattle.normal_logs.specs.path_laws.history.Along.{IsThread, path_thread}
 use Rattle.normal_logs.proofs.path_laws.Logs.{place_of}
 use Rattle.normal_logs.proofs.path_laws.Prefixes.{own_under}
-use Rattle.normal_logs.proofs.path_laws.of_history.Walks.{IsWalk, walk_is, named}
+use Rattle.normal_logs.proofs.path_laws.of_history.Walks.{IsWalk, walk_is}
 use Rattle.normal_logs.proofs.path_laws.of_events.Lists.{in_place, in_contains, contains_in}
 use Rattle.log_walk.specs.thread_paths.Ends.{MayTake}
 use Rattle.log_walk.specs.thread_paths.declared.aim.End.{End}
@@ -39,6 +39,7 @@ use Rattle.normal_logs.specs.Ends.{HoldsAtEnd, IsJoined, IsHeldAtEnd}
 use Rattle.normal_logs.specs.Normal.{FitTogether}
 use Rattle.walked_logs.proofs.Names.{child_not_nil, none_below, same_child, Rise, rise}
 use Rattle.walked_logs.proofs.Children.{Ordered, IsChild, child_in, child_there, ordered}
+use Rattle.walked_logs.proofs.Known.{IsOf, of, in_get, name as name_is, function as function_is, same_told as told_is, created as created_is, child_made as made_is}
 use Rattle.walked_logs.proofs.Ends.{says, says_so, holds_so, joins_told, joins_there, holds_back, held_many, held_within}
 use Rattle.walked_logs.proofs.Told.{Joins}
 use Rattle.walked_logs.proofs.Takes.{same_joins, same_places}
@@ -102,12 +103,6 @@ lacking (true ∷ a) (false ∷ b) e = record { mutex = 0; first = refl; second 
 lacking (true ∷ a) (true ∷ b) e = let rest = lacking a b e in record { mutex = suc rest.mutex; first = rest.first; second = rest.second }
 lacking (false ∷ a) (y ∷ b) e = let rest = lacking a b e in record { mutex = suc rest.mutex; first = rest.first; second = rest.second }
 
--- Where something is in a list.
-pub in_get : {X : Type 0} (x : X) (xs : List X) → In x xs → (k : ℕ) × (slice_get xs k ≡ Some x)
-in_get x [] i = absurd i
-in_get x (y ∷ xs) (inl e) = (0, ap (λ z. Some z) e)
-in_get x (y ∷ xs) (inr i) = let rest = in_get x xs i in (suc rest.0, rest.1)
-
 -- What the threads of a log of a kind need.
 pub record Facts (code : Code) (log : Log) (kind : Kind) : Type 1 where
   pub paths : FitTogether code log
@@ -145,32 +140,6 @@ pub record Facts (code : Code) (log : Log) (kind : Kind) : Type 1 where
 
 module _ (code : Code) (log : Log) (kind : Kind) (facts : Facts code log kind) where
   open facts use {paths, Asked, Spared, EndsIt, Stays, Wanted}
-
-  -- a thread of the log, with its walk
-  record IsOf (t : ThreadPath) : Type 0 where
-    place : ℕ
-    walk : Walk
-    there : IsThread code log place walk
-    name : walk.name ≡ t.name
-    k : IsWalk code log walk
-    path : k.path ≡ t.path
-    is_walk : k ≡ walk_is code log paths.is_log paths.fits (path_thread place walk there)
-
-  of : (t : ThreadPath) → In t log.threads → IsOf t
-  of t i =
-      let at = in_get t log.threads i in
-      let under = own_under log paths.is_log at.0 t at.1 in
-      let n = named code log paths.is_log paths.fits t.name t.path under in
-      let k = walk_is code log paths.is_log paths.fits n.thread in
-      record {
-        place = n.index;
-        walk = n.walk;
-        there = n.there;
-        name = n.name_is;
-        k = k;
-        path = same_Some k.path t.path (sym k.under ∙ ap (λ q. path_under q log.threads) n.name_is ∙ under);
-        is_walk = refl;
-      }
 
   -- a name is that of an awaited thread, or one below it is created
   record IsBelow (cs : List Awaited) (n : Name) : Type 0 where
@@ -239,8 +208,8 @@ module _ (code : Code) (log : Log) (kind : Kind) (facts : Facts code log kind) w
         by_thread (inl same) = ap (λ (x : ThreadPath). x.name) same ∙ next.name
         by_thread (inr i) = absurd (behind (ap (by_name t.name) (sym next.name) ∙ left.rises.0 next.thread i) below.there)
 
-    o : IsOf t
-    o = of t (left.in_log t (inl refl))
+    o : IsOf code log paths.is_log paths.fits t
+    o = of code log paths.is_log paths.fits t (left.in_log t (inl refl))
 
     abbrev w : Walk
     w = o.walk
@@ -248,23 +217,20 @@ module _ (code : Code) (log : Log) (kind : Kind) (facts : Facts code log kind) w
     abbrev k : IsWalk code log w
     k = walk_is code log paths.is_log paths.fits (path_thread o.place o.walk o.there)
 
-    path : k.path ≡ t.path
-    path = ap (λ (x : IsWalk code log w). x.path) (sym o.is_walk) ∙ o.path
-
-    name : w.name ≡ c.name
-    name = o.name ∙ own_name
-
     next : IsAwaited (t ∷ ts) c
     next = left.awaited c (inl refl)
 
+    name : w.name ≡ c.name
+    name = name_is code log paths.is_log paths.fits t c o own_name next.function
+
     function : w.function ≡ c.function
-    function = same_Some w.function c.function (sym k.function ∙ ap (function_of code log) name ∙ next.function)
+    function = function_is code log paths.is_log paths.fits t c o own_name next.function
 
     abbrev T : Told
     T = told code c.function t.path
 
     same_told : says code log w k ≡ T
-    same_told = ap₂ (told code) function path
+    same_told = told_is code log paths.is_log paths.fits t c o own_name next.function
 
     asked : Asked w.name c.end
     asked = subst (λ n. Asked n c.end) (sym name) next.asked
@@ -275,7 +241,7 @@ module _ (code : Code) (log : Log) (kind : Kind) (facts : Facts code log kind) w
     may : MayTake code c.function (aim_of kind ends c.end) t.path
     may =
         subst (λ f. MayTake code f (aim_of kind ends c.end) t.path) function
-        (subst (MayTake code w.function (aim_of kind ends c.end)) path
+        (subst (MayTake code w.function (aim_of kind ends c.end)) o.path
         (facts.takes o.place w o.there c.end ends asked once_here))
 
     -- whether it ends the log
@@ -315,10 +281,7 @@ module _ (code : Code) (log : Log) (kind : Kind) (facts : Facts code log kind) w
 
     -- its children are those of its path
     created : T.created ≡ started (steps_at code c.function (places_in code log c.name c.function))
-    created =
-        ap (λ (x : Told). x.created) (sym same_told) ∙ (says_so code log w k).created
-        ∙ ap (λ ps. started (steps_at code w.function ps)) (sym k.told)
-        ∙ ap₂ (λ n f. started (steps_at code f (places_in code log n f))) name function
+    created = created_is code log paths.is_log paths.fits t c o own_name next.function
 
     abbrev children : List Awaited
     children = children_from kind c.name (instr_at code c.function T.place) T 0 T.created
@@ -376,13 +339,7 @@ module _ (code : Code) (log : Log) (kind : Kind) (facts : Facts code log kind) w
       number = 0 + child_is.place + 1
 
       child_made : function_of code log d.name ≡ Some d.function
-      child_made =
-          let as_suc : number ≡ suc child_is.place = omega arith in
-          ap (function_of code log) (child_is.name ∙ ap (child c.name) as_suc)
-          ∙ function_of_child code log c.name (suc child_is.place)
-          ∙ ap (option_and_then (λ g. child_function code log c.name g (suc child_is.place))) next.function
-          ∙ ap (λ xs. slice_get xs child_is.place) (sym created)
-          ∙ child_is.there
+      child_made = made_is code log paths.is_log paths.fits t c o own_name next.function kind at d child_is
 
       above : by_name t.name d.name ≡ Less
       above = ap₂ by_name own_name child_is.name ∙ child_is_above c.name number

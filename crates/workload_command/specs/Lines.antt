@@ -6,16 +6,7 @@ use Rattle.clap_solve.specs.declared.answer.Answer.TheVariants.{Found, Impossibl
 use Rattle.command_frame.specs.declared.status.Status.{Status}
 use Rattle.command_frame.specs.declared.status.Status.TheVariants.{Done, Open}
 use Rattle.workload_command.specs.Works.{Workload}
-use Rattle.workload_command.specs.declared.work.RunEnd.{RunEnd}
-use Rattle.workload_command.specs.declared.work.RunEnd.TheVariants as ran
 use Rattle.workload_command.specs.declared.work.Work.{Work}
-
-abbrev pub end_word : RunEnd → List ℕ
-end_word ran.Failed = codes "failed"
-end_word ran.Finished = codes "finished"
-end_word ran.Deadlock = codes "deadlock"
-end_word ran.Limit = codes "limit"
-end_word ran.StepLimit = codes "step-limit"
 
 -- the short form of a search's result
 abbrev pub found_words : Answer → List ℕ
@@ -27,7 +18,7 @@ found_words (Spent lines) = codes "spent"
 abbrev pub work_line : Workload → Work → List ℕ
 work_line call x =
     codes "workload " ++ (decimal call.workers ++ (codes " " ++ (decimal call.seed
-    ++ (codes ": record " ++ (end_word x.end
+    ++ (codes ": record " ++ (x.end.now
     ++ (codes ", tso " ++ (found_words x.tso
     ++ (codes ", sc " ++ (found_words x.sc ++ codes "\n")))))))))
 

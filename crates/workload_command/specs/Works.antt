@@ -1,5 +1,5 @@
 -- What comes of `workload`: the end of a run of a generated program, and the searches of its log.
-use Rattle.std.specs.Prelude.{◌≡◌, ℕ, List}
+use Rattle.std.specs.Prelude.{◌≡◌, ℕ, List, codes}
 use Rattle.clap_solve.specs.Clauses.{bound_of}
 use Rattle.clap_solve.specs.Solved.{IsAnswer, IsWithin}
 use Rattle.clap_solve.specs.declared.answer.Answer.{Answer}
@@ -12,20 +12,22 @@ use Rattle.tc_compile.specs.Programs.{IsCodeOf, IsRefusal}
 use Rattle.tc_limits.specs.declared.limits.TheConstants.{MOVES}
 use Rattle.tc_record.specs.Seeded.{seed_words, seeded_run}
 use Rattle.tc_record.specs.declared.end.End.{End}
-use Rattle.tc_record.specs.declared.end.End.TheVariants as end
+use Rattle.tc_record.specs.declared.end.End.TheVariants.{Over, Failed, Finished, Deadlock, StepLimit}
 use Rattle.tc_workload.specs.Workload.{workload_log, workload_text}
 use Rattle.command_inputs.specs.declared.refusal.Refusal.{Refusal}
 use Rattle.command_inputs.specs.declared.refusal.Refusal.TheVariants.{Program}
 use Rattle.log_tasks.specs.Refused.{HasNoClauses}
 use Rattle.log_tasks.specs.declared.budget.TheConstants.{USUAL_BUDGET}
-use Rattle.workload_command.specs.declared.work.RunEnd.{RunEnd}
-use Rattle.workload_command.specs.declared.work.RunEnd.TheVariants.{Failed, Finished, Deadlock, Limit, StepLimit}
 use Rattle.workload_command.specs.declared.work.Work.{Work}
+use Rattle.workload_command.specs.declared.command.Workload.{Workload as RawWorkload}
 
 -- `workload N SEED`
 pub record Workload : Type 0 where
   pub workers : ℕ
   pub seed : ℕ
+
+abbrev pub plain_workload : RawWorkload → Workload
+plain_workload call = record { workers = call.workers.count; seed = call.seed }
 
 -- the program with this many workers, whose reads the seed chooses, and its log
 abbrev pub program_of : Workload → List ℕ
@@ -34,17 +36,16 @@ program_of call = workload_text (seed_words call.seed call.workers)
 abbrev pub log_of : Workload → Log
 log_of call = workload_log call.workers
 
--- the end of a run, without the name of the limit that it passed
-abbrev pub told : End → RunEnd
-told end.Failed = Failed
-told end.Finished = Finished
-told end.Deadlock = Deadlock
-told (end.Over which) = Limit
-told end.StepLimit = StepLimit
+abbrev pub end_word : End → List ℕ
+end_word Failed = codes "failed"
+end_word Finished = codes "finished"
+end_word Deadlock = codes "deadlock"
+end_word (Over which) = codes "limit"
+end_word StepLimit = codes "step-limit"
 
--- the end of the run of a code under total store order, by moves chosen with this seed
-abbrev pub told_of : Code → (seed : ℕ) → RunEnd
-told_of code seed = told (seeded_run (buffer_of Tso) code seed MOVES).end
+-- the word for the end of the run of a code under total store order, by moves chosen with this seed
+abbrev pub word_of : Code → (seed : ℕ) → List ℕ
+word_of code seed = end_word (seeded_run (buffer_of Tso) code seed MOVES).end
 
 -- a search of the log under this memory model has this result
 abbrev pub IsFoundUnder : Model → Code → Log → Answer → Type 0
@@ -53,7 +54,7 @@ IsFoundUnder model code log x =
 
 -- the run of the code ended so, and the searches of the log have these results
 pub record IsWorked (code : Code) (log : Log) (seed : ℕ) (x : Work) : Type 0 where
-  pub ended : x.end ≡ told_of code seed
+  pub ended : x.end.now ≡ word_of code seed
   pub tso : IsFoundUnder Tso code log x.tso
   pub sc : IsFoundUnder Sc code log x.sc
 

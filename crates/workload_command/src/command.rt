@@ -1,6 +1,6 @@
 //! The command.
 ghost use Rattle.workload_command.specs.Meanings.{workload_of};
-ghost use Rattle.workload_command.specs.helpers.Asked.{plain_workload};
+ghost use Rattle.workload_command.specs.Works.{plain_workload};
 
 use crate::line::{work_line, work_status};
 use crate::work::{Work as Worked, worked};

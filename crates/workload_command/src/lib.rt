@@ -5,7 +5,7 @@ ghost use Rattle.std.specs.Prelude.{IfSome};
 ghost use Rattle.command_frame.specs.Run.{Runs};
 ghost use Rattle.workload_command.specs.Answers.{WorkloadAnswers};
 ghost use Rattle.workload_command.specs.Meanings.{workload_of};
-ghost use Rattle.workload_command.specs.helpers.Asked.{plain_workload};
+ghost use Rattle.workload_command.specs.Works.{plain_workload};
 
 mod command;
 mod line;
@@ -16,7 +16,7 @@ pub use command::Workload;
 use command_frame::run;
 use std::alloc::Global;
 use tc_io::{Shelf, Sink};
-pub use work::{RunEnd, Work};
+pub use work::Work;
 pub use workers::{WORKERS, Workers};
 
 /// Generates a program, runs it, and searches its log. It reads and keeps no file.

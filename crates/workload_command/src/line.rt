@@ -1,10 +1,10 @@
 //! The line and the status of what comes of a workload.
 ghost use Rattle.std.specs.Prelude.{◌≡◌, IfOk, string_bytes};
-ghost use Rattle.workload_command.specs.Lines.{end_word, found_words, work_line, work_status};
-ghost use Rattle.workload_command.specs.helpers.Asked.{plain_workload};
+ghost use Rattle.workload_command.specs.Lines.{found_words, work_line, work_status};
+ghost use Rattle.workload_command.specs.Works.{plain_workload};
 
 use crate::command::Workload;
-use crate::work::{RunEnd, Work};
+use crate::work::Work;
 use clap_solve::Answer;
 use command_frame::Status;
 use std::alloc::{AllocError, Global};
@@ -17,22 +17,10 @@ pub(crate) fn work_line(
 ) -> Result<String, AllocError>
     ensures { IfOk result (λ text. string_bytes text ≡ work_line (plain_workload workload.now) work.now) }
 {
-    let (workers, seed, end) = (workload.workers.count, workload.seed, end_word(work.end));
+    let (workers, seed, end) = (workload.workers.count, workload.seed, work.end);
     let tso = found_words(alloc, &work.tso)?;
     let sc = found_words(alloc, &work.sc)?;
     format!(in alloc; "workload {workers} {seed}: record {end}, tso {tso}, sc {sc}\n")
-}
-
-fn end_word(end: RunEnd) -> &'static str
-    ensures { result.now ≡ end_word end }
-{
-    match end {
-        RunEnd::Failed => "failed",
-        RunEnd::Finished => "finished",
-        RunEnd::Deadlock => "deadlock",
-        RunEnd::Limit => "limit",
-        RunEnd::StepLimit => "step-limit",
-    }
 }
 
 fn found_words(alloc: Global, found: &Answer) -> Result<String, AllocError>

@@ -5,8 +5,8 @@ ghost use Rattle.clap_solve.specs.Solved.{IsWithin};
 ghost use Rattle.clap_system.specs.Faults.{IsBuildFault};
 ghost use Rattle.command_inputs.specs.Forms.{IsWhy};
 ghost use Rattle.log_tasks.specs.Refused.{HasNoClauses};
-ghost use Rattle.workload_command.specs.Works.{IsUnworked, IsWorkOf, IsWorked, program_of, told_of};
-ghost use Rattle.workload_command.specs.helpers.Asked.{plain_workload};
+ghost use Rattle.workload_command.specs.Works.{IsUnworked, IsWorkOf, IsWorked, program_of, word_of};
+ghost use Rattle.workload_command.specs.Works.{plain_workload};
 
 use crate::command::Workload;
 use clap_solve::{Answer, solve};
@@ -22,26 +22,11 @@ use tc_limits::limits::MOVES;
 use tc_record::{Seeded, SeededFault, run_seeded, seed_words};
 use tc_workload::{workload_log, workload_text};
 
-/// The end of a run of a workload.
-#[derive(Clone, Copy)]
-pub enum RunEnd {
-    /// A thread failed.
-    Failed,
-    /// Every thread exited.
-    Finished,
-    /// No move was enabled, and some thread hadn't exited.
-    Deadlock,
-    /// The run exceeded a limit.
-    Limit,
-    /// The run made as many moves as allowed.
-    StepLimit,
-}
-
 /// What comes of a workload.
 #[derive(Drop)]
 pub struct Work {
-    /// The end of the run that the seed chose.
-    pub end: RunEnd,
+    /// The word for the end of the run that the seed chose.
+    pub end: &'static str,
     /// The result of the search under total store order.
     pub tso: Answer,
     /// The result of the search under sequential consistency.
@@ -87,22 +72,22 @@ fn results(alloc: Global, code: &Code, log: &Log, seed: u64) -> Result<Work, Bui
     ensures fault { IfErr result (IsBuildFault code.now log.now.log) }
 {
     Ok(Work {
-        end: run_end(alloc, code, seed)?,
+        end: end_word(alloc, code, seed)?,
         tso: solve::<TsoModel>(alloc, code, log, USUAL_BUDGET)?,
         sc: solve::<Sc>(alloc, code, log, USUAL_BUDGET)?,
     })
 }
 
-/// The end of a run of a code under total store order, by moves chosen with a seed.
-fn run_end(alloc: Global, code: &Code, seed: u64) -> Result<RunEnd, AllocError>
-    ensures { IfOk result (λ end. end ≡ told_of code.now seed) }
+/// The word for the end of a run of a code under total store order, by moves chosen with a seed.
+fn end_word(alloc: Global, code: &Code, seed: u64) -> Result<&'static str, AllocError>
+    ensures { IfOk result (λ word. word.now ≡ word_of code.now seed) }
 {
     match run_seeded::<TsoModel>(alloc, code, seed, MOVES) {
-        Ok(Seeded::Failed(_, _)) => Ok(RunEnd::Failed),
-        Ok(Seeded::Finished(_)) => Ok(RunEnd::Finished),
-        Ok(Seeded::Deadlock(_, _)) => Ok(RunEnd::Deadlock),
-        Ok(Seeded::StepLimit(_)) => Ok(RunEnd::StepLimit),
-        Err(SeededFault::Limit(_, _, _)) => Ok(RunEnd::Limit),
+        Ok(Seeded::Failed(_, _)) => Ok("failed"),
+        Ok(Seeded::Finished(_)) => Ok("finished"),
+        Ok(Seeded::Deadlock(_, _)) => Ok("deadlock"),
+        Ok(Seeded::StepLimit(_)) => Ok("step-limit"),
+        Err(SeededFault::Limit(_, _, _)) => Ok("limit"),
         Err(SeededFault::Memory) => Err(AllocError),
     }
 }

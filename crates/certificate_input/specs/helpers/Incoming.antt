@@ -76,11 +76,11 @@ module _ (code : Code) (bytes : List ℕ) where
   IsStage rest number (Ends n wrong) = IsWrong code bytes n wrong
 
 -- the stage after the first line
-abbrev pub IsBegun : List ℕ → Stage → Type 0
-IsBegun line Begins = ⊥
-IsBegun line (Follows c) = (header_text c.header ≡ line) × IsTrue (is_header c.header)
-    × ((code : Code) → IsChecking code c)
-IsBegun line (Ends n wrong) = (n ≡ 1) × (wrong ≡ Form) × IsNoHeader line
+abbrev pub IsBegun : Code → List ℕ → Stage → Type 0
+IsBegun code line Begins = ⊥
+IsBegun code line (Follows c) =
+    (header_text c.header ≡ line) × IsTrue (is_header c.header) × IsChecking code c
+IsBegun code line (Ends n wrong) = (n ≡ 1) × (wrong ≡ Form) × IsNoHeader line
 
 -- a stage at which a line may be taken
 abbrev pub IsTaking : Code → Stage → Type 0

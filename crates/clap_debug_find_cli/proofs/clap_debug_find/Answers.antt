@@ -1,6 +1,5 @@
 use Rattle.std.proofs.Common.{◌≡◌, ◌∙◌, ap, sym, subst, map, Some, None, option_map, refl, string_bytes}
-use Rattle.find_command.specs.Calls.{plain_search}
-use Rattle.clap_debug_find_words.specs.Calls.{call_of}
+use Rattle.clap_debug_find_words.specs.Calls.{call_of, plain_call}
 use Rattle.clap_debug_find_cli.specs.Call.{Does}
 use Rattle.clap_debug_find_cli.proofs.Heard.{unheard}
 use Rattle.clap_debug_find_cli.proofs.Told.{told}
@@ -11,20 +10,20 @@ pub returns-in-Ok-Some-clause-call : goal.returns-in-Ok-Some-clause-call
 returns-in-Ok-Some-clause-call g c =
     let words = map string_bytes c.args.words.now in
     let old = g.H.Shelf.tells c.args.shelf.now in
-    let new = g.H.Shelf.tells c.search_program.new.shelf in
-    let taken : Some (plain_search c.in-Ok-Some.search) ≡ call_of words = ap (option_map plain_search) (sym c.in-Ok-Some.field-0-is) ∙ c.in-Ok-Some.ensures in
-    subst (λ asked. Does asked old new c.search_program.result (g.K.Sink.tells c.args.sink.now) (g.K.Sink.tells c.search_program.new.sink)) taken c.search_program.ensures.runs
+    let new = g.H.Shelf.tells c.run_call.new.shelf in
+    let taken : Some (plain_call c.in-Ok-Some.call) ≡ call_of words = ap (option_map plain_call) (sym c.in-Ok-Some.field-0-is) ∙ c.in-Ok-Some.ensures in
+    subst (λ asked. Does asked old new c.run_call.result (g.K.Sink.tells c.args.sink.now) (g.K.Sink.tells c.run_call.new.sink)) taken c.run_call.ensures
 
 pub returns-in-Ok-Some-clause-answers : goal.returns-in-Ok-Some-clause-answers
 returns-in-Ok-Some-clause-answers g c =
-    told (g.H.Shelf.tells c.args.shelf.now) (g.H.Shelf.tells c.search_program.new.shelf) c.search_program.result (g.K.Sink.tells c.args.sink.now)
-    (g.K.Sink.tells c.search_program.new.sink) (call_of (map string_bytes c.args.words.now)) (returns-in-Ok-Some-clause-call g c)
+    told (g.H.Shelf.tells c.args.shelf.now) (g.H.Shelf.tells c.run_call.new.shelf) c.run_call.result (g.K.Sink.tells c.args.sink.now)
+    (g.K.Sink.tells c.run_call.new.sink) (call_of (map string_bytes c.args.words.now)) (returns-in-Ok-Some-clause-call g c)
 
 -- words that aren't taken
 pub returns-in-Ok-None-clause-call : goal.returns-in-Ok-None-clause-call
 returns-in-Ok-None-clause-call g c =
     let old = g.H.Shelf.tells c.args.shelf.now in
-    let none : None ≡ call_of (map string_bytes c.args.words.now) = ap (option_map plain_search) (sym c.in-Ok-None.field-0-is) ∙ c.in-Ok-None.ensures in
+    let none : None ≡ call_of (map string_bytes c.args.words.now) = ap (option_map plain_call) (sym c.in-Ok-None.field-0-is) ∙ c.in-Ok-None.ensures in
     subst (λ asked. Does asked old old c.put_usage.result (g.K.Sink.tells c.args.sink.now) (g.K.Sink.tells c.put_usage.new.sink)) none
     (refl, c.put_usage.ensures)
 

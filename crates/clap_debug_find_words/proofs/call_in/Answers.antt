@@ -1,15 +1,14 @@
-use Rattle.std.proofs.Common.{◌∙◌, ap, sym, Some, option_map}
+use Rattle.std.proofs.Common.{◌∙◌, ap, sym, cond}
 use Rattle.clap.specs.Words.{found_of, rows_of}
-use Rattle.clap_debug_find_words.specs.Calls.{model_named, search_in}
+use Rattle.clap_debug_find_words.specs.Calls.{check_call, search_call}
 use Rattle.clap_debug_find_words.proofs.call_in.Goals as goal
 
-pub returns-in-Some : goal.returns-in-Some
-returns-in-Some c =
+pub returns-then-is_given : goal.returns-then-is_given
+returns-then-is_given c =
     let rows = rows_of (found_of c.args.matches.now) in
-    ap (λ s. Some s) c.search_in.ensures
-    ∙ ap (option_map (λ model. search_in model rows)) (sym c.in-Some.is ∙ c.model_named.ensures ∙ ap model_named c.text.ensures)
+    c.check_call.ensures ∙ ap (λ b. cond b (check_call rows) (search_call rows)) (sym c.if-is_given.true ∙ c.is_given.ensures)
 
-pub returns-in-None : goal.returns-in-None
-returns-in-None c =
+pub returns-else-is_given : goal.returns-else-is_given
+returns-else-is_given c =
     let rows = rows_of (found_of c.args.matches.now) in
-    ap (option_map (λ model. search_in model rows)) (sym c.in-None.is ∙ c.model_named.ensures ∙ ap model_named c.text.ensures)
+    c.search_call.ensures ∙ ap (λ b. cond b (check_call rows) (search_call rows)) (sym c.if-is_given.false ∙ c.is_given.ensures)

@@ -4,16 +4,15 @@ use Rattle.clap.specs.Walk.{is_empty}
 use Rattle.clap.specs.declared.error.kind.ErrorKind.{ErrorKind}
 use Rattle.clap.specs.declared.error.kind.ErrorKind.TheVariants.{OutOfMemory}
 use Rattle.clap.proofs.SimpleLemmas.{is_nil}
-use Rattle.find_command.specs.Calls.{Search}
-use Rattle.clap_debug_find_words.specs.Calls.{call_in, call_of}
+use Rattle.clap_debug_find_words.specs.Calls.{Called, call_in, call_of}
 use Rattle.clap_debug_find_words.specs.CommandLine.{command_line, words_taken}
 use Rattle.clap_debug_find_words.proofs.call_of.Goals as goal
 
-taken : (ks : Kinds) (o : Option Search) → ks ≡ [] → cond (is_empty ks) o None ≡ o
+taken : (ks : Kinds) (o : Option Called) → ks ≡ [] → cond (is_empty ks) o None ≡ o
 taken [] o e = refl
 taken (k ∷ ks) o e = cc
 
-refused : (b : Bool) (o : Option Search) → (b ≡ true → ⊥) → None ≡ cond b o None
+refused : (b : Bool) (o : Option Called) → (b ≡ true → ⊥) → None ≡ cond b o None
 refused true o bad = absurd (bad refl)
 refused false o bad = refl
 

@@ -9,13 +9,14 @@ use Rattle.run_log.specs.Logs.{Log, StoredLog}
 use Rattle.tc_code.specs.Code.{Code}
 use Rattle.tc_code.specs.tc_limits.declared.limits.TheConstants.{THREADS}
 use Rattle.store_buffers.specs.Pending.{Binding}
+use Rattle.log_walk.specs.thread_paths.pure_turns.Live.{Liveness}
 use Rattle.log_walk.specs.Given.{IsLeftOut}
 use Rattle.log_walk.specs.Rest.{all, MakeUp}
 use Rattle.log_walk.specs.declared.bounds.Kind.{Kind}
 use Rattle.log_walk.specs.declared.bounds.LeftOut.{LeftOut}
 use Rattle.find_failures.specs.LeftOut.{is_over}
 use Rattle.find_failures.specs.Found.{IsRefuted, IsUnknown, AreMany}
-use Rattle.find_failures.specs.Runs.{IsNeeded, IsPossible, AreImpossible, NoneBelow, NoneBefore}
+use Rattle.find_failures.specs.Runs.{AreExcluded, AreExcludedBelow, IsNeeded, IsPossible, NoneBefore}
 use Rattle.find_failures.specs.declared.asked.Asked.{Asked}
 use Rattle.find_failures.specs.declared.found.Found.{Found}
 use Rattle.find_failures.specs.declared.found.Found.TheVariants as found
@@ -27,19 +28,21 @@ use Rattle.find_failures.specs.declared.round.Ended.{Ended}
 use Rattle.find_failures.specs.declared.round.Ended.TheVariants.{Possible, TooMany, Done}
 
 module _ {B : Type 0} (ops : BufferOps B) (model : Model) (code : Code) (kind : Kind) where
-  -- if no log is unknown, no log with fewer outcomes is possible
-  abbrev pub AreSettled : ℕ → Gone → Type 0
-  AreSettled most gone = gone.unknown ≡ None → NoneBelow ops model code kind most
-
   -- if no log is unknown, no log before the one of these threads is possible
   abbrev pub AreReached : Gone → List ThreadPath → Type 0
   AreReached gone ts = gone.unknown ≡ None → NoneBefore ops model code kind ts
 
-  -- all logs were gone through: if none is unknown, each is impossible, or was left out
+module _ {B : Type 0} (ops : BufferOps B) (model : Model) (code : Code) (live : Liveness)
+    (kind : Kind) where
+  -- if no log is unknown, those with fewer outcomes are excluded
+  abbrev pub AreSettled : ℕ → Gone → Type 0
+  AreSettled most gone = gone.unknown ≡ None → AreExcludedBelow ops model code live kind most
+
+  -- all logs were gone through: if none is unknown, each is excluded, or was left out
   abbrev pub AreDone : ℕ → Gone → LeftOut → Type 0
   AreDone most gone out =
       gone.unknown ≡ None → (ts : List ThreadPath) → MakeUp code kind (all code kind) ts
-      → AreImpossible ops model code kind ts ⊎ IsLeftOut most THREADS out ts
+      → AreExcluded ops model code live kind ts ⊎ IsLeftOut most THREADS out ts
 
 module _ {B : Type 0} (ops : BufferOps B) (model : Model) (bound : Binding) (code : Code)
     (asked : Asked) where
@@ -58,15 +61,18 @@ module _ {B : Type 0} (ops : BufferOps B) (model : Model) (bound : Binding) (cod
   IsTried before after fact None =
       AreGone after × (after.unknown ≡ None → (before.unknown ≡ None) × fact)
 
+module _ {B : Type 0} (ops : BufferOps B) (model : Model) (bound : Binding) (code : Code)
+    (live : Liveness) (asked : Asked) where
   -- how going through the logs with at most this number of outcomes ended
   abbrev pub HasEnded : ℕ → Gone → Ended → Type 0
-  HasEnded most after (Possible log) = IsHit log.log
+  HasEnded most after (Possible log) = IsHit ops model bound code asked log.log
   HasEnded most after TooMany = AreMany code asked (asked.logs + 1)
-  HasEnded most after (Done out) = AreDone ops model code asked.kind most after out
+  HasEnded most after (Done out) = AreDone ops model code live asked.kind most after out
 
   -- the logs gone through, and how that ended
   abbrev pub IsEnded : ℕ → Gone → Ended → Type 0
-  IsEnded most after ended = AreGone after × HasEnded most after ended
+  IsEnded most after ended =
+      AreGone ops model bound code asked after × HasEnded most after ended
 
 -- whether more outcomes aren't asked for, or lead to no more logs
 abbrev pub is_last : Asked → ℕ → Ended → Bool

@@ -1,6 +1,6 @@
 use Rattle.command_frame.proofs.AllRuns.{if_told}
 use Rattle.least_command.specs.Answers.{LeastAnswers}
-use Rattle.least_command.specs.helpers.Asked.{plain_least}
+use Rattle.least_command.specs.Calls.{plain_least}
 use Rattle.least_command.proofs.Answered.{least_answers}
 use Rattle.least_command.proofs.find_least.Goals as goal
 

@@ -1,13 +1,10 @@
--- The command as the value that clauses see.
+-- What a call finds for a task.
+use Rattle.std.specs.Prelude.{ℕ, List}
+use Rattle.log_tasks.specs.Tasks.{Task, model_of}
 use Rattle.least_command.specs.Calls.{Least}
-use Rattle.least_command.specs.declared.command.Least.{Least as RawLeast}
+use Rattle.least_command.specs.Meanings.{IsFound}
+use Rattle.least_command.specs.declared.solution.Solution.{Solution}
 
-abbrev pub plain_least : RawLeast → Least
-plain_least least = record {
-  program = least.inputs.0.name.now;
-  log = least.inputs.1.name.now;
-  out = least.out.now;
-  refutation = least.refutation.now;
-  model = least.model;
-  budget = least.budget.conflicts;
-}
+abbrev pub IsSolution : Least → {program log : List ℕ} → Task program log → Solution → Type 0
+IsSolution call t x =
+    IsFound call.budget t.pair.code t.pair.run.log (model_of call.asked.model t.pair) x

@@ -6,6 +6,7 @@ use Rattle.tc_limits.specs.declared.limits.TheConstants.{DEPTH}
 use Rattle.tc_base.specs.Paths.{Path, ThreadPath}
 use Rattle.tc_code.specs.Code.{Code}
 use Rattle.thread_paths.specs.path_walk.Steps.{Onward}
+use Rattle.thread_paths.specs.pure_turns.Live.{Liveness}
 use Rattle.thread_paths.specs.Ends.{MayTake}
 use Rattle.thread_paths.specs.Order.{comes_from}
 use Rattle.thread_paths.specs.declared.aim.Scope.{Scope}
@@ -13,6 +14,7 @@ use Rattle.thread_paths.specs.declared.found.Cut.{Cut}
 use Rattle.log_walk.specs.Order.{are_from, are_to_come}
 use Rattle.log_walk.specs.Rest.{Rest, MakeUp, aim_of}
 use Rattle.log_walk.specs.Given.{IsLeftOut, IsWithin}
+use Rattle.log_walk.specs.Turns.{ShowTurn}
 use Rattle.log_walk.specs.declared.bounds.Bounds.{Bounds}
 use Rattle.log_walk.specs.declared.bounds.LeftOut.{LeftOut}
 use Rattle.log_walk.specs.declared.rest.Awaited.{Awaited}
@@ -66,8 +68,13 @@ abbrev pub behind : Path → Option (List ThreadPath) → Wanted
 behind p last [] = false
 behind p last (t ∷ ts) = (comes_from p t.path && comes_from t.path p) && are_to_come last ts
 
-module _ (code : Code) (bounds : Bounds) (rest : Rest) (wanted : Wanted) (room : ℕ)
-    (out : LeftOut) where
+-- threads are left out for a limit, or since some path shows a pure turn
+abbrev pub AreExcused : Code → Liveness → Bounds → Rest → ℕ → LeftOut → List ThreadPath → Type 0
+AreExcused code live bounds rest room out us =
+    IsLeftOut bounds.most room out us ⊎ ShowTurn code live bounds.kind rest us
+
+module _ (code : Code) (live : Liveness) (bounds : Bounds) (rest : Rest) (wanted : Wanted)
+    (room : ℕ) (out : LeftOut) where
   -- these are the first threads that complete the log and pass the test
   pub record AreFirst (ts : List ThreadPath) : Type 0 where
     pub make_up : MakeUp code bounds.kind rest ts
@@ -75,13 +82,13 @@ module _ (code : Code) (bounds : Bounds) (rest : Rest) (wanted : Wanted) (room :
     pub fits : length ts ≤ room
     pub within : All (IsWithin bounds.most) ts
     pub others : (us : List ThreadPath) → MakeUp code bounds.kind rest us → wanted us ≡ true
-        → (are_from ts us ≡ true) ⊎ IsLeftOut bounds.most room out us
+        → (are_from ts us ≡ true) ⊎ AreExcused code live bounds rest room out us
 
   -- no threads complete the log and pass the test, except those left out
   abbrev pub AreNone : Type 0
   AreNone =
       (us : List ThreadPath) → MakeUp code bounds.kind rest us → wanted us ≡ true
-      → IsLeftOut bounds.most room out us
+      → AreExcused code live bounds rest room out us
 
 -- an awaited thread may take a path, and is within the bounds with it
 pub record IsTaken (code : Code) (bounds : Bounds) (rest : Rest) (next : Awaited)
@@ -94,23 +101,18 @@ abbrev pub CanFollow : Code → Bounds → Rest → Option (List ThreadPath) →
 CanFollow code bounds rest last =
     IfSome last (λ ts. MakeUp code bounds.kind rest ts × All (IsWithin bounds.most) ts)
 
--- the first threads were added after those before
-pub record IsAdded (code : Code) (bounds : Bounds) (rest : Rest) (wanted : Wanted) (room : ℕ)
-    (before after : List ThreadPath) (out : LeftOut)
-    : Type 0 where
-  pub added : List ThreadPath
-  pub is : after ≡ before ++ added
-  pub first : AreFirst code bounds rest wanted room out added
+module _ (code : Code) (live : Liveness) (bounds : Bounds) (rest : Rest) (wanted : Wanted)
+    (room : ℕ) (before after : List ThreadPath) (out : LeftOut) where
+  -- the first threads were added after those before
+  pub record IsAdded : Type 0 where
+    pub added : List ThreadPath
+    pub is : after ≡ before ++ added
+    pub first : AreFirst code live bounds rest wanted room out added
 
-pub record IsSame (code : Code) (bounds : Bounds) (rest : Rest) (wanted : Wanted) (room : ℕ)
-    (before after : List ThreadPath) (out : LeftOut)
-    : Type 0 where
-  pub same : after ≡ before
-  pub none : AreNone code bounds rest wanted room out
+  pub record IsSame : Type 0 where
+    pub same : after ≡ before
+    pub none : AreNone code live bounds rest wanted room out
 
-abbrev pub IsEnd : Code → Bounds → Rest → Wanted → ℕ → List ThreadPath → List ThreadPath → LeftOut
-    → Bool → Type 0
-IsEnd code bounds rest wanted room before after out true =
-    IsAdded code bounds rest wanted room before after out
-IsEnd code bounds rest wanted room before after out false =
-    IsSame code bounds rest wanted room before after out
+  abbrev pub IsEnd : Bool → Type 0
+  IsEnd true = IsAdded
+  IsEnd false = IsSame

@@ -1,4 +1,4 @@
-use Rattle.migrate_command.specs.helpers.Asked.{plain_migrate}
+use Rattle.migrate_command.specs.Meanings.{plain_migrate}
 use Rattle.migrate_command.proofs.ByStatus.{by_files}
 use Rattle.migrate_command.proofs.migrate_log.Goals as goal
 

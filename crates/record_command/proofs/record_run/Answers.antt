@@ -1,4 +1,4 @@
-use Rattle.record_command.specs.helpers.Asked.{plain_record}
+use Rattle.record_command.specs.Runs.{plain_record}
 use Rattle.record_command.proofs.ByStatus.{by_files}
 use Rattle.record_command.proofs.record_run.Goals as goal
 

@@ -1,6 +1,6 @@
 use Rattle.command_frame.proofs.AllRuns.{if_told}
 use Rattle.solve_command.specs.Answers.{SolveAnswers}
-use Rattle.solve_command.specs.helpers.Asked.{plain_solve}
+use Rattle.solve_command.specs.Calls.{plain_solve}
 use Rattle.solve_command.proofs.Answered.{solve_answers}
 use Rattle.solve_command.proofs.solve_log.Goals as goal
 

@@ -9,10 +9,13 @@ use Rattle.tc_code.specs.declared.instr.Instr.TheVariants.{Branch, Goto}
 use Rattle.thread_marks.specs.list_laws.Lists.{is_nil}
 use Rattle.thread_marks.specs.path_walk.Events.{excludes}
 use Rattle.thread_marks.specs.path_walk.Marks.{Marks, marks_at_start, marks_after_instr}
-use Rattle.thread_marks.specs.path_walk.Steps.{Onward, onward, is_site, can_block}
-use Rattle.thread_marks.specs.Own.{Own, own_of}
+use Rattle.thread_marks.specs.path_walk.Steps.{Onward, onward, is_site, can_block, places_from}
+use Rattle.thread_marks.specs.path_walk.helpers.Accounts.{prefixed}
+use Rattle.thread_marks.specs.Own.{own_of}
+use Rattle.slot_liveness.specs.pure_turns.Live.{Liveness}
 use Rattle.thread_paths.specs.Ends.{is_exit, is_used}
 use Rattle.thread_paths.specs.Order.{is_from}
+use Rattle.thread_paths.specs.Turns.{HasTurn}
 use Rattle.thread_paths.specs.declared.aim.Aim.{Aim}
 use Rattle.thread_paths.specs.declared.aim.End.{End}
 use Rattle.thread_paths.specs.declared.aim.End.TheVariants.{Exit, Used, Open, Rest}
@@ -23,8 +26,9 @@ use Rattle.thread_paths.specs.declared.descent.At.{At}
 use Rattle.thread_paths.specs.declared.descent.Descent.{Descent}
 use Rattle.thread_paths.specs.declared.descent.Descent.TheVariants.{Found, Spent}
 use Rattle.thread_paths.specs.declared.descent.Reason.{Reason}
-use Rattle.thread_paths.specs.declared.descent.Reason.TheVariants.{Dead, TooMany, TooLong}
+use Rattle.thread_paths.specs.declared.descent.Reason.TheVariants.{Dead, TooMany, TooLong, Turn}
 use Rattle.thread_paths.specs.declared.found.Cut.{Cut}
+use Rattle.thread_paths.specs.declared.past.Past.{Past}
 
 -- the first `n` outcomes as a number of bits, the highest bit first
 abbrev pub worth : ℕ → List Bool → ℕ
@@ -132,16 +136,19 @@ is_end code scope steps t i to outcomes =
     && is_last code scope.function scope.aim t i to.place
 
 -- the paths that a descent leaves out
-abbrev pub IsExcused : Scope → Reason → List Bool → ℕ → Type 0
-IsExcused scope Dead q s = ⊥
-IsExcused scope TooMany q s = scope.most < length q
-IsExcused scope TooLong q s = STEPS < s
+abbrev pub IsExcused : Code → Liveness → Scope → Reason → List Bool → ℕ → Type 0
+IsExcused code live scope Dead q s = ⊥
+IsExcused code live scope TooMany q s = scope.most < length q
+IsExcused code live scope TooLong q s = STEPS < s
+IsExcused code live scope Turn q s =
+    HasTurn code live scope.function (record { outcomes = q; steps = s })
 
 -- what was left out, with one more reason
 abbrev pub cut_by : Cut → Reason → Cut
 cut_by cut Dead = cut
 cut_by cut TooMany = record cut { outcomes = true }
 cut_by cut TooLong = record cut { steps = true }
+cut_by cut Turn = cut
 
 -- a path extends the outcomes done so far and has more than `n` steps
 pub record Passes (n : ℕ) (done rest : List Bool) (least : ℕ) (q : List Bool) (s : ℕ) : Type 0 where
@@ -153,9 +160,9 @@ pub record Passes (n : ℕ) (done rest : List Bool) (least : ℕ) (q : List Bool
 
 module _ (code : Code) (scope : Scope) (start : List Bool) (first : ℕ) where
   -- the place after `n` steps by the first of these outcomes
-  pub record IsNode (n : ℕ) (at : At) (o : List Bool) (own : Own) : Type 0 where
+  pub record IsNode (n : ℕ) (at : At) (o : List Bool) (past : Past) : Type 0 where
     pub marks : Marks
-    pub is : own ≡ own_of marks
+    pub is : past.own ≡ own_of marks
     pub done : List Bool
     pub rest : List Bool
     pub whole : o ≡ done ++ rest
@@ -166,6 +173,10 @@ module _ (code : Code) (scope : Scope) (start : List Bool) (first : ℕ) where
         → goes code scope.function scope.aim (n + m) (marks_at_start code scope.function) 0
         (done ++ r)
         ≡ goes code scope.function scope.aim m marks at.place r
+    pub long : length past.places.items ≡ n
+    pub along : (m : ℕ) (r : List Bool)
+        → places_from code scope.function (n + m) 0 (done ++ r)
+        ≡ prefixed past.places.items (places_from code scope.function m at.place r)
     pub back : (r : List Bool) (s : ℕ) → is_from rest at.least r s ≡ true
         → is_from start first (done ++ r) s ≡ true
     pub behind : (q : List Bool) (s : ℕ) → leaves_behind o q ≡ true → is_from start first q s ≡ true
@@ -191,12 +202,13 @@ module _ (code : Code) (scope : Scope) (start : List Bool) (first : ℕ) where
         → is_from start first q s ≡ true
         → (leaves_behind o q ≡ true) ⊎ Excused q s
 
+module _ (code : Code) (live : Liveness) (scope : Scope) (start : List Bool) (first : ℕ) where
   -- the result of a descent
   abbrev pub IsDescent : List Bool → Descent → Type 0
-  IsDescent o (Found n) = IsLowest o n
-  IsDescent o (Spent why) = IsSpent o (IsExcused scope why)
+  IsDescent o (Found n) = IsLowest code scope start first o n
+  IsDescent o (Spent why) = IsSpent code scope start first o (IsExcused code live scope why)
 
   -- one step further, or the end of the descent
-  abbrev pub IsAdvance : ℕ → List Bool → Own → Advance → Type 0
-  IsAdvance n o own (On at) = IsNode (n + 1) at o own
-  IsAdvance n o own (Ends d) = IsDescent o d
+  abbrev pub IsAdvance : ℕ → List Bool → Past → Advance → Type 0
+  IsAdvance n o past (On at) = IsNode code scope start first (n + 1) at o past
+  IsAdvance n o past (Ends d) = IsDescent o d

@@ -1,4 +1,4 @@
-use Rattle.workload_command.specs.helpers.Asked.{plain_workload}
+use Rattle.workload_command.specs.Works.{plain_workload}
 use Rattle.workload_command.proofs.ByStatus.{by_files}
 use Rattle.workload_command.proofs.try_workload.Goals as goal
 

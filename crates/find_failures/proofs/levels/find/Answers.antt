@@ -1,4 +1,5 @@
 use Rattle.std.proofs.Common.{sym, subst}
+use Rattle.slot_liveness.specs.Tables.{liveness}
 use Rattle.find_failures.specs.Found.{IsSearched}
 use Rattle.find_failures.proofs.Runs.{searched_right}
 use Rattle.find_failures.proofs.levels.find.Goals as goal
@@ -15,4 +16,4 @@ returns g c =
       code = c.args.code.now;
       lawful = c.functions-functions.ensures.lawful;
     })
-    c.args.asked c.levels.new.gone c.in_ok-ended.ended c.in_ok-ended.ensures)
+    (liveness c.in_ok-live.live) c.in_ok-live.ensures c.args.asked c.levels.new.gone c.in_ok-ended.ended c.in_ok-ended.ensures)

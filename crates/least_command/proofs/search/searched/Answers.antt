@@ -2,7 +2,7 @@ use Rattle.std.proofs.Common.{◌∙◌, ap, subst, unwrap_or, IfOk}
 use Rattle.log_tasks.specs.Tasks.{Pair, model_of}
 use Rattle.log_tasks.proofs.Refused.{searched, unsearched}
 use Rattle.least_command.specs.Meanings.{IsFound}
-use Rattle.least_command.specs.helpers.Asked.{plain_least}
+use Rattle.least_command.specs.Calls.{plain_least}
 use Rattle.least_command.proofs.search.searched.Goals as goal
 
 pub returns-clause-solution : goal.returns-clause-solution
@@ -10,9 +10,9 @@ returns-clause-solution c =
     let call = plain_least c.args.least.now in
     let pair : Pair c.args.program.now c.args.log.now =
     record { code = c.in_ok-code.code; run = c.in_ok-code.log; programs = c.in_ok-code.ensures.code; logs = c.in_ok-code.ensures.log } in
-    let same = c.unwrap_or-model.ensures ∙ ap (unwrap_or call.model) c.model.ensures in
-    let found = subst (λ m. IfOk c.search-found.result (IsFound pair.code pair.run.log m call.budget)) same c.search-found.ensures.found in
-    searched pair c.in_ok-code.ensures.own (λ p x. IsFound p.code p.run.log (model_of call.model p) call.budget x) c.search-found.result found
+    let same = c.unwrap_or-model.ensures ∙ ap (unwrap_or call.asked.model) c.model.ensures in
+    let found = subst (λ m. IfOk c.search-found.result (IsFound call.budget pair.code pair.run.log m)) same c.search-found.ensures.found in
+    searched pair c.in_ok-code.ensures.own (λ p x. IsFound call.budget p.code p.run.log (model_of call.asked.model p) x) c.search-found.result found
     c.search-found.ensures.within
 
 pub returns-clause-refused : goal.returns-clause-refused

@@ -1,5 +1,6 @@
 use Rattle.std.proofs.Common.{rules}
-use Rattle.migrate_command.proofs.Refused.{is_own, other, over, unfit, unread}
+use Rattle.kept_logs.proofs.path_log.Logs.{has_text}
+use Rattle.migrate_command.proofs.Refused.{other, over, unfit, unread}
 use Rattle.migrate_command.proofs.migrate.migrated.Goals as goal
 
 pub returns-in_err-code-clause-refused : goal.returns-in_err-code-clause-refused
@@ -25,13 +26,19 @@ returns-in_err-walk-clause-refused c =
     c.in_ok-refuse_other.ensures.same c.in_ok-refuse_excess.ensures.within c.in_err-walk.field-0.0 c.in_err-walk.ensures.err in
     search rules
 
+pub text_with_digest-requires : goal.text_with_digest-requires
+text_with_digest-requires c = (has_text c.in_ok-code.ensures.log).is_of_format
+
 pub returns-clause-text : goal.returns-clause-text
 returns-clause-text c = record {
-  code = c.in_ok-code.code;
-  run = c.in_ok-code.log;
-  is_own = is_own c.args.program.now c.args.log.now c.in_ok-code.code c.in_ok-code.log c.in_ok-code.ensures.code c.in_ok-code.ensures.log
-      c.in_ok-refuse_other.ensures.same;
+  pair = record {
+    code = c.in_ok-code.code;
+    run = c.in_ok-code.log;
+    programs = c.in_ok-code.ensures.code;
+    logs = c.in_ok-code.ensures.log;
+  };
+  own = c.in_ok-refuse_other.ensures.same;
   within = c.in_ok-refuse_excess.ensures.within;
   fits = c.in_ok-walk.ensures.fits;
-  is_text = c.in_ok-text.ensures.text;
+  is_text = c.in_ok-text.ensures.log;
 }

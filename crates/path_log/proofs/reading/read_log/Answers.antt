@@ -1,10 +1,10 @@
 use Rattle.std.proofs.Common.{arith}
 use Rattle.std.proofs.lemmas.Result.{err_from_is_err_and}
-use Rattle.path_log.proofs.Logs.{whole_takes, same_log, only_memory}
+use Rattle.path_log.proofs.Logs.{is_read, same_log, only_memory}
 use Rattle.path_log.proofs.reading.read_log.Goals as goal
 
 pub returns-clause-found : goal.returns-clause-found
-returns-clause-found c = whole_takes c.args.text.now _ (λ i. omega (arith, c.type_inv.text i)) c.in_ok-log.ensures
+returns-clause-found c = is_read c.args.text.now _ (λ i. omega (arith, c.type_inv.text i)) c.in_ok-log.ensures
 
 pub returns-clause-again : goal.returns-clause-again
 returns-clause-again c = same_log c.args.text.now _ (λ i. omega (arith, c.type_inv.text i)) c.in_ok-log.ensures

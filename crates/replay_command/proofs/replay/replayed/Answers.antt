@@ -5,11 +5,13 @@ use Rattle.replay_command.proofs.replay.replayed.Goals as goal
 pub returns-clause-verdict : goal.returns-clause-verdict
 returns-clause-verdict c = record {
   files = record {
-    code = c.in_ok-code.code;
-    run = c.in_ok-code.log;
+    pair = record {
+      code = c.in_ok-code.code;
+      run = c.in_ok-code.log;
+      programs = c.in_ok-code.ensures.code;
+      logs = c.in_ok-code.ensures.log;
+    };
     plan = record { model = c.in_ok-schedule.schedule.model; moves = c.in_ok-schedule.schedule.moves.items };
-    programs = c.in_ok-code.ensures.code;
-    logs = c.in_ok-code.ensures.log;
     schedules = record { have_text = c.in_ok-schedule.schedule.has_text; text = c.in_ok-schedule.ensures.found };
   };
   own = c.in_ok-refuse_other.ensures.same;

@@ -3,4 +3,4 @@ use Rattle.log_walk.specs.Given.{IsOne}
 use Rattle.test_find.proofs.logs.all_logs.Given as goal
 
 abbrev pub invariant-logs : goal.invariant-logs
-invariant-logs l = IfSome (option_map (λ v. v.items) l.last) (IsOne l.code l.bounds)
+invariant-logs l = IfSome (option_map (λ v. v.items) l.last) (IsOne l.program.code.now l.bounds)

@@ -1,7 +1,7 @@
 use Rattle.std.proofs.Common.{◌∙◌, ap, subst, rules}
 use Rattle.run_log.specs.Logs.{StoredLog}
 use Rattle.tc_compile.specs.Programs.{IsCodeOf, IsWhyNoCode}
-use Rattle.workload_command.specs.helpers.Asked.{plain_workload}
+use Rattle.workload_command.specs.Works.{plain_workload}
 use Rattle.workload_command.proofs.Worked.{searched, uncoded, unsearched}
 use Rattle.workload_command.proofs.work.worked.Goals as goal
 

@@ -1,3 +1,4 @@
+use Rattle.slot_liveness.specs.Tables.{liveness}
 use Rattle.certified_logs.proofs.Places.{is_next}
 use Rattle.certified_logs.proofs.Promised.{unfit_so}
 use Rattle.certified_logs.proofs.place.Place.turn.Goals as goal
@@ -21,6 +22,6 @@ returns-in-Err-Walk c =
 pub returns-in-Err-Limit : goal.returns-in-Err-Limit
 returns-in-Err-Limit c = (
   c.in-Some.log.log,
-  is_next c.args.code.now c.args.header c.args.self.now c.requires.at c.in-Some.log.log (rw c.in-Some.is at c.in_ok-log.ensures),
+  is_next c.args.code.now (liveness c.args.self.now.live) c.args.header c.args.self.now c.requires.at.reached c.in-Some.log.log (rw c.in-Some.is at c.in_ok-log.ensures),
   rw c.in-Err-Limit.field-0-is at c.in-Err-Limit.ensures.fault,
 )

@@ -1,6 +1,6 @@
 use Rattle.std.proofs.Common.{subst₂}
 use Rattle.log_tasks.specs.Tasks.{Task}
-use Rattle.cnf_command.specs.Meanings.{IsExported}
+use Rattle.cnf_command.specs.helpers.Asked.{IsExported}
 use Rattle.cnf_command.proofs.command.CnfWork.work.Goals as goal
 
 pub returns-in-Ok : goal.returns-in-Ok

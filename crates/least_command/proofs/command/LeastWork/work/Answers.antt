@@ -1,7 +1,7 @@
 use Rattle.std.proofs.Common.{subst₂}
 use Rattle.log_tasks.specs.Tasks.{Task}
-use Rattle.least_command.specs.Meanings.{IsSolution}
-use Rattle.least_command.specs.helpers.Asked.{plain_least}
+use Rattle.least_command.specs.Calls.{plain_least}
+use Rattle.least_command.specs.helpers.Asked.{IsSolution}
 use Rattle.least_command.proofs.command.LeastWork.work.Goals as goal
 
 pub returns-in-Ok : goal.returns-in-Ok

@@ -1,6 +1,7 @@
 use Rattle.std.proofs.Common.{◌≡◌, ◌+◌, ◌*◌, Some}
 use Rattle.std.specs.Prelude.{IfSome, slice_get}
 use Rattle.tc_base.specs.Paths.{Path}
+use Rattle.slot_liveness.specs.Tables.{liveness}
 use Rattle.thread_paths.specs.Search.{IsFirst}
 use Rattle.log_walk.specs.helpers.Searches.{scope_of, IsKept, IsTaken}
 use Rattle.log_walk.proofs.Orders.{left_of}
@@ -20,9 +21,9 @@ abbrev pub invariant-first_from-paths : goal.invariant-first_from-paths
 invariant-first_from-paths l = record {
   same : l.self.threads.items ≡ l.fn.self.threads.items;
   kept : IsKept l.fn.self.out l.self.out;
-  taken : IfSome l.found.path (IsTaken l.code l.bounds l.rest l.next);
-  at : (start : Path) → IsFirst l.code (scope_of l.bounds l.rest l.next) start l.fn.found → (first : slice_get l.rest.awaited 0 ≡ Some l.next)
-      → IsAt l.code l.bounds l.rest l.next first start l.room l.found l.self.out;
+  taken : IfSome l.found.path (IsTaken l.program.code.now l.bounds l.rest l.next);
+  at : (start : Path) → IsFirst l.program.code.now (liveness l.program.live.now) (scope_of l.bounds l.rest l.next) start l.fn.found → (first : slice_get l.rest.awaited 0 ≡ Some l.next)
+      → IsAt l.program.code.now (liveness l.program.live.now) l.bounds l.rest l.next first start l.room l.found l.self.out;
 }
 
 abbrev pub decreases-first_from-paths : goal.decreases-first_from-paths

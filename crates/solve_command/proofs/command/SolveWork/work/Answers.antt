@@ -1,7 +1,7 @@
 use Rattle.std.proofs.Common.{subst₂}
 use Rattle.log_tasks.specs.Tasks.{Task}
-use Rattle.solve_command.specs.Meanings.{IsSolution}
-use Rattle.solve_command.specs.helpers.Asked.{plain_solve}
+use Rattle.solve_command.specs.Calls.{plain_solve}
+use Rattle.solve_command.specs.helpers.Asked.{IsSolution}
 use Rattle.solve_command.proofs.command.SolveWork.work.Goals as goal
 
 pub returns-in-Ok : goal.returns-in-Ok

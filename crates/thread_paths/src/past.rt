@@ -1,0 +1,12 @@
+//! The steps that a thread has taken.
+
+use thread_marks::Own;
+
+/// What the steps of a thread determine so far.
+#[derive(Drop)]
+pub struct Past {
+    /// Its mutexes and thread variables.
+    pub own: Own,
+    /// The places of the steps, in order.
+    pub places: Vec<usize>,
+}

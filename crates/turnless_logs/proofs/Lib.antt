@@ -1,0 +1,7 @@
+pub use Rattle.walked_logs.proofs as walked_logs
+pub mod Idle
+pub mod Carried
+pub mod Turns
+pub mod Shown
+pub mod Logs
+pub mod Runs

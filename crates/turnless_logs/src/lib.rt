@@ -1,0 +1,34 @@
+//! The logs in which no path shows a pure turn suffice to find every failure and every deadlock. A
+//! pure turn is a round of a loop that changes nothing, so a search may leave out each path that
+//! shows one.
+//!
+//! Each function states a law, and its body does nothing.
+#![tactic(auto)]
+
+ghost use Rattle.std.specs.Prelude.{ℕ, IsSome};
+ghost use Rattle.log_walk.specs.tc_code.Run.{IsStuck};
+ghost use Rattle.pure_turns.specs.Live.{Liveness, IsClosed};
+ghost use Rattle.normal_logs.specs.run_follows.Machine.{Machine};
+ghost use Rattle.normal_logs.specs.Within.{at_most, ComesTo, ReproducesSome};
+ghost use Rattle.turnless_logs.specs.Turnless.{any_outcomes, IsTurnless, IsTurnlessDeadlock};
+
+/// If no run reproduces a log of a failure in which no path shows a pure turn, no run fails. The same
+/// holds of the runs and logs in which each thread has at most `most` outcomes.
+pub fn turnless_failures_suffice<B>()
+    ensures whole { (m : Machine B) (live : Liveness) → IsClosed m.code live
+        → (ReproducesSome m.ops m.code any_outcomes m.model (IsTurnless m.code live) → ⊥)
+        → ComesTo m.ops m.code any_outcomes (λ s. IsSome s.failed) → ⊥ }
+    ensures within { (m : Machine B) (live : Liveness) (most : ℕ) → IsClosed m.code live
+        → (ReproducesSome m.ops m.code (at_most most) m.model (IsTurnless m.code live) → ⊥)
+        → ComesTo m.ops m.code (at_most most) (λ s. IsSome s.failed) → ⊥ }
+{}
+
+/// The same for deadlocks.
+pub fn turnless_deadlocks_suffice<B>()
+    ensures whole { (m : Machine B) (live : Liveness) → IsClosed m.code live
+        → (ReproducesSome m.ops m.code any_outcomes m.model (IsTurnlessDeadlock m.code live) → ⊥)
+        → ComesTo m.ops m.code any_outcomes (IsStuck m.ops m.code) → ⊥ }
+    ensures within { (m : Machine B) (live : Liveness) (most : ℕ) → IsClosed m.code live
+        → (ReproducesSome m.ops m.code (at_most most) m.model (IsTurnlessDeadlock m.code live) → ⊥)
+        → ComesTo m.ops m.code (at_most most) (IsStuck m.ops m.code) → ⊥ }
+{}
