@@ -41,7 +41,7 @@ use Rattle.turnless_logs.proofs.Idle.{slot_stays, held_stays, held_by_cas, idle_
 use Rattle.turnless_logs.proofs.Carried.{own_step, place_is, instr_is, count_own, StepIn, step_in, reach}
 
 -- a thread has each slot that its next instruction writes
-slot_within : (code : Code) (t : Local) (i : Instr) (k : ℕ) → IsLawful code → IsWholeThread code t → instr_of code t ≡ Some i
+pub slot_within : (code : Code) (t : Local) (i : Instr) (k : ℕ) → IsLawful code → IsWholeThread code t → instr_of code t ≡ Some i
     → ((g : Func) → IsTrue (names_what_is code g i) → nat_lt k g.ints ≡ true) → k < length t.slots
 slot_within code t i k lawful whole at named =
     let p = placed_next code t i lawful at in
@@ -84,7 +84,7 @@ module _ {B : Type 0} (setting : Setting B) (history : HistoryAlong setting) (th
       ∙ ap (λ q. option_or (fails (Did n k q v o)) (failed_in older)) fail)
 
   -- each thread has the slots of its function
-  whole_at : (older rest : List Deed) (x : IsNextOnPath code older w) → h ≡ older ++ rest → IsWholeThread code x.local
+  pub whole_at : (older rest : List Deed) (x : IsNextOnPath code older w) → h ≡ older ++ rest → IsWholeThread code x.local
   whole_at older rest x at =
       let a = reaches machine older (first_follow ops.buffered bound code older rest (subst (AllFollow ops.buffered bound code) at along.follow)) in
       let t = has machine older a n x.local x.there in
