@@ -51,6 +51,23 @@ PROGRAMS = {
         2, "thread f() { while (x == 0) { signal(c); } } main { tid t; lock(m); t = create f(); wait(c, m); x = 1; join(t); assert(0); }"),
     "a round that creates": (
         2, "thread g() { y = 1; } thread f() { tid u; while (x == 0) { u = create g(); } } " + MAIN + "r = y; x = 1; join(t); assert(!r); }"),
+    "a counted loop": (3, "thread f() { int i; while (i < 2) { x = x + 1; i = i + 1; } } " + MAIN + "join(t); assert(x == 2); }"),
+    "counted loops of two threads": (
+        3, "thread f() { int i; while (i < 2) { x = x + 1; i = i + 1; } } " + MAIN
+        + "while (r < 2) { x = x + 1; r = r + 1; } join(t); assert(x == 4); }"),
+    "nested loops": (
+        7, "thread f() { int i; int j; while (i < 2) { j = 0; while (j < 1) { x = x + 1; j = j + 1; } i = i + 1; } } " + MAIN
+        + "join(t); assert(x == 2); }"),
+    "a loop with a bound from memory": (
+        3, "thread f() { int i; int n; n = y; while (i < n) { x = x + 1; i = i + 1; } } " + MAIN + "y = 2; join(t); assert(x < 3); }"),
+    "a loop with a bound as an argument": (
+        3, "thread f(int n) { int i; while (i < n) { x = x + 1; i = i + 1; } } main { tid t; t = create f(2); join(t); assert(x == 2); }"),
+    "a loop of the creator with that bound": (
+        3, "thread f(int n) { x = n; } main { tid t; int i; int n; n = 2; t = create f(n); while (i < n) { y = y + 1; i = i + 1; } "
+        "join(t); assert(x == y); }"),
+    "a counted loop that waits for a lock": (
+        3, "thread f() { int i; while (i < 2) { lock(m); x = x + 1; unlock(m); i = i + 1; } } " + MAIN
+        + "while (r < 2) { lock(m); x = x + 1; unlock(m); r = r + 1; } join(t); assert(x == 4); }"),
     "locks in turn": (3, "thread f() { lock(m); lock(n); unlock(n); unlock(m); } " + MAIN + "lock(n); lock(m); unlock(m); unlock(n); join(t); }"),
     "locks in one order": (3, "thread f() { lock(m); lock(n); unlock(n); unlock(m); } " + MAIN + "lock(m); lock(n); unlock(n); unlock(m); join(t); }"),
     "a signal that may be lost": (3, "thread f() { lock(m); signal(c); unlock(m); } " + MAIN + "lock(m); wait(c, m); unlock(m); }"),
@@ -107,7 +124,7 @@ def tried(code, kind, most):
 
 def is_cut(code, most):
     """Whether some function has a path of more outcomes."""
-    return any(len(outcomes) > most for f in code.functions for _, outcomes, _, _ in prefixes(f.instrs, most + 1))
+    return any(len(outcomes) > most for f in code.functions for _, outcomes, _, _ in prefixes(f, most + 1))
 
 
 def name_of(numbers):

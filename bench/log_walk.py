@@ -3,7 +3,7 @@
 
   log_walk.py > ROWS
 
-All products of paths without pure turns are made, each is judged by what a normal log is, and those that are normal are sorted.
+All products of paths that are needed are made, each is judged by what a normal log is, and those that are normal are sorted.
 """
 import re
 
@@ -37,6 +37,11 @@ GROUPS = {
         "thread f() { int r; r = cas(x, 0, 1); while (r) { r = cas(x, 0, 1); } x = 0; } M join(t); assert(x); }",
         "thread f() { while (x == 0) { a[0] = 1; } } M x = 1; join(t); assert(!a[0]); }",
         "thread f() { int n; while (x == 0) { n = 1; } assert(!n); } M x = 1; }",
+    ],
+    "counted loops": [
+        "thread f() { int i; while (i < 2) { x = x + 1; i = i + 1; } } M join(t); assert(x == 2); }",
+        "thread f() { int i; while (i < 1) { lock(m); i = i + 1; } } M lock(m); join(t); assert(x); }",
+        "thread f(int n) { int i; while (i < n) { i = i + 1; } x = i; } main { tid t; t = create f(1); join(t); assert(x == 1); }",
     ],
     "children, outcomes and mutexes": [
         "thread f() { while (x == 0) { lock(m); x = 1; unlock(m); } assert(x); } M lock(m); x = 2; unlock(m); join(t); assert(x); }",
@@ -104,7 +109,7 @@ def is_normal(threads, failing):
 
 
 def logs(code, kind, most):
-    ways = [[Way(f.instrs, *way[:3]) for way in prefixes(f.instrs, most)] for f in code.functions]
+    ways = [[Way(f.instrs, *way[:3]) for way in prefixes(f, most)] for f in code.functions]
     found = []
 
     def go(threads, awaited):

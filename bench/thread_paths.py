@@ -3,15 +3,16 @@
 
   thread_paths.py [--examples] > ROWS    of the programs below; with --examples, of the programs of examples/ instead
 
-All prefixes of paths are made that have no pure turn (pure_turns.py), each is judged by what docs and definitions say of a
-path that may be taken, and those that may are sorted: outcomes decide first, a false before a true and fewer before more, and
-then steps.
+All prefixes of paths are made that have no pure turn (pure_turns.py) and don't go against what they determine
+(known_values.py), each is judged by what docs and definitions say of a path that may be taken, and those that may are sorted:
+outcomes decide first, a false before a true and fewer before more, and then steps.
 """
 import glob
 import os
 import re
 import sys
 
+import known_values
 import machine
 from pure_turns import Turns
 
@@ -63,6 +64,23 @@ PROGRAMS = {
         "main { lock(m); while (x == 0) { wait(c, m); } x = 1; }",
         "main { while (x == 0) { signal(c); } x = 1; }",
         "thread g() { } main { tid t; while (x == 0) { t = create g(); } x = 1; }",
+    ],
+    "values that a path determines": [
+        "main { int i; while (i < 2) { x = i; i = i + 1; } x = 5; }",
+        "main { int i; int j; while (i < 1) { while (j < 1) { x = j; j = j + 1; } i = i + 1; } x = 5; }",
+        "main { int r; r = 3; while (r) { r = r / 2; x = r; } x = 5; }",
+        "thread f(int n) { int i; while (i < n) { i = i + 1; } x = 5; } main { tid t; int n; int i; n = 1; t = create f(n); while (i < n) { i = i + 1; } x = 6; }",
+        "main { int r; r = x; r = 0; if (r) { x = 1; } else { x = 2; } }",
+        "main { if (0) { } x = 1; }",
+        "main { int i; while (i < 1) { lock(m); unlock(m); i = i + 1; } lock(m); }",
+    ],
+    "values that a path doesn't determine": [
+        "main { int i; int n; n = x; while (i < n) { x = i; i = i + 1; } x = 5; }",
+        "main { int r; r = 1; r = x; if (r) { x = 1; } else { x = 2; } }",
+        "main { int r; r = 1; r = a[r]; if (r) { x = 1; } else { x = 2; } }",
+        "main { int r; r = 1; r = swap(x, 2); if (r) { x = 1; } else { x = 2; } }",
+        "main { int r; r = 1; r = cas(x, 2, 3); if (r) { x = 1; } else { x = 2; } }",
+        "main { int r; int s; r = x; s = r * 0; if (s) { x = 1; } else { x = 2; } }",
     ],
 }
 AIMS = [("exit", False), ("used", False), ("open", True), ("rest", False)]
@@ -123,29 +141,31 @@ def may_take(instrs, end, may_fail, steps, place):
     return place >= len(instrs) or instrs[place][0] in BLOCKING
 
 
-def prefixes(instrs, most):
-    """Each path without a pure turn and of at most that many outcomes: the place after it, outcomes, instructions, and whether
-    a turn ends with it, so that no such path goes on."""
-    turns = Turns(instrs)
-    ways = [(0, (), (), ())]
+def prefixes(function, most):
+    """Each path that is needed and has at most that many outcomes: the place after it, outcomes, instructions, and whether no
+    path that is needed goes on from there, since a turn ends there or the last branch went against what was known."""
+    instrs, turns = function.instrs, Turns(function.instrs)
+    ways = [(0, (), (), (), known_values.at_start(function), False)]
     while ways:
-        place, outcomes, steps, places = ways.pop()
-        ends = turns.ends(places + (place,))
+        place, outcomes, steps, places, known, against = ways.pop()
+        ends = against or turns.ends(places + (place,))
         yield place, outcomes, steps, ends
         if place >= len(instrs) or len(steps) >= LONGEST or ends:
             continue
         i, places = instrs[place], places + (place,)
         if i[0] != "branch":
-            ways.append((i[1] if i[0] == "goto" else place + 1, outcomes, steps + (i,), places))
+            known = known_values.after(i, known)
+            ways.append((i[1] if i[0] == "goto" else place + 1, outcomes, steps + (i,), places, known, False))
         elif len(outcomes) < most:
-            ways.append((place + 1, outcomes + (1,), steps + (i,), places))
-            ways.append((i[2], outcomes + (0,), steps + (i,), places))
+            for outcome, to in (1, place + 1), (0, i[2]):
+                against = to != (i[2] if outcome else place + 1) and known_values.goes_against(i, known, outcome)
+                ways.append((to, outcomes + (outcome,), steps + (i,), places, known, against))
 
 
-def paths(instrs, end, may_fail, most):
+def paths(function, end, may_fail, most):
     """The paths, in order, and whether some are left out since they have too many outcomes."""
-    found, cut = [], False
-    for place, outcomes, steps, ends in prefixes(instrs, most):
+    found, cut, instrs = [], False, function.instrs
+    for place, outcomes, steps, ends in prefixes(function, most):
         if may_take(instrs, end, may_fail, steps, place):
             found.append((outcomes, len(steps)))
         at_branch = place < len(instrs) and instrs[place][0] == "branch" and not ends
@@ -159,7 +179,7 @@ def rows(text, bounds):
     for f, function in enumerate(code.functions):
         for end, may_fail in AIMS:
             for most in bounds:
-                found, cut = paths(function.instrs, end, may_fail, most)
+                found, cut = paths(function, end, may_fail, most)
                 shown = [f"{steps}:" + "".join(map(str, outcomes)) for outcomes, steps in found]
                 words = shown + ["outcomes"] * cut + ["end"]
                 yield f"thread-paths {f} {end} {most}{' fails' * may_fail} : {flat} => {' '.join(words)}"
@@ -174,7 +194,7 @@ def main():
     for group, programs in PROGRAMS.items():
         print(f"group {group}")
         for program in programs:
-            print("\n".join(rows(HEAD + program, [0, 3])))
+            print("\n".join(rows(HEAD + program, [0, 4 if group.startswith("values") else 3])))
         print()
 
 

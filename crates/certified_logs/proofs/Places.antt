@@ -10,7 +10,7 @@ use Rattle.tc_code.specs.Code.{Code}
 use Rattle.tc_code.specs.tc_limits.declared.limits.TheConstants.{THREADS}
 use Rattle.store_buffers.specs.Buffers.{buffer_of}
 use Rattle.log_walk.specs.thread_paths.pure_turns.Live.{Liveness, IsClosed}
-use Rattle.log_walk.specs.Turns.{ShowTurn}
+use Rattle.log_walk.specs.Needless.{SomeNeedless}
 use Rattle.log_walk.specs.Given.{Given, IsFirst, IsLeftOut, IsOne}
 use Rattle.log_walk.specs.Given.IsLeftOut.{Outcomes, Steps, Depth, Threads}
 use Rattle.log_walk.specs.Rest.{all, MakeUp}
@@ -23,7 +23,7 @@ use Rattle.none_certificates.specs.declared.header.Header.{Header}
 use Rattle.find_failures.specs.LeftOut.{both}
 use Rattle.find_failures.specs.Runs.{AreExcludedBelow, Records}
 use Rattle.find_failures.proofs.Below.{one_is_in, one_in_more, old_is_below}
-use Rattle.find_failures.proofs.Steps.{none_before, none_below, shown_excluded}
+use Rattle.find_failures.proofs.Steps.{none_before, none_below, some_excluded}
 use Rattle.find_failures.proofs.Through.{IsThrough, at_end, begin, go_on}
 use Rattle.find_failures.proofs.Tried.{all_ruled_out, logged, only_deadlock, records_deadlock, records_failure}
 use Rattle.certified_logs.specs.Logs.{are_new, ends_of, end_at, first_end, log_at, AreRefuted, IsNext}
@@ -51,12 +51,12 @@ module _ (code : Code) (live : Liveness) (h : Header) where
   abbrev bounds_at : ℕ → Bounds
   bounds_at level = record { kind = h.bounds.kind; most = level }
 
-  -- no path of these threads shows a pure turn
-  abbrev IsTurnless : List ThreadPath → Type 0
-  IsTurnless ts = ShowTurn code live kind (all code kind) ts → ⊥
+  -- no path of these threads is needless
+  abbrev IsLean : List ThreadPath → Type 0
+  IsLean ts = SomeNeedless code live kind (all code kind) ts → ⊥
 
-  shown : (ts : List ThreadPath) → ShowTurn code live kind (all code kind) ts → AreDone code live h ts
-  shown = shown_excluded (buffer_of h.model) h.model code live kind
+  shown : (ts : List ThreadPath) → SomeNeedless code live kind (all code kind) ts → AreDone code live h ts
+  shown = some_excluded (buffer_of h.model) h.model code live kind
 
   -- the logs of threads that have an index record an end of the kind
   records_at : (k : Kind) (ts : List ThreadPath) (n : ℕ) → n < ends_of k ts
@@ -130,11 +130,11 @@ module _ (code : Code) (live : Liveness) (h : Header) where
         here : IsImpossible (buffer_of h.model) code (log_at h of.threads p.end)
         here = subst (IsImpossible (buffer_of h.model) code) of.is none
 
-        gone : IsTurnless of.threads → (k : ℕ) → k < p.end + 1 → IsImpossible (buffer_of h.model) code (log_at h of.threads k)
-        gone turnless k less = by (cases_lt k p.end)
+        gone : IsLean of.threads → (k : ℕ) → k < p.end + 1 → IsImpossible (buffer_of h.model) code (log_at h of.threads k)
+        gone needed k less = by (cases_lt k p.end)
           where
             by : (k < p.end) ⊎ (p.end ≤ k) → IsImpossible (buffer_of h.model) code (log_at h of.threads k)
-            by (inl l) = r.gone turnless k l
+            by (inl l) = r.gone needed k l
             by (inr l) =
                 let same : p.end ≡ k = omega (arith, less, l) in
                 subst (λ j. IsImpossible (buffer_of h.model) code (log_at h of.threads j)) same here
@@ -149,7 +149,7 @@ module _ (code : Code) (live : Liveness) (h : Header) where
           by None e end = begin code (bounds_at p.level) (AreDone code live h) p.out
           by (Some ts) e end =
               let r = reached_at ts e in
-              r.through (λ turnless. all_gone ts (λ n less. r.gone turnless n (omega (arith, less, end))))
+              r.through (λ needed. all_gone ts (λ n less. r.gone needed n (omega (arith, less, end))))
 
       module _ (given : Given) (first : IsFirst code live (bounds_at p.level) (last_of p) given) where
         -- after the last threads with so few outcomes
@@ -163,7 +163,7 @@ module _ (code : Code) (live : Liveness) (h : Header) where
           one = subst (λ o. IfSome o (IsOne code (bounds_at p.level))) some first.is_one
 
           reached_by : (end : ℕ) → end ≤ ends_of kind us
-              → (IsTurnless us → (k : ℕ) → k < end → IsImpossible (buffer_of h.model) code (log_at h us k))
+              → (IsLean us → (k : ℕ) → k < end → IsImpossible (buffer_of h.model) code (log_at h us k))
               → AreReached code live h p.level end (both p.out given.out) us
           reached_by end less gone = record {
             one = one;
@@ -176,14 +176,14 @@ module _ (code : Code) (live : Liveness) (h : Header) where
 
           -- at the next threads, if they are new
           pub next_new : AreReached code live h p.level 0 (both p.out given.out) us
-          next_new = reached_by 0 (omega arith) (λ turnless k less. absurd (omega (arith, less)))
+          next_new = reached_by 0 (omega arith) (λ needed k less. absurd (omega (arith, less)))
 
           -- and if they aren't
           pub next_old : (p.level == 0 || list_any (λ t. nat_le p.level (length t.path.outcomes)) us) ≡ false
               → AreReached code live h p.level (ends_of kind us) (both p.out given.out) us
           next_old isnt =
               let old = old_is_below code kind p.level us one isnt in
-              reached_by (ends_of kind us) (omega arith) (λ turnless. each_gone us (at.below old.0 us old.1 old.2 turnless))
+              reached_by (ends_of kind us) (omega arith) (λ needed. each_gone us (at.below old.0 us old.1 old.2 needed))
 
         module _ (us : List ThreadPath) (some : given.threads ≡ Some us) where
           -- at the next threads

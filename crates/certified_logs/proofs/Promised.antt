@@ -45,12 +45,12 @@ machine m code lawful =
     record { ops = buffer_of m; model = m; bound = bound_of m; laws = model_laws m; code = code; lawful = lawful }
 
 module _ (code : Code) where
-  -- logs without pure turns are refuted
+  -- logs without needless paths are refuted
   pub all_refuted : (live : Liveness) → IsLive code live → (h : Header) (out : LeftOut) → AllAreDone code live h out → AllAreRefuted code h out
-  all_refuted live closed h out done ts made turnless = by (done ts made)
+  all_refuted live closed h out done ts made needed = by (done ts made)
     where
       by : AreDone code live h ts ⊎ IsLeftOut h.bounds.most THREADS out ts → AreRefuted code h ts ⊎ IsLeftOut h.bounds.most THREADS out ts
-      by (inl excluded) = inl (excluded (turnless live closed))
+      by (inl excluded) = inl (excluded (needed live closed))
       by (inr left) = inr left
 
 module _ (code : Code) (lawful : IsLawful code) where

@@ -16,7 +16,7 @@ use Rattle.log_walk.specs.declared.bounds.Kind.TheVariants.{Failure, Deadlock}
 use Rattle.log_walk.specs.declared.bounds.LeftOut.{LeftOut}
 use Rattle.none_certificates.specs.Certificates.{LogLine}
 use Rattle.none_certificates.specs.declared.header.Header.{Header}
-use Rattle.find_failures.specs.Runs.{AreTurnless, IsNeeded, AreImpossible, NoneBefore, NoneEnds, NoneEndsWithin}
+use Rattle.find_failures.specs.Runs.{NoneNeedless, IsNeeded, AreImpossible, NoneBefore, NoneEnds, NoneEndsWithin}
 
 -- how many logs these threads have: in a failure, one for each thread that may fail
 abbrev pub ends_of : Kind → List ThreadPath → ℕ
@@ -50,11 +50,11 @@ module _ (code : Code) (h : Header) where
   abbrev pub AreRefuted : List ThreadPath → Type 0
   AreRefuted = AreImpossible (buffer_of h.model) h.model code h.bounds.kind
 
-  -- no moves reproduce a log without pure turns, except maybe those left out
+  -- no moves reproduce a log without needless paths, except maybe those left out
   abbrev pub AllAreRefuted : LeftOut → Type 0
   AllAreRefuted out =
       (ts : List ThreadPath) → MakeUp code h.bounds.kind (all code h.bounds.kind) ts
-      → AreTurnless code h.bounds.kind ts
+      → NoneNeedless code h.bounds.kind ts
       → AreRefuted ts ⊎ IsLeftOut h.bounds.most THREADS out ts
 
   -- a log that the search looks for, and no moves reproduce one of those before its threads

@@ -9,7 +9,7 @@ use Rattle.log_walk.specs.thread_paths.pure_turns.Live.{Liveness, IsClosed}
 use Rattle.log_walk.specs.Given.{IsLeftOut, IsOne}
 use Rattle.log_walk.specs.Order.{are_to_come}
 use Rattle.log_walk.specs.Rest.{all, MakeUp}
-use Rattle.log_walk.specs.Turns.{ShowTurn}
+use Rattle.log_walk.specs.Needless.{SomeNeedless}
 use Rattle.log_walk.specs.declared.bounds.LeftOut.{LeftOut}
 use Rattle.slot_liveness.specs.Tables.{liveness}
 use Rattle.refute_check.specs.Refutations.{start}
@@ -36,7 +36,7 @@ pub record IsOf (h : Header) (p : Place) (log : Log) : Type 0 where
   pub is : log ≡ log_at h threads p.end
 
 module _ (code : Code) (live : Liveness) (h : Header) where
-  -- no moves reproduce a log of these threads, unless some path shows a pure turn
+  -- no moves reproduce a log of these threads, unless some path is needless
   abbrev pub AreDone : List ThreadPath → Type 0
   AreDone = AreExcluded (buffer_of h.model) h.model code live h.bounds.kind
 
@@ -48,12 +48,12 @@ module _ (code : Code) (live : Liveness) (h : Header) where
 
   -- no moves reproduce one of the first logs of these threads, nor one of those before them; and
   -- if none reproduces any log of these threads, the search is through with them; all this unless
-  -- some path shows a pure turn
+  -- some path is needless
   pub record AreReached (level end : ℕ) (out : LeftOut) (ts : List ThreadPath) : Type 0 where
     pub one : IsOne code (record { kind = h.bounds.kind; most = level }) ts
     pub first : NoneBefore (buffer_of h.model) h.model code h.bounds.kind ts
     pub ends : end ≤ ends_of h.bounds.kind ts
-    pub gone : (ShowTurn code live h.bounds.kind (all code h.bounds.kind) ts → ⊥)
+    pub gone : (SomeNeedless code live h.bounds.kind (all code h.bounds.kind) ts → ⊥)
         → (k : ℕ) → k < end → IsImpossible (buffer_of h.model) code (log_at h ts k)
     pub through : AreDone ts → (us : List ThreadPath)
         → MakeUp code h.bounds.kind (all code h.bounds.kind) us → are_to_come (Some ts) us ≡ false

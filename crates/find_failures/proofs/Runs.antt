@@ -32,8 +32,8 @@ use Rattle.log_walk.specs.declared.bounds.Kind.{Kind}
 use Rattle.log_walk.specs.declared.bounds.Kind.TheVariants.{Failure, Deadlock}
 use Rattle.log_walk.specs.declared.bounds.LeftOut.{LeftOut}
 use Rattle.walked_logs.specs.normal_logs.Within.{Allowed, at_most, ComesTo}
-use Rattle.turnless_logs.specs.Turnless.{any_outcomes}
-use Rattle.turnless_logs.proofs.Runs.{fails_whole, fails_within, stuck_whole, stuck_within}
+use Rattle.lean_logs.specs.Lean.{any_outcomes}
+use Rattle.lean_logs.proofs.Runs.{fails_whole, fails_within, stuck_whole, stuck_within}
 use Rattle.find_failures.specs.Found.{IsFound, IsSearched, IsUnknown}
 use Rattle.find_failures.specs.Runs.{AreExcluded, EndsIn, HasMany, NoneEnds, NoneEndsWithin, NoneWithin}
 use Rattle.find_failures.specs.declared.asked.Asked.{Asked}
@@ -73,21 +73,21 @@ module _ {B : Type 0} (m : Machine B) (live : Liveness) (closed : IsClosed m.cod
   none_whole : (kind : Kind) → AreNone m live kind (λ ts. Unit {0}) → ComesTo m.ops m.code any_outcomes (EndsIn m.ops m.code kind) → ⊥
   none_whole Failure none comes =
       fails_whole m live closed
-      (λ r. none r.log.threads r.is.walked.makes_up tt r.is.turnless r.log r.under refl r.is.walked.fails r.moves r.again)
+      (λ r. none r.log.threads r.is.walked.makes_up tt r.is.needed r.log r.under refl r.is.walked.fails r.moves r.again)
       (comes_failed any_outcomes comes)
   none_whole Deadlock none comes =
       stuck_whole m live closed
-      (λ r. none r.log.threads r.is.walked.makes_up tt r.is.turnless r.log r.under refl r.is.walked.ends r.moves r.again)
+      (λ r. none r.log.threads r.is.walked.makes_up tt r.is.needed r.log r.under refl r.is.walked.ends r.moves r.again)
       (comes_stuck any_outcomes comes)
 
   none_few : (kind : Kind) (most : ℕ) → AreNone m live kind (AreAllowed (at_most most)) → ComesTo m.ops m.code (at_most most) (EndsIn m.ops m.code kind) → ⊥
   none_few Failure most none comes =
       fails_within m live most closed
-      (λ r. none r.log.threads r.is.walked.makes_up r.within r.is.turnless r.log r.under refl r.is.walked.fails r.moves r.again)
+      (λ r. none r.log.threads r.is.walked.makes_up r.within r.is.needed r.log r.under refl r.is.walked.fails r.moves r.again)
       (comes_failed (at_most most) comes)
   none_few Deadlock most none comes =
       stuck_within m live most closed
-      (λ r. none r.log.threads r.is.walked.makes_up r.within r.is.turnless r.log r.under refl r.is.walked.ends r.moves r.again)
+      (λ r. none r.log.threads r.is.walked.makes_up r.within r.is.needed r.log r.under refl r.is.walked.ends r.moves r.again)
       (comes_stuck (at_most most) comes)
 
 -- Threads with many outcomes in a state.
@@ -231,7 +231,7 @@ module _ {B : Type 0} (m : Machine B) (live : Liveness) (is_closed : IsClosed m.
 
   -- no log within the limits is possible
   over_within : (out : LeftOut) → AllDone out → gone.unknown ≡ None → NoneWithin m.ops m.model m.code asked.kind asked.outcomes
-  over_within out done closed ts one turnless = by (done closed ts one.makes_up) (turnless live is_closed)
+  over_within out done closed ts one needed = by (done closed ts one.makes_up) (needed live is_closed)
     where
       by : AreExcluded m.ops m.model m.code live asked.kind ts ⊎ IsLeftOut asked.outcomes THREADS out ts
           → AreExcluded m.ops m.model m.code live asked.kind ts

@@ -12,7 +12,7 @@ use Rattle.log_walk.specs.thread_paths.pure_turns.Live.{Liveness, IsClosed}
 use Rattle.log_walk.specs.Given.{Given, IsFirst, IsLeftOut, IsOne, AreNotAfter}
 use Rattle.log_walk.specs.Order.{are_from, are_to_come}
 use Rattle.log_walk.specs.Rest.{all}
-use Rattle.log_walk.specs.Turns.{ShowTurn}
+use Rattle.log_walk.specs.Needless.{SomeNeedless}
 use Rattle.log_walk.specs.declared.bounds.Bounds.{Bounds}
 use Rattle.log_walk.specs.declared.bounds.Kind.{Kind}
 use Rattle.log_walk.specs.declared.bounds.LeftOut.{LeftOut}
@@ -30,17 +30,17 @@ not_true true e = absurd (false≢true e)
 not_true false e = refl
 
 module _ {B : Type 0} (ops : BufferOps B) (model : Model) (code : Code) (live : Liveness) (kind : Kind) where
-  abbrev IsShown : List ThreadPath → Type 0
-  IsShown ts = ShowTurn code live kind (all code kind) ts
+  abbrev SomeAreNeedless : List ThreadPath → Type 0
+  SomeAreNeedless ts = SomeNeedless code live kind (all code kind) ts
 
-  -- threads with a pure turn are excluded
-  pub shown_excluded : (ts : List ThreadPath) → IsShown ts → AreExcluded ops model code live kind ts
-  shown_excluded ts turn none = absurd (none turn)
+  -- threads with a needless path are excluded
+  pub some_excluded : (ts : List ThreadPath) → SomeAreNeedless ts → AreExcluded ops model code live kind ts
+  some_excluded ts some none = absurd (none some)
 
   module _ (level : ℕ) (closed : IsClosed code live) where
-    -- excluded threads have no possible log if no path shows a pure turn
+    -- excluded threads have no possible log if no path is needless
     pub none_below : AreExcludedBelow ops model code live kind level → NoneBelow ops model code kind level
-    none_below settled less is ts one turnless = settled less ts is one (turnless live closed)
+    none_below settled less is ts one needed = settled less ts is one (needed live closed)
 
     -- no log before the next one is possible
     pub none_before : (last : Option (List ThreadPath)) (given : Given) (out : LeftOut) (us : List ThreadPath)
@@ -52,7 +52,7 @@ module _ {B : Type 0} (ops : BufferOps B) (model : Model) (code : Code) (live : 
       most = level;
       within = one;
       fewer = below;
-      first = λ ts is turnless before. by_last ts is before (are_to_come last ts) refl (turnless live closed);
+      first = λ ts is needed before. by_last ts is before (are_to_come last ts) refl (needed live closed);
     }
       where
         not_left : (ts : List ThreadPath) → IsOne code (record { kind = kind; most = level }) ts → (o : LeftOut)
@@ -61,11 +61,11 @@ module _ {B : Type 0} (ops : BufferOps B) (model : Model) (code : Code) (live : 
         not_left ts is o (inr left) = absurd (one_is_in code (record { kind = kind; most = level }) o ts is left)
 
         not_after : (ts : List ThreadPath) → IsOne code (record { kind = kind; most = level }) ts → are_to_come (Some ts) us ≡ true
-            → AreNotAfter given.threads ts ⊎ (IsLeftOut level THREADS given.out ts ⊎ IsShown ts) → AreExcluded ops model code live kind ts
+            → AreNotAfter given.threads ts ⊎ (IsLeftOut level THREADS given.out ts ⊎ SomeAreNeedless ts) → AreExcluded ops model code live kind ts
         not_after ts is before (inl on) =
             absurd (false≢true (sym (not_true (are_from us ts) before) ∙ subst (λ o. AreNotAfter o ts) some on))
         not_after ts is before (inr (inl left)) = absurd (one_is_in code (record { kind = kind; most = level }) given.out ts is left)
-        not_after ts is before (inr (inr turn)) = shown_excluded ts turn
+        not_after ts is before (inr (inr some)) = some_excluded ts some
 
         by_last : (ts : List ThreadPath) → IsOne code (record { kind = kind; most = level }) ts → are_to_come (Some ts) us ≡ true
             → (b : Bool) → are_to_come last ts ≡ b → AreExcluded ops model code live kind ts
@@ -87,7 +87,7 @@ module _ {B : Type 0} (ops : BufferOps B) (model : Model) (bound : Binding) (cod
     round_done none are = (
       are,
       λ closed ts made. subst (λ o. AreExcluded ops model code live asked.kind ts ⊎ IsLeftOut level THREADS o ts) (sym told)
-          (at_end code bounds (AreExcluded ops model code live asked.kind) live (shown_excluded ops model code live asked.kind) last given out first
+          (at_end code bounds (AreExcluded ops model code live asked.kind) live (some_excluded ops model code live asked.kind) last given out first
           (through closed) none ts made),
     )
 
@@ -108,5 +108,5 @@ module _ {B : Type 0} (ops : BufferOps B) (model : Model) (bound : Binding) (cod
       next_through after tried none =
           let now = tried.1 none in
           subst (λ o. IsThroughTo (Some us) o) (sym told)
-          (go_on code bounds (AreExcluded ops model code live asked.kind) live (shown_excluded ops model code live asked.kind) last given out first
+          (go_on code bounds (AreExcluded ops model code live asked.kind) live (some_excluded ops model code live asked.kind) last given out first
           (through now.0) us some next_one.makes_up now.1)

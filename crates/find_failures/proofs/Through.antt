@@ -9,7 +9,7 @@ use Rattle.log_walk.specs.Given.{Given, IsFirst, IsLeftOut, AreNotAfter}
 use Rattle.log_walk.specs.thread_paths.pure_turns.Live.{Liveness}
 use Rattle.log_walk.specs.Order.{are_from, are_to_come}
 use Rattle.log_walk.specs.Rest.{all, MakeUp}
-use Rattle.log_walk.specs.Turns.{ShowTurn}
+use Rattle.log_walk.specs.Needless.{SomeNeedless}
 use Rattle.log_walk.specs.helpers.Searches.{IsKept}
 use Rattle.log_walk.specs.declared.bounds.Bounds.{Bounds}
 use Rattle.log_walk.specs.declared.bounds.LeftOut.{LeftOut}
@@ -65,11 +65,11 @@ module _ (code : Code) (bounds : Bounds) (P : List ThreadPath → Type 0) where
   covered_second : (one other : LeftOut) (ts : List ThreadPath) → IsLeftOut bounds.most THREADS other ts → IsCovered (both one other) ts
   covered_second one other ts left = inr (kept_out bounds.most THREADS other (both one other) ts (second_kept one other) left)
 
-  module _ (live : Liveness) (shown : (ts : List ThreadPath) → ShowTurn code live bounds.kind (all code bounds.kind) ts → P ts)
+  module _ (live : Liveness) (shown : (ts : List ThreadPath) → SomeNeedless code live bounds.kind (all code bounds.kind) ts → P ts)
       (last : Option (List ThreadPath)) (given : Given) (out : LeftOut) (first : IsFirst code live bounds last given)
       (through : IsThrough last out) where
     abbrev Others : List ThreadPath → Type 0
-    Others ts = AreNotAfter given.threads ts ⊎ (IsLeftOut bounds.most THREADS given.out ts ⊎ ShowTurn code live bounds.kind (all code bounds.kind) ts)
+    Others ts = AreNotAfter given.threads ts ⊎ (IsLeftOut bounds.most THREADS given.out ts ⊎ SomeNeedless code live bounds.kind (all code bounds.kind) ts)
 
     -- one list of threads further
     pub go_on : (us : List ThreadPath) → given.threads ≡ Some us → MakeUp code bounds.kind (all code bounds.kind) us → P us
@@ -82,7 +82,7 @@ module _ (code : Code) (bounds : Bounds) (P : List ThreadPath → Type 0) where
         by_first : Others ts → IsCovered (both out given.out) ts
         by_first (inl on) = by_found (subst (λ o. AreNotAfter o ts) some on)
         by_first (inr (inl left)) = covered_second out given.out ts left
-        by_first (inr (inr turn)) = inl (shown ts turn)
+        by_first (inr (inr some)) = inl (shown ts some)
 
         by : (b : Bool) → are_to_come last ts ≡ b → IsCovered (both out given.out) ts
         by true is = by_first (first.others ts made is)
@@ -96,7 +96,7 @@ module _ (code : Code) (bounds : Bounds) (P : List ThreadPath → Type 0) where
         by_first : Others ts → IsCovered (both out given.out) ts
         by_first (inl on) = absurd (subst (λ o. AreNotAfter o ts) none on)
         by_first (inr (inl left)) = covered_second out given.out ts left
-        by_first (inr (inr turn)) = inl (shown ts turn)
+        by_first (inr (inr some)) = inl (shown ts some)
 
         by : (b : Bool) → are_to_come last ts ≡ b → IsCovered (both out given.out) ts
         by true is = by_first (first.others ts made is)

@@ -15,7 +15,7 @@ use Rattle.log_walk.specs.thread_paths.pure_turns.Live.{Liveness, IsClosed}
 use Rattle.log_walk.specs.Given.{IsOne}
 use Rattle.log_walk.specs.Order.{are_to_come}
 use Rattle.log_walk.specs.Rest.{all}
-use Rattle.log_walk.specs.Turns.{ShowTurn}
+use Rattle.log_walk.specs.Needless.{SomeNeedless}
 use Rattle.log_walk.specs.declared.bounds.Kind.{Kind}
 use Rattle.log_walk.specs.declared.bounds.Kind.TheVariants.{Failure, Deadlock}
 use Rattle.clap_solve.specs.Solved.{IsImpossible}
@@ -60,10 +60,10 @@ module _ {B : Type 0} (ops : BufferOps B) (code : Code) where
   abbrev pub IsPossible : Log → Type 0
   IsPossible log = (moves : List Move) × Reproduces ops code log moves
 
--- no path of these threads shows a pure turn, whichever closed table says which slots are live
-abbrev pub AreTurnless : Code → Kind → List ThreadPath → Type 0
-AreTurnless code kind ts =
-    (live : Liveness) → IsClosed code live → ShowTurn code live kind (all code kind) ts → ⊥
+-- no path of these threads is needless, whichever closed table says which slots are live
+abbrev pub NoneNeedless : Code → Kind → List ThreadPath → Type 0
+NoneNeedless code kind ts =
+    (live : Liveness) → IsClosed code live → SomeNeedless code live kind (all code kind) ts → ⊥
 
 module _ {B : Type 0} (ops : BufferOps B) (model : Model) (code : Code) (kind : Kind) where
   -- no moves reproduce a log of these threads
@@ -72,31 +72,31 @@ module _ {B : Type 0} (ops : BufferOps B) (model : Model) (code : Code) (kind : 
       (log : Log) → log.model ≡ model → log.threads ≡ ts → Records kind log
       → IsImpossible ops code log
 
-  -- no log without pure turns in which each thread has at most `most` outcomes is possible
+  -- no log without needless paths in which each thread has at most `most` outcomes is possible
   abbrev pub NoneWithin : ℕ → Type 0
   NoneWithin most =
       (ts : List ThreadPath) → IsOne code (record { kind = kind; most = most }) ts
-      → AreTurnless code kind ts → AreImpossible ts
+      → NoneNeedless code kind ts → AreImpossible ts
 
-  -- no log without pure turns in which each thread has fewer outcomes than `most` is possible
+  -- no log without needless paths in which each thread has fewer outcomes than `most` is possible
   abbrev pub NoneBelow : ℕ → Type 0
   NoneBelow most = (less : ℕ) → less < most → NoneWithin less
 
-  -- no log without pure turns before the one of these threads is possible: none with fewer outcomes
-  -- than its greatest number, and none without more whose paths come first
+  -- no log without needless paths before the one of these threads is possible: none with fewer
+  -- outcomes than its greatest number, and none without more whose paths come first
   pub record NoneBefore (ts : List ThreadPath) : Type 0 where
     pub most : ℕ
     pub within : IsOne code (record { kind = kind; most = most }) ts
     pub fewer : NoneBelow most
     pub first : (us : List ThreadPath) → IsOne code (record { kind = kind; most = most }) us
-        → AreTurnless code kind us → are_to_come (Some us) ts ≡ true → AreImpossible us
+        → NoneNeedless code kind us → are_to_come (Some us) ts ≡ true → AreImpossible us
 
 module _ {B : Type 0} (ops : BufferOps B) (model : Model) (code : Code) (live : Liveness)
     (kind : Kind) where
-  -- no moves reproduce a log of these threads, unless some path shows a pure turn
+  -- no moves reproduce a log of these threads, unless some path is needless
   abbrev pub AreExcluded : List ThreadPath → Type 0
   AreExcluded ts =
-      (ShowTurn code live kind (all code kind) ts → ⊥) → AreImpossible ops model code kind ts
+      (SomeNeedless code live kind (all code kind) ts → ⊥) → AreImpossible ops model code kind ts
 
   -- the same of all threads that each have fewer outcomes than `most`
   abbrev pub AreExcludedBelow : ℕ → Type 0

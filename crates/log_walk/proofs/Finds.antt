@@ -12,7 +12,7 @@ use Rattle.thread_paths.specs.Ends.{MayTake}
 use Rattle.thread_paths.specs.Order.{comes_from}
 use Rattle.thread_paths.specs.Search.{Found, IsFirst}
 use Rattle.thread_paths.specs.Search as path
-use Rattle.thread_paths.specs.Turns.{HasTurn}
+use Rattle.thread_paths.specs.Needless.{IsNeedless}
 use Rattle.thread_paths.specs.pure_turns.Live.{Liveness}
 use Rattle.thread_paths.specs.declared.aim.Scope.{Scope}
 use Rattle.thread_paths.specs.declared.found.Cut.{Cut}
@@ -20,7 +20,7 @@ use Rattle.log_walk.specs.Order.{are_from, are_to_come}
 use Rattle.log_walk.specs.Rest.{Rest, MakeUp, Takes, leave, aim_of, is_whole}
 use Rattle.log_walk.specs.Given.{IsLeftOut, IsWithin, has_many_outcomes, has_many_steps, is_deep}
 use Rattle.log_walk.specs.Given.IsLeftOut.{Outcomes, Steps, Depth, Threads}
-use Rattle.log_walk.specs.Turns.ShowTurn.{Here, Later}
+use Rattle.log_walk.specs.Needless.SomeNeedless.{Here, Later}
 use Rattle.log_walk.specs.declared.bounds.Bounds.{Bounds}
 use Rattle.log_walk.specs.declared.bounds.LeftOut.{LeftOut}
 use Rattle.log_walk.specs.declared.rest.Awaited.{Awaited}
@@ -163,7 +163,7 @@ module _ (code : Code) (live : Liveness) (bounds : Bounds) (rest : Rest) where
   -- an excuse stays one
   kept_excused : (room : ℕ) (a b : LeftOut) (us : List ThreadPath) → IsKept a b → Excused room a us → Excused room b us
   kept_excused room a b us kept (inl left) = inl (kept_out bounds.most room a b us kept left)
-  kept_excused room a b us kept (inr turn) = inr turn
+  kept_excused room a b us kept (inr needless) = inr needless
 
   -- Other threads are wanted.
 
@@ -327,7 +327,7 @@ module _ (code : Code) (live : Liveness) (bounds : Bounds) (rest : Rest) where
         more_excused : (u : ThreadPath) (us : List ThreadPath) → behind p last (u ∷ us) ≡ true
             → AreExcused code live bounds later less out us → Excused room out (u ∷ us)
         more_excused u us is (inl left) = inl (more_out bounds.most less room out u us (omega (arith, fits)) left)
-        more_excused u us is (inr turn) = inr (Later (ap (leave code bounds.kind rest.awaited rest) (behind_path u us is) ∙ leaves) turn)
+        more_excused u us is (inr some) = inr (Later (ap (leave code bounds.kind rest.awaited rest) (behind_path u us is) ∙ leaves) some)
 
         -- no threads are found below the path
         none_below : (us : List ThreadPath) → AreNone code live bounds later (are_to_come last) less out → Made us → behind p last us ≡ true
@@ -571,11 +571,11 @@ module _ (code : Code) (live : Liveness) (bounds : Bounds) (rest : Rest) where
         left_by u us made x is from = by (here.first.others u.path (may_is u made.0 made.1) from)
           where
             by : path.IsNotAfter found.path u.path
-                ⊎ (path.IsLeftOut (scope_of bounds rest next) found.cut u.path ⊎ HasTurn code live next.function u.path)
+                ⊎ (path.IsLeftOut (scope_of bounds rest next) found.cut u.path ⊎ IsNeedless code live next.function u.path)
                 → path.IsNotAfter x u.path ⊎ Excused room (with_cut out found.cut) (u ∷ us)
             by (inl after_) = inl (subst (λ (y : Option Path). path.IsNotAfter y u.path) is after_)
             by (inr (inl left)) = inr (inl (path_out bounds.most room out found.cut u us left))
-            by (inr (inr turn)) = inr (inr (Here next at turn))
+            by (inr (inr needless)) = inr (inr (Here next at needless))
 
         left_on : (us : List ThreadPath) → Made us → (x : Option Path) → found.path ≡ x → begin_from start us ≡ true
             → (IfSome x (λ p. begin_from p us ≡ true) × (x ≡ None → ⊥)) ⊎ Excused room (with_cut out found.cut) us

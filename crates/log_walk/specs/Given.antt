@@ -7,7 +7,7 @@ use Rattle.tc_code.specs.Code.{Code}
 use Rattle.thread_paths.specs.pure_turns.Live.{Liveness}
 use Rattle.log_walk.specs.Order.{are_from, are_to_come}
 use Rattle.log_walk.specs.Rest.{all, MakeUp}
-use Rattle.log_walk.specs.Turns.{ShowTurn}
+use Rattle.log_walk.specs.Needless.{SomeNeedless}
 use Rattle.log_walk.specs.declared.bounds.Bounds.{Bounds}
 use Rattle.log_walk.specs.declared.bounds.LeftOut.{LeftOut}
 
@@ -52,7 +52,7 @@ AreNotAfter None us = ⊥
 AreNotAfter (Some ts) us = are_from ts us ≡ true
 
 -- the search found the first threads to come that make up a log, apart from those left out and some
--- with a pure turn
+-- with a needless path
 pub record IsFirst (code : Code) (live : Liveness) (bounds : Bounds)
     (last : Option (List ThreadPath)) (given : Given) : Type 0 where
   pub is_one : IfSome given.threads (IsOne code bounds)
@@ -61,4 +61,4 @@ pub record IsFirst (code : Code) (live : Liveness) (bounds : Bounds)
       → are_to_come last us ≡ true
       → AreNotAfter given.threads us
       ⊎ (IsLeftOut bounds.most THREADS given.out us
-      ⊎ ShowTurn code live bounds.kind (all code bounds.kind) us)
+      ⊎ SomeNeedless code live bounds.kind (all code bounds.kind) us)

@@ -5,7 +5,7 @@ pub use Rattle.tc_code.specs as tc_code
 pub use Rattle.thread_paths.specs as thread_paths
 pub mod Told
 pub mod Rest
-pub mod Turns
+pub mod Needless
 pub mod Order
 pub mod Given
 pub mod helpers

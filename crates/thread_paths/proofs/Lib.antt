@@ -1,8 +1,10 @@
 pub use Rattle.thread_marks.proofs.list_laws
 pub use Rattle.thread_marks.proofs.path_walk
 pub mod Outcomes
+pub mod Values
 pub mod Nodes
+pub mod Turned
+pub mod Against
 pub mod Steps
 pub mod Searches
 pub mod Taken
-pub mod Turned

@@ -18,12 +18,14 @@ use Rattle.thread_marks.specs.path_walk.helpers.Accounts.{prefixed}
 use Rattle.thread_marks.proofs.path_walk.Places.{step_more, prefixed_before}
 use Rattle.thread_marks.specs.Own.{own_of}
 use Rattle.thread_paths.specs.Order.{is_from}
+use Rattle.thread_paths.specs.Known.{Known, known_at_start, known_after, known_before}
 use Rattle.thread_paths.specs.declared.aim.Aim.{Aim}
 use Rattle.thread_paths.specs.declared.aim.Scope.{Scope}
 use Rattle.thread_paths.specs.declared.descent.At.{At}
 use Rattle.thread_paths.specs.declared.past.Past.{Past}
 use Rattle.thread_paths.specs.helpers.Descents.{is_branch, place_after, is_last, goes, takes, leaves_behind, at_after, is_end}
 use Rattle.thread_paths.specs.helpers.Descents.{IsPushed, Passes, IsNode, IsLowest, IsSpent, worth}
+use Rattle.thread_paths.proofs.Values.{known_next}
 use Rattle.thread_paths.proofs.Outcomes.{all_from, behind_from, front_from, behind_after, behind_added, behind_less, worth_added, GoesOn}
 
 -- Where an instruction leads.
@@ -201,6 +203,7 @@ module _ (code : Code) (scope : Scope) where
         value = ap (worth scope.most) pushed.added ∙ worth_added scope.most o ∙ node.value;
         same = λ m r. node.same m r ∙ ap (λ k. goes code scope.function scope.aim m node.marks k r) (sym (ap (λ (a : At). a.place) pushed.is));
         long = node.long;
+        known = node.known;
         along = λ m r. node.along m r
             ∙ ap (λ k. prefixed past.places.items (places_from code scope.function m k r)) (sym (ap (λ (a : At). a.place) pushed.is));
         back = λ r s from. back_more r s (ap (λ k. is_from (false ∷ []) k r s) (sym (ap (λ (a : At). a.least) pushed.is)) ∙ from);
@@ -403,9 +406,9 @@ module _ (code : Code) (scope : Scope) where
               (step_more code scope.function (suc m) m at.place (piece_is.piece ++ r) i (to next.place r) (omega arith) there (leads r))
               ∙ prefixed_before past.places.items at.place (places_from code scope.function m next.place r)
 
-          pub next_node : (past' : Past) → past'.own ≡ own_of (marks_after_instr node.marks i) → past'.places.items ≡ past.places.items ++ at.place ∷ []
-              → IsNode code scope start first (n + 1) next o past'
-          next_node past' is places = record {
+          pub next_node : (past' : Past) → past'.own ≡ own_of (marks_after_instr node.marks i) → past'.known ≡ known_after past.known i
+              → past'.places.items ≡ past.places.items ++ at.place ∷ [] → IsNode code scope start first (n + 1) next o past'
+          next_node past' is knows places = record {
             marks = marks_after_instr node.marks i;
             is = is;
             done = done;
@@ -416,6 +419,9 @@ module _ (code : Code) (scope : Scope) where
             value = node.value;
             same = same_on;
             long = ap length places ∙ length-append past.places.items (at.place ∷ []) ∙ ap (λ k. k + 1) node.long;
+            known = knows ∙ ap (λ (x : Known). known_after x i) node.known
+                ∙ known_next code scope.function past.places.items n node.long at.place i there
+                ∙ ap (λ ps. known_before code scope.function ps (n + 1)) (sym places);
             along = λ m r. along_on m r ∙ ap (λ ps. prefixed ps (places_from code scope.function m next.place r)) (sym places);
             back = λ r s from. ap (λ x. is_from start first x s) (append_assoc node.done piece_is.piece r)
                 ∙ node.back (piece_is.piece ++ r) s (piece_is.back at.least r s from);
@@ -505,9 +511,10 @@ module _ (code : Code) (scope : Scope) where
     none_before (Ok places) = refl
     none_before (Err fault) = refl
 
-    pub first_node : (past : Past) → past.own ≡ own_of (marks_at_start code scope.function) → past.places.items ≡ []
+    pub first_node : (past : Past) → past.own ≡ own_of (marks_at_start code scope.function) → past.known ≡ known_at_start code scope.function
+        → past.places.items ≡ []
         → IsNode code scope o least 0 (record { place = 0; used = 0; least = least }) o past
-    first_node past is none = record {
+    first_node past is knows none = record {
       marks = marks_at_start code scope.function;
       is = is;
       done = [];
@@ -518,6 +525,7 @@ module _ (code : Code) (scope : Scope) where
       value = refl;
       same = λ m r. ap (λ k. ways k r) (zero-add m);
       long = ap length none;
+      known = knows;
       along = λ m r. ap (λ k. places_from code scope.function k 0 r) (zero-add m) ∙ none_before (places_from code scope.function m 0 r)
           ∙ ap (λ ps. prefixed ps (places_from code scope.function m 0 r)) (sym none);
       back = λ r s from. from;

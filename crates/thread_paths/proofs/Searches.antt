@@ -7,10 +7,10 @@ use Rattle.tc_code.specs.Code.{Code}
 use Rattle.slot_liveness.specs.pure_turns.Live.{Liveness}
 use Rattle.thread_paths.specs.Order.{is_from}
 use Rattle.thread_paths.specs.Search.{Found, IsLeftOut, IsNotAfter, IsFirst}
-use Rattle.thread_paths.specs.Turns.{HasTurn}
+use Rattle.thread_paths.specs.Needless.{IsNeedless}
 use Rattle.thread_paths.specs.declared.aim.Scope.{Scope}
 use Rattle.thread_paths.specs.declared.descent.Reason.{Reason}
-use Rattle.thread_paths.specs.declared.descent.Reason.TheVariants.{Dead, TooMany, TooLong, Turn}
+use Rattle.thread_paths.specs.declared.descent.Reason.TheVariants.{Dead, TooMany, TooLong, Turn, Against}
 use Rattle.thread_paths.specs.declared.found.Cut.{Cut}
 use Rattle.thread_paths.specs.helpers.Descents.{leaves_behind, takes, worth, cut_by, TurnsTo, IsExcused, IsLowest, IsSpent}
 use Rattle.thread_paths.proofs.Outcomes.{worth_below}
@@ -23,15 +23,16 @@ abbrev pub found : Option Path → Cut → Found
 found p cut = record { path = p; cut = cut }
 
 module _ (code : Code) (live : Liveness) (scope : Scope) where
-  -- a path is left out, or shows a turn
+  -- a path is left out, or needless
   abbrev pub IsMissed : Cut → Path → Type 0
-  IsMissed cut q = IsLeftOut scope cut q ⊎ HasTurn code live scope.function q
+  IsMissed cut q = IsLeftOut scope cut q ⊎ IsNeedless code live scope.function q
 
   -- paths that are missed stay so with one more reason
   kept_out : (cut : Cut) (why : Reason) (q : Path) → IsMissed cut q → IsMissed (cut_by cut why) q
-  kept_out cut why q (inr turn) = inr turn
+  kept_out cut why q (inr needless) = inr needless
   kept_out cut Dead q (inl out) = inl out
   kept_out cut Turn q (inl out) = inl out
+  kept_out cut Against q (inl out) = inl out
   kept_out cut TooMany q (inl (inl out)) = inl (inl (out.0, refl))
   kept_out cut TooMany q (inl (inr out)) = inl (inr out)
   kept_out cut TooLong q (inl (inl out)) = inl (inl out)
@@ -42,7 +43,8 @@ module _ (code : Code) (live : Liveness) (scope : Scope) where
   excused_out cut Dead q never = absurd never
   excused_out cut TooMany q more = inl (inl (more, refl))
   excused_out cut TooLong q more = inl (inr (more, refl))
-  excused_out cut Turn q turn = inr turn
+  excused_out cut Turn q turn = inr (inl turn)
+  excused_out cut Against q against = inr (inr against)
 
 pub none_behind : (o : List Bool) → leaves_behind o [] ≡ false
 none_behind [] = refl

@@ -1,5 +1,5 @@
 -- A step of the descent, from the promises of the functions that it calls.
-use Rattle.std.proofs.Common.{◌≡◌, ◌∙◌, ℕ, ◌+◌, ◌<◌, ◌≤◌, inl, inr, Bool, true, false, List, [], ◌∷◌, ◌++◌, length, Option, Some, None, ap, sym, subst, arith}
+use Rattle.std.proofs.Common.{◌≡◌, ◌≢◌, ◌∙◌, ℕ, ◌+◌, ◌<◌, ◌≤◌, inl, inr, Bool, true, false, List, [], ◌∷◌, ◌++◌, length, Option, Some, None, refl, ap, sym, subst, arith}
 use Rattle.std.proofs.lemmas.List.{length-append}
 use Rattle.tc_limits.specs.declared.limits.TheConstants.{STEPS}
 use Rattle.tc_code.specs.Code.{Code, instr_at}
@@ -8,12 +8,16 @@ use Rattle.thread_marks.specs.path_walk.Events.{excludes}
 use Rattle.thread_marks.specs.path_walk.Marks.{Marks, marks_after_instr}
 use Rattle.thread_marks.specs.Own.{own_of}
 use Rattle.slot_liveness.specs.pure_turns.Live.{Liveness}
+use Rattle.thread_paths.specs.Turns.{place_of, instr_of}
+use Rattle.thread_paths.specs.Known.{Known, known_after, known_before, leads_to}
 use Rattle.thread_paths.specs.declared.aim.Scope.{Scope}
 use Rattle.thread_paths.specs.declared.descent.At.{At}
-use Rattle.thread_paths.specs.declared.descent.Reason.TheVariants.{Dead, TooMany}
+use Rattle.thread_paths.specs.declared.descent.Reason.TheVariants.{Dead, TooMany, Against}
 use Rattle.thread_paths.specs.declared.past.Past.{Past}
 use Rattle.thread_paths.specs.helpers.Descents.{is_branch, at_after, is_end, IsOpened, IsNode, IsLowest, IsSpent, IsExcused}
 use Rattle.thread_paths.proofs.Nodes.{pushed_node, too_many, dead, next_node, found}
+use Rattle.thread_paths.proofs.Values.{leads_last}
+use Rattle.thread_paths.proofs.Against.{at_against}
 
 -- at most all outcomes are used
 pub used_within : (code : Code) (scope : Scope) (start : List Bool) (first n : ℕ) (at : At) (o : List Bool) (past : Past)
@@ -82,10 +86,28 @@ module _ (code : Code) (live : Liveness) (scope : Scope) (start : List Bool) (fi
         is_dead cannot =
             dead code scope start first n at' o' past opened_node i still_there some (ends false told) (sym (cannot opened_node.marks opened_node.is))
 
-        pub is_next_node : ((t : Marks) → past.own ≡ own_of t → false ≡ excludes t i false) → (past' : Past)
-            → ((t : Marks) → past.own ≡ own_of t → past'.own ≡ own_of (marks_after_instr t i))
-            → past'.places.items ≡ past.places.items ++ at.place ∷ [] → IsNode code scope start first (n + 1) to o' past'
-        is_next_node can past' marks places =
-            subst (λ z. IsNode code scope start first (n + 1) z o' past') (sym is_next)
-            (next_node code scope start first n at' o' past opened_node i still_there some (ends false told) (sym (can opened_node.marks opened_node.is))
-            past' (marks opened_node.marks opened_node.is) (places ∙ ap (λ k. past.places.items ++ k ∷ []) (sym same_place)))
+        module _ (can : (t : Marks) → past.own ≡ own_of t → false ≡ excludes t i false) where
+          next_with : (past' : Past) → past'.own ≡ own_of (marks_after_instr opened_node.marks i) → past'.known ≡ known_after past.known i
+              → past'.places.items ≡ past.places.items ++ at.place ∷ [] → IsNode code scope start first (n + 1) to o' past'
+          next_with past' marks knows places =
+              subst (λ z. IsNode code scope start first (n + 1) z o' past') (sym is_next)
+              (next_node code scope start first n at' o' past opened_node i still_there some (ends false told) (sym (can opened_node.marks opened_node.is))
+              past' marks knows (places ∙ ap (λ k. past.places.items ++ k ∷ []) (sym same_place)))
+
+          pub is_next_node : (past' : Past) → ((t : Marks) → past.own ≡ own_of t → past'.own ≡ own_of (marks_after_instr t i))
+              → past'.known ≡ known_after past.known i → past'.places.items ≡ past.places.items ++ at.place ∷ []
+              → IsNode code scope start first (n + 1) to o' past'
+          is_next_node past' marks = next_with past' (marks opened_node.marks opened_node.is)
+
+          -- the step leads elsewhere than its known test
+          pub is_against : (now : Past) → now.places.items ≡ past.places.items ++ at.place ∷ [] → (target : ℕ)
+              → leads_to past.known at'.place i ≡ Some target → to.place ≢ target → IsSpent code scope start first o' (IsExcused code live scope Against)
+          is_against now places target leads other =
+              let past' : Past = record now { own = own_of (marks_after_instr opened_node.marks i); known = known_after past.known i } in
+              at_against code live scope start first n to o' past' (next_with past' refl refl places) target
+              (ap (λ ps. leads_to (known_before code scope.function ps n) (place_of code scope.function ps n) (instr_of code scope.function ps n)) places
+              ∙ leads_last code scope.function past.places.items n node.long at.place i there
+              ∙ ap (λ (known : Known). leads_to known at.place i) (sym node.known)
+              ∙ ap (λ p. leads_to past.known p i) (sym same_place)
+              ∙ leads)
+              other

@@ -6,7 +6,7 @@ use Rattle.tc_code.specs.Code.{Code}
 use Rattle.slot_liveness.specs.pure_turns.Live.{Liveness}
 use Rattle.thread_paths.specs.Ends.{MayTake}
 use Rattle.thread_paths.specs.Order.{comes_from}
-use Rattle.thread_paths.specs.Turns.{HasTurn}
+use Rattle.thread_paths.specs.Needless.{IsNeedless}
 use Rattle.thread_paths.specs.declared.aim.Scope.{Scope}
 use Rattle.thread_paths.specs.declared.found.Cut.{Cut}
 
@@ -27,7 +27,7 @@ IsNotAfter None q = ⊥
 IsNotAfter (Some p) q = comes_from p q ≡ true
 
 -- the search found the first path from a position on that the thread may take, apart from those
--- left out and some with a pure turn
+-- left out and some that are needless
 pub record IsFirst (code : Code) (live : Liveness) (scope : Scope) (start : Path)
     (found : Found) : Type 0 where
   pub takes : IfSome found.path (MayTake code scope.function scope.aim)
@@ -35,4 +35,4 @@ pub record IsFirst (code : Code) (live : Liveness) (scope : Scope) (start : Path
   pub few : IfSome found.path (λ p. (length p.outcomes ≤ scope.most) × (p.steps ≤ STEPS))
   pub others : (q : Path) → MayTake code scope.function scope.aim q → comes_from start q ≡ true
       → IsNotAfter found.path q
-      ⊎ (IsLeftOut scope found.cut q ⊎ HasTurn code live scope.function q)
+      ⊎ (IsLeftOut scope found.cut q ⊎ IsNeedless code live scope.function q)

@@ -9,6 +9,7 @@ ghost use Rattle.thread_paths.specs.Order.{is_from};
 ghost use Rattle.thread_paths.specs.helpers.Descents.{is_branch, takes, at_after, is_end, IsOpened, IsNode, IsAdvance, IsDescent};
 
 use crate::aim::Scope;
+use crate::known::Known;
 use crate::leads::{is_branch, is_last, place_after};
 use crate::past::Past;
 use crate::program::Program;
@@ -29,6 +30,8 @@ pub enum Reason {
     TooLong,
     /// The last steps are a pure turn.
     Turn,
+    /// The path goes against a value that it determines.
+    Against,
 }
 
 /// The result of a descent.
@@ -154,7 +157,11 @@ fn go_on(
     if past.own.excludes(instr, false) {
         return Ok(Advance::Ends(Descent::Spent(Reason::Dead)));
     }
+    if past.known.rules_out(instr, at.place, to.place) {
+        return Ok(Advance::Ends(Descent::Spent(Reason::Against)));
+    }
     past.own.apply(instr);
+    past.known.apply(instr);
     Ok(Advance::On(to))
 }
 
@@ -173,6 +180,7 @@ pub fn descend(
 {
     let mut past = Past {
         own: Own::at_start(alloc, program.code, scope.function)?,
+        known: Known::at_start(alloc, program.code, scope.function)?,
         places: Vec::new(alloc),
     };
     let mut at = At {

@@ -44,7 +44,7 @@ fn is_idle(instr: &Instr) -> bool
 }
 
 /// The slot that an instruction writes.
-fn written(instr: &Instr) -> Option<usize>
+pub fn written(instr: &Instr) -> Option<usize>
     ensures { result ≡ written instr.now }
 {
     match instr {

@@ -30,7 +30,7 @@ fn cut_by(cut: Cut, why: Reason) -> Cut
     ensures { result ≡ cut_by cut why }
 {
     match why {
-        Reason::Dead | Reason::Turn => cut,
+        Reason::Dead | Reason::Turn | Reason::Against => cut,
         Reason::TooMany => Cut {
             outcomes: true,
             ..cut

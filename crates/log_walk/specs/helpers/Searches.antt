@@ -14,7 +14,7 @@ use Rattle.thread_paths.specs.declared.found.Cut.{Cut}
 use Rattle.log_walk.specs.Order.{are_from, are_to_come}
 use Rattle.log_walk.specs.Rest.{Rest, MakeUp, aim_of}
 use Rattle.log_walk.specs.Given.{IsLeftOut, IsWithin}
-use Rattle.log_walk.specs.Turns.{ShowTurn}
+use Rattle.log_walk.specs.Needless.{SomeNeedless}
 use Rattle.log_walk.specs.declared.bounds.Bounds.{Bounds}
 use Rattle.log_walk.specs.declared.bounds.LeftOut.{LeftOut}
 use Rattle.log_walk.specs.declared.rest.Awaited.{Awaited}
@@ -68,10 +68,10 @@ abbrev pub behind : Path → Option (List ThreadPath) → Wanted
 behind p last [] = false
 behind p last (t ∷ ts) = (comes_from p t.path && comes_from t.path p) && are_to_come last ts
 
--- threads are left out for a limit, or since some path shows a pure turn
+-- threads are left out for a limit, or since some path is needless
 abbrev pub AreExcused : Code → Liveness → Bounds → Rest → ℕ → LeftOut → List ThreadPath → Type 0
 AreExcused code live bounds rest room out us =
-    IsLeftOut bounds.most room out us ⊎ ShowTurn code live bounds.kind rest us
+    IsLeftOut bounds.most room out us ⊎ SomeNeedless code live bounds.kind rest us
 
 module _ (code : Code) (live : Liveness) (bounds : Bounds) (rest : Rest) (wanted : Wanted)
     (room : ℕ) (out : LeftOut) where

@@ -16,6 +16,7 @@ use Rattle.slot_liveness.specs.pure_turns.Live.{Liveness}
 use Rattle.thread_paths.specs.Ends.{is_exit, is_used}
 use Rattle.thread_paths.specs.Order.{is_from}
 use Rattle.thread_paths.specs.Turns.{HasTurn}
+use Rattle.thread_paths.specs.Known.{GoesAgainst, known_before}
 use Rattle.thread_paths.specs.declared.aim.Aim.{Aim}
 use Rattle.thread_paths.specs.declared.aim.End.{End}
 use Rattle.thread_paths.specs.declared.aim.End.TheVariants.{Exit, Used, Open, Rest}
@@ -26,7 +27,7 @@ use Rattle.thread_paths.specs.declared.descent.At.{At}
 use Rattle.thread_paths.specs.declared.descent.Descent.{Descent}
 use Rattle.thread_paths.specs.declared.descent.Descent.TheVariants.{Found, Spent}
 use Rattle.thread_paths.specs.declared.descent.Reason.{Reason}
-use Rattle.thread_paths.specs.declared.descent.Reason.TheVariants.{Dead, TooMany, TooLong, Turn}
+use Rattle.thread_paths.specs.declared.descent.Reason.TheVariants.{Dead, TooMany, TooLong, Turn, Against}
 use Rattle.thread_paths.specs.declared.found.Cut.{Cut}
 use Rattle.thread_paths.specs.declared.past.Past.{Past}
 
@@ -142,6 +143,8 @@ IsExcused code live scope TooMany q s = scope.most < length q
 IsExcused code live scope TooLong q s = STEPS < s
 IsExcused code live scope Turn q s =
     HasTurn code live scope.function (record { outcomes = q; steps = s })
+IsExcused code live scope Against q s =
+    GoesAgainst code scope.function (record { outcomes = q; steps = s })
 
 -- what was left out, with one more reason
 abbrev pub cut_by : Cut → Reason → Cut
@@ -149,6 +152,7 @@ cut_by cut Dead = cut
 cut_by cut TooMany = record cut { outcomes = true }
 cut_by cut TooLong = record cut { steps = true }
 cut_by cut Turn = cut
+cut_by cut Against = cut
 
 -- a path extends the outcomes done so far and has more than `n` steps
 pub record Passes (n : ℕ) (done rest : List Bool) (least : ℕ) (q : List Bool) (s : ℕ) : Type 0 where
@@ -174,6 +178,7 @@ module _ (code : Code) (scope : Scope) (start : List Bool) (first : ℕ) where
         (done ++ r)
         ≡ goes code scope.function scope.aim m marks at.place r
     pub long : length past.places.items ≡ n
+    pub known : past.known ≡ known_before code scope.function past.places.items n
     pub along : (m : ℕ) (r : List Bool)
         → places_from code scope.function (n + m) 0 (done ++ r)
         ≡ prefixed past.places.items (places_from code scope.function m at.place r)

@@ -25,5 +25,5 @@ returns g c =
     (IsTried g.M.MemoryModel.ops g.M.MemoryModel.MODEL g.M.MemoryModel.bound c.args.program.code.now c.args.asked c.args.gone.now c.try_threads.new.self one)
     (IsTried g.M.MemoryModel.ops g.M.MemoryModel.MODEL g.M.MemoryModel.bound c.args.program.code.now c.args.asked c.args.gone.now c.try_threads.new.self other)
     (tried_so g.M.MemoryModel.ops g.M.MemoryModel.MODEL g.M.MemoryModel.bound c.args.program.code.now c.args.asked c.args.gone.now c.try_threads.new.self
-    one other (λ impossible turnless. impossible))
+    one other (λ impossible needed. impossible))
     c.try_threads.ensures

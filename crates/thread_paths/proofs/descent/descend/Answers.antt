@@ -9,7 +9,7 @@ use Rattle.thread_paths.proofs.descent.descend.Goals as goal
 pub loop-steps-init : goal.loop-steps-init
 loop-steps-init c =
     first_node c.args.program.code.now c.args.scope c.args.outcomes.now.items c.args.least c.requires.few c.requires.steps _
-    (c.in_ok-at_start.ensures ∙ none_marked c.args.program.code.now c.args.scope.function) c.new.ensures.items
+    (c.in_ok-at_start.ensures ∙ none_marked c.args.program.code.now c.args.scope.function) c.in_ok-at_start-2.ensures c.new.ensures.items
 
 pub returns-in-Ends : goal.returns-in-Ends
 returns-in-Ends c =

@@ -1,4 +1,4 @@
--- A turn that threads of a log show is one of the path of some thread.
+-- A needless path of threads that make up a log is that of some thread of the log.
 use Rattle.std.proofs.Common.{◌≡◌, ◌∙◌, inl, inr, true, List, [], ◌∷◌, ℕ, Option, Some, refl, sym, ap, subst}
 use Rattle.std.specs.Prelude.{slice_get}
 use Rattle.std.proofs.lemmas.Option.{none-some, same_Some}
@@ -14,11 +14,11 @@ use Rattle.log_walk.specs.path_walk.Paths.{Walk}
 use Rattle.normal_logs.specs.path_laws.history.Along.{IsThread, path_thread}
 use Rattle.normal_logs.proofs.path_laws.of_history.Walks.{walk_is}
 use Rattle.normal_logs.proofs.path_laws.of_events.Lists.{in_place}
-use Rattle.log_walk.specs.thread_paths.Turns.{HasTurn}
+use Rattle.log_walk.specs.thread_paths.Needless.{IsNeedless}
 use Rattle.log_walk.specs.Told.{Told, told}
 use Rattle.log_walk.specs.Rest.{Rest, MakeUp, Takes, all, leave, rest_by, children_from}
-use Rattle.log_walk.specs.Turns.{ShowTurn}
-use Rattle.log_walk.specs.Turns.ShowTurn.{Here, Later}
+use Rattle.log_walk.specs.Needless.{SomeNeedless}
+use Rattle.log_walk.specs.Needless.SomeNeedless.{Here, Later}
 use Rattle.log_walk.specs.declared.bounds.Kind.{Kind}
 use Rattle.log_walk.specs.declared.rest.Awaited.{Awaited}
 use Rattle.walked_logs.proofs.Children.{child_in}
@@ -57,42 +57,42 @@ module _ (code : Code) (log : Log) (is : is_log log ≡ true) (fits : Fits code 
       subst (λ (x : Rest). AreKnown x.awaited) (same_Some _ later (unless _ _ later leaves).1)
       (known_by kind t c (of code log is fits t i) own_name (known c (inl refl)) others rest (λ d j. known d (inr j)))
 
-  -- a thread of the log whose path shows a pure turn
-  pub record Turning (live : Liveness) : Type 0 where
+  -- a thread of the log whose path is needless
+  pub record Needless (live : Liveness) : Type 0 where
     pub place : ℕ
     pub walk : Walk
     pub there : IsThread code log place walk
-    pub turns : HasTurn code live walk.function (walk_is code log is fits (path_thread place walk there)).path
+    pub needless : IsNeedless code live walk.function (walk_is code log is fits (path_thread place walk there)).path
 
   module _ (live : Liveness) (kind : Kind) where
-    turning : (t : ThreadPath) (c : Awaited) → In t log.threads → t.name ≡ c.name → function_of code log c.name ≡ Some c.function
-        → HasTurn code live c.function t.path → Turning live
-    turning t c i called known turn =
+    needless_of : (t : ThreadPath) (c : Awaited) → In t log.threads → t.name ≡ c.name → function_of code log c.name ≡ Some c.function
+        → IsNeedless code live c.function t.path → Needless live
+    needless_of t c i called known needless =
         let o = of code log is fits t i in
         record {
           place = o.place;
           walk = o.walk;
           there = o.there;
-          turns = subst (HasTurn code live o.walk.function) (sym o.path)
-              (subst (λ f. HasTurn code live f t.path) (sym (function code log is fits t c o called known)) turn);
+          needless = subst (IsNeedless code live o.walk.function) (sym o.path)
+              (subst (λ f. IsNeedless code live f t.path) (sym (function code log is fits t c o called known)) needless);
         }
 
-    shown : (rest : Rest) (ts : List ThreadPath) → ShowTurn code live kind rest ts → MakeUp code kind rest ts
-        → ((t : ThreadPath) → In t ts → In t log.threads) → AreKnown rest.awaited → Turning live
-    shown rest [] shows made there known = elim shows [ ]
-    shown rest (t ∷ ts) (Here next is_next turn) made there known =
+    shown : (rest : Rest) (ts : List ThreadPath) → SomeNeedless code live kind rest ts → MakeUp code kind rest ts
+        → ((t : ThreadPath) → In t ts → In t log.threads) → AreKnown rest.awaited → Needless live
+    shown rest [] some made there known = elim some [ ]
+    shown rest (t ∷ ts) (Here next is_next needless) made there known =
         let takes : Takes code kind rest t made.0 = made.1 in
         let same : takes.next ≡ next = same_Some takes.next next (sym takes.is_next ∙ is_next) in
-        turning t next (there t (inl refl)) (takes.name ∙ ap (λ (x : Awaited). x.name) same)
-        (known next (in_place next rest.awaited 0 is_next)) turn
+        needless_of t next (there t (inl refl)) (takes.name ∙ ap (λ (x : Awaited). x.name) same)
+        (known next (in_place next rest.awaited 0 is_next)) needless
     shown rest (t ∷ ts) (Later {later = later} leaves more) made there known =
         let takes : Takes code kind rest t made.0 = made.1 in
         let same : later ≡ made.0 = same_Some later made.0 (sym leaves ∙ takes.leaves) in
-        shown made.0 ts (subst (λ x. ShowTurn code live kind x ts) same more) made.2 (λ u j. there u (inr j))
+        shown made.0 ts (subst (λ x. SomeNeedless code live kind x ts) same more) made.2 (λ u j. there u (inr j))
         (known_next kind rest.awaited rest made.0 t takes.next (there t (inl refl)) takes.is_next takes.name known takes.leaves)
 
-    pub some_turns : MakeUp code kind (all code kind) log.threads → ShowTurn code live kind (all code kind) log.threads → Turning live
-    some_turns made shows = shown (all code kind) log.threads shows made (λ t i. i) main_known
+    pub some_path : MakeUp code kind (all code kind) log.threads → SomeNeedless code live kind (all code kind) log.threads → Needless live
+    some_path made some = shown (all code kind) log.threads some made (λ t i. i) main_known
       where
         main_known : AreKnown (all code kind).awaited
         main_known c (inl same) = subst (λ (x : Awaited). function_of code log x.name ≡ Some x.function) same refl

@@ -37,11 +37,11 @@ use Rattle.tc_record.specs.path_laws.history.Next.{IsNextOnPath}
 use Rattle.tc_record.proofs.path_laws.of_events.Steps.{steps_both, step_at, IsStep, step_is}
 use Rattle.least_runs.proofs.run_history.of_pending.In.{In, in_at, in_any}
 use Rattle.log_walk.specs.thread_paths.Turns.{is_idle, RulesOut, HasFailed, IsTurn, place_of, instr_of as instr_on}
-use Rattle.turnless_logs.proofs.Idle.{slot_stays, held_stays, held_by_cas, idle_pure, cas_pure, ruled_out}
-use Rattle.turnless_logs.proofs.Carried.{own_step, place_is, instr_is, count_own, StepIn, step_in, reach}
+use Rattle.lean_logs.proofs.Idle.{slot_stays, held_stays, held_by_cas, idle_pure, cas_pure, ruled_out}
+use Rattle.lean_logs.proofs.Carried.{own_step, place_is, instr_is, count_own, StepIn, step_in, reach}
 
 -- a thread has each slot that its next instruction writes
-slot_within : (code : Code) (t : Local) (i : Instr) (k : ℕ) → IsLawful code → IsWholeThread code t → instr_of code t ≡ Some i
+pub slot_within : (code : Code) (t : Local) (i : Instr) (k : ℕ) → IsLawful code → IsWholeThread code t → instr_of code t ≡ Some i
     → ((g : Func) → IsTrue (names_what_is code g i) → nat_lt k g.ints ≡ true) → k < length t.slots
 slot_within code t i k lawful whole at named =
     let p = placed_next code t i lawful at in
@@ -84,7 +84,7 @@ module _ {B : Type 0} (setting : Setting B) (history : HistoryAlong setting) (th
       ∙ ap (λ q. option_or (fails (Did n k q v o)) (failed_in older)) fail)
 
   -- each thread has the slots of its function
-  whole_at : (older rest : List Deed) (x : IsNextOnPath code older w) → h ≡ older ++ rest → IsWholeThread code x.local
+  pub whole_at : (older rest : List Deed) (x : IsNextOnPath code older w) → h ≡ older ++ rest → IsWholeThread code x.local
   whole_at older rest x at =
       let a = reaches machine older (first_follow ops.buffered bound code older rest (subst (AllFollow ops.buffered bound code) at along.follow)) in
       let t = has machine older a n x.local x.there in

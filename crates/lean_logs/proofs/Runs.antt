@@ -1,4 +1,4 @@
--- Logs without pure turns suffice to find every failure and every deadlock.
+-- Logs without needless paths suffice to find every failure and every deadlock.
 use Rattle.std.proofs.Common.{◌≡◌, ◌∙◌, ℕ, true, List, length, Some, IsSome, refl, sym}
 use Rattle.std.specs.FinMap as fin
 use Rattle.std.proofs.lemmas.Bool.{leb-true, le-leb}
@@ -25,8 +25,8 @@ use Rattle.normal_logs.proofs.Logs.{told_within}
 use Rattle.log_walk.specs.declared.bounds.Kind.TheVariants.{Failure, Deadlock}
 use Rattle.walked_logs.proofs.Failures.{failure_made_up}
 use Rattle.walked_logs.proofs.Deadlocks.{deadlock_made_up}
-use Rattle.turnless_logs.specs.Turnless.{any_outcomes, IsTurnless, IsTurnlessDeadlock}
-use Rattle.turnless_logs.proofs.Logs.{shows_none}
+use Rattle.lean_logs.specs.Lean.{any_outcomes, IsLean, IsLeanDeadlock}
+use Rattle.lean_logs.proofs.Logs.{none_needless}
 
 module _ {B : Type 0} (m : Machine B) where
   -- each path of a history is allowed
@@ -35,7 +35,7 @@ module _ {B : Type 0} (m : Machine B) where
 
   -- the log of a short history
   of_failure : (live : Liveness) (allowed : Allowed) (f : Name) (g : List Deed) → IsShort m.ops.buffered m.bound m.code live f g
-      → AreAllowedIn allowed g → ReproducesSome m.ops m.code allowed m.model (IsTurnless m.code live)
+      → AreAllowedIn allowed g → ReproducesSome m.ops m.code allowed m.model (IsLean m.code live)
   of_failure live allowed f g short within =
       let r = failure_log m g short.run f short.fails short.least in
       let made = failure_made_up m.code r.log r.is in
@@ -43,7 +43,7 @@ module _ {B : Type 0} (m : Machine B) where
         log = r.log;
         is = record {
           walked = record { fails = r.is.fails; makes_up = made };
-          turnless = shows_none m g (IsNormal m.code) r r.is.paths live short.turnless Failure made;
+          needed = none_needless m g (IsNormal m.code) r r.is.paths live short.turnless Failure made;
         };
         under = r.under;
         within = λ n p is. within n p (path_is m g (IsNormal m.code) r n p is);
@@ -54,7 +54,7 @@ module _ {B : Type 0} (m : Machine B) where
   -- the log of a history without pure turns that comes to a deadlock
   of_deadlock : (live : Liveness) (allowed : Allowed) (g : List Deed) → AllFollow m.ops.buffered m.bound m.code g
       → IsStuckIn m.ops.buffered m.bound m.code g → HasNoPureTurnIn m.code live g → AreAllowedIn allowed g
-      → ReproducesSome m.ops m.code allowed m.model (IsTurnlessDeadlock m.code live)
+      → ReproducesSome m.ops m.code allowed m.model (IsLeanDeadlock m.code live)
   of_deadlock live allowed g follow stuck turnless within =
       let r = deadlock_log m g follow stuck in
       let made = deadlock_made_up m.code r.log m.lawful r.is in
@@ -62,7 +62,7 @@ module _ {B : Type 0} (m : Machine B) where
         log = r.log;
         is = record {
           walked = record { ends = r.is.ends; makes_up = made };
-          turnless = shows_none m g (IsNormalDeadlock m.code) r r.is.paths live turnless Deadlock made;
+          needed = none_needless m g (IsNormalDeadlock m.code) r r.is.paths live turnless Deadlock made;
         };
         under = r.under;
         within = λ n p is. within n p (path_is m g (IsNormalDeadlock m.code) r n p is);
@@ -79,7 +79,7 @@ module _ {B : Type 0} (m : Machine B) where
   few_allowed : (most : ℕ) (g : List Deed) → HasOutcomesUpTo m.code most g → AreAllowedIn (at_most most) g
   few_allowed most g few n p is = le-leb (length p.outcomes) most (few n p is)
 
-  pub fails_whole : (live : Liveness) → IsClosed m.code live → (ReproducesSome m.ops m.code any_outcomes m.model (IsTurnless m.code live) → ⊥)
+  pub fails_whole : (live : Liveness) → IsClosed m.code live → (ReproducesSome m.ops m.code any_outcomes m.model (IsLean m.code live) → ⊥)
       → ComesTo m.ops m.code any_outcomes (λ s. IsSome s.failed) → ⊥
   fails_whole live closed none c =
       let told : AllTold m c.state (history m.ops m.code c.moves) = all_told m c.moves c.state c.leads in
@@ -88,7 +88,7 @@ module _ {B : Type 0} (m : Machine B) where
       (history m.ops m.code c.moves) told.follow (sym told.tells.failure ∙ f.1)
 
   pub fails_within : (live : Liveness) (most : ℕ) → IsClosed m.code live
-      → (ReproducesSome m.ops m.code (at_most most) m.model (IsTurnless m.code live) → ⊥)
+      → (ReproducesSome m.ops m.code (at_most most) m.model (IsLean m.code live) → ⊥)
       → ComesTo m.ops m.code (at_most most) (λ s. IsSome s.failed) → ⊥
   fails_within live most closed none c =
       let told : AllTold m c.state (history m.ops m.code c.moves) = all_told m c.moves c.state c.leads in
@@ -96,7 +96,7 @@ module _ {B : Type 0} (m : Machine B) where
       none_within m live closed f.0 most (λ g short few. none (of_failure live (at_most most) f.0 g short (few_allowed most g few)))
       (history m.ops m.code c.moves) told.follow (sym told.tells.failure ∙ f.1) (up_to most c.moves c.state c.leads c.within)
 
-  pub stuck_whole : (live : Liveness) → IsClosed m.code live → (ReproducesSome m.ops m.code any_outcomes m.model (IsTurnlessDeadlock m.code live) → ⊥)
+  pub stuck_whole : (live : Liveness) → IsClosed m.code live → (ReproducesSome m.ops m.code any_outcomes m.model (IsLeanDeadlock m.code live) → ⊥)
       → ComesTo m.ops m.code any_outcomes (IsStuck m.ops m.code) → ⊥
   stuck_whole live closed none c =
       let told : AllTold m c.state (history m.ops m.code c.moves) = all_told m c.moves c.state c.leads in
@@ -104,7 +104,7 @@ module _ {B : Type 0} (m : Machine B) where
       (history m.ops m.code c.moves) told.follow ((stuck_is_told m c.moves c.state c.leads).0 c.is)
 
   pub stuck_within : (live : Liveness) (most : ℕ) → IsClosed m.code live
-      → (ReproducesSome m.ops m.code (at_most most) m.model (IsTurnlessDeadlock m.code live) → ⊥)
+      → (ReproducesSome m.ops m.code (at_most most) m.model (IsLeanDeadlock m.code live) → ⊥)
       → ComesTo m.ops m.code (at_most most) (IsStuck m.ops m.code) → ⊥
   stuck_within live most closed none c =
       let told : AllTold m c.state (history m.ops m.code c.moves) = all_told m c.moves c.state c.leads in
