@@ -9,10 +9,8 @@ ghost use Rattle.bit_order.specs.Comparators.{completed};
 ghost use Rattle.bit_order.specs.Layouts.{base};
 ghost use Rattle.bit_order.specs.Readings.{world_of};
 ghost use Rattle.bit_blast.specs.Blasted.{blast, blast_over, impossible, root_of};
-ghost use Rattle.bit_blast.specs.Contended.{contended};
 ghost use Rattle.bit_blast.specs.Sizes.{IsUpTo, whole_size};
 
-use crate::contended::contended;
 use crate::whole::clauses;
 use bit_order::{Layout, complete};
 use cnf_core::{Assignment, Cnf};
@@ -63,11 +61,11 @@ pub fn blast(
     ensures variables { IfOk result (λ blasted. 0 < blasted.clauses.vars) }
     ensures size { IfOk result (λ blasted. IsUpTo (whole_size (record { order = order; loads = loads }) terms.now formula.now) blasted.clauses) }
 {
-    let order = complete_order(alloc, order, formula)?;
+    let order = complete_order(order)?;
     blast_completed(alloc, terms, formula, order, loads)
 }
 
-/// The clauses over an order that asks about the contended events too.
+/// The clauses over an order that asks about every two events.
 fn blast_completed(
     alloc: Global,
     terms: &Terms,
@@ -91,18 +89,16 @@ fn blast_completed(
     })
 }
 
-/// The order, with all pairs of contended events added.
+/// The order, asking about every two events.
 #[tactic(auto, using(crate::proofs::Completed::completed_events, crate::proofs::Completed::completed_sleeps))]
-fn complete_order(alloc: Global, order: Order, formula: &Formula) -> Result<Order, AllocError>
-    requires events { order.events ≤ 256 }
-    requires within { All (ConjunctIsIn order) formula.now }
-    ensures completed { IfOk result (λ made. made ≡ completed order (contended formula.now)) }
+fn complete_order(order: Order) -> Result<Order, AllocError>
+    requires { order.events ≤ 256 }
+    ensures completed { IfOk result (λ made. made ≡ completed order) }
     ensures events { IfOk result (λ made. made.events ≡ order.events) }
     ensures sleeps { IfOk result (λ made. made.sleeps ≡ order.sleeps) }
 {
     let mut order = order;
-    let events = contended(alloc, formula)?;
-    complete(&mut order, events.as_slice())?;
+    complete(&mut order)?;
     Ok(order)
 }
 

@@ -34,14 +34,14 @@ pub fn whole_means()
 /// each such world has a model.
 pub fn blast_means()
     ensures { (nodes : List Node) (formula : List Conjunct) (order : Order) (loads : ℕ) → IsPosed nodes formula order
-        → IsOrder (layout_of order loads formula).order → BlastMeans nodes formula order loads }
+        → IsOrder (layout_of order loads).order → BlastMeans nodes formula order loads }
 {}
 
 /// Each conjunct has its own clause, its root, and in every world the other clauses have a model.
 /// So an impossibility follows from the conjuncts whose roots its refutation uses.
 pub fn roots_tell()
     ensures { (nodes : List Node) (formula : List Conjunct) (order : Order) (loads : ℕ) → IsPosed nodes formula order
-        → IsOrder (layout_of order loads formula).order
+        → IsOrder (layout_of order loads).order
         → RootsTell nodes formula (record { order = order; loads = loads }) (blast nodes formula order loads) }
 {}
 

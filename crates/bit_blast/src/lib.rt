@@ -4,7 +4,6 @@
 
 mod blasted;
 mod cases;
-mod contended;
 mod first_values;
 pub mod laws;
 mod reads;
