@@ -1,12 +1,7 @@
--- A formula over the events of an order that asks about every two contended events has all answers
--- that its clauses need.
-use Rattle.std.proofs.Common.{◌≡◌, ℕ, ◌<◌, Bool, true, false, List, [], ◌∷◌, ◌++◌, inl, inr, refl, sym, ◌∙◌, subst, arith, map}
-use Rattle.std.specs.Prelude.{fold, if◌then◌else◌, nat_eq}
-use Rattle.std.specs.List.{All, Contains, list_any}
-use Rattle.std.proofs.lemmas.Bool.{eqb-true}
-use Rattle.std.proofs.lemmas.List.Elements.{All-cons, All-contains, All-map, All-weaker, Contains-append_left}
-use Rattle.std.proofs.lemmas.List.Folds.{fold-map}
-use Rattle.indexmap.proofs.CallerLemmas.{Contains-insert_key}
+-- A formula over an order that asks about every two events has all answers that its clauses need.
+use Rattle.std.proofs.Common.{◌≡◌, ℕ, ◌<◌, List, ◌∷◌, refl, sym, ◌∙◌, subst, arith, map}
+use Rattle.std.specs.List.{All, Contains}
+use Rattle.std.proofs.lemmas.List.Elements.{All-cons, All-contains, All-map, All-weaker}
 use Rattle.sym_terms.specs.declared.node.Node.{Node}
 use Rattle.order_formula.specs.declared.formula.Body.{Body}
 use Rattle.order_formula.specs.declared.formula.Body.TheVariants as body
@@ -14,7 +9,6 @@ use Rattle.order_formula.specs.declared.formula.Conjunct.{Conjunct}
 use Rattle.order_formula.specs.declared.literal.Atom.{Atom}
 use Rattle.order_formula.specs.declared.literal.Atom.TheVariants.{Before, Ends, Test}
 use Rattle.order_formula.specs.declared.literal.Literal.{Literal}
-use Rattle.order_formula.specs.declared.order.Pair.{Pair}
 use Rattle.order_formula.specs.declared.read.Candidate.{Candidate}
 use Rattle.order_formula.specs.Orders.{Order, AtomIsIn, LiteralIsIn, BodyIsIn, ConjunctIsIn, ConjunctIsAsked, IsAsked, BodyIsAsked, IsOrder}
 use Rattle.order_formula.specs.Reads.{Read}
@@ -22,86 +16,18 @@ use Rattle.order_formula.specs.Worlds.{World}
 use Rattle.order_formula.proofs.Asked.{formula_stays}
 use Rattle.cnf_core.specs.Clauses.{Formula, satisfies}
 use Rattle.bit_ops.specs.bit_words.Words.{Walked}
-use Rattle.bit_order.specs.Comparators.{pairs_among}
 use Rattle.bit_order.specs.Laws.{IsWorldFor, SaysSame}
 use Rattle.bit_order.specs.Layouts.{Layout}
 use Rattle.bit_order.specs.Readings.{world_of}
 use Rattle.bit_order.proofs.Asking.{completed-asked, grows-completed}
 use Rattle.bit_blast.specs.Blasted.{BlastMeans, IsApart, IsPosed, RootsTell, blast, layout_of}
-use Rattle.bit_blast.specs.Contended.{contended, is_literal, with_atom, with_body, with_candidate, with_case, with_event}
 use Rattle.bit_blast.specs.Laws.{BodyIsTold}
 use Rattle.bit_blast.specs.Whole.{IsReady, clauses_with_roots}
-use Rattle.bit_blast.proofs.Completed.{same_part}
-use Rattle.bit_blast.proofs.Lists.{all_of, contains_cases, contains_none}
+use Rattle.bit_blast.proofs.Completed.{completed_choices, completed_events, completed_sleeps}
+use Rattle.bit_blast.proofs.Lists.{all_of}
 use Rattle.bit_blast.proofs.Prefixes.{first_part}
 use Rattle.bit_blast.proofs.Rooted.{roots_over}
 use Rattle.bit_blast.proofs.WholeLaws.{first_true, whole_means}
-
--- adding an element keeps the events
-abbrev Keeps : {X : Type 0} → (List ℕ → X → List ℕ) → Type 0
-Keeps with = (events : List ℕ) (x : _) (e : ℕ) → Contains events e → Contains (with events x) e
-
-event_keeps : Keeps with_event
-event_keeps events k e there = by (list_any (nat_eq k) events)
-  where
-    by : (b : Bool) → Contains (if b then events else events ++ k ∷ []) e
-    by true = there
-    by false = Contains-append_left events (k ∷ []) e there
-
-fold_keeps : {X : Type 0} (with : List ℕ → X → List ℕ) → Keeps with → (events : List ℕ) (xs : List X) (e : ℕ) → Contains events e
-    → Contains (fold with events xs) e
-fold_keeps with each events [] e there = there
-fold_keeps with each events (x ∷ xs) e there = fold_keeps with each (with events x) xs e (each events x e there)
-
-fold_has : {X : Type 0} (with : List ℕ → X → List ℕ) → Keeps with → (x : X) (e : ℕ) → ((events : List ℕ) → Contains (with events x) e)
-    → (events : List ℕ) (xs : List X) → Contains xs x → Contains (fold with events xs) e
-fold_has with each x e has events [] there = absurd (contains_none x there)
-fold_has with each x e has events (y ∷ ys) there = elim (contains_cases y x ys there) [
-  | inl is ↦ fold_keeps with each (with events y) ys e (subst (λ z. Contains (with events z) e) (sym is) (has events))
-  | inr later ↦ fold_has with each x e has (with events y) ys later
-]
-
-atom_keeps : Keeps with_atom
-atom_keeps events (Before first second) e there = event_keeps (with_event events first) second e (event_keeps events first e there)
-atom_keeps events (Ends sleep by) e there = there
-atom_keeps events (Test term) e there = there
-
-case_keeps : Keeps with_case
-case_keeps events literals e there = fold_keeps (λ es (l : Literal). with_atom es l.atom) (λ es l k at. atom_keeps es l.atom k at) events literals e there
-
-candidate_keeps : Keeps with_candidate
-candidate_keeps events c e there = event_keeps events c.event e there
-
-body_keeps : Keeps with_body
-body_keeps events (body.Any cases) e there = by (is_literal cases)
-  where
-    by : (b : Bool) → Contains (if b then events else fold with_case events cases) e
-    by true = there
-    by false = fold_keeps with_case case_keeps events cases e there
-body_keeps events (body.Read r) e there =
-    fold_keeps with_candidate candidate_keeps (with_event events r.event) r.candidates e (event_keeps events r.event e there)
-
-event_has : (events : List ℕ) (e : ℕ) → Contains (with_event events e) e
-event_has events e = Contains-insert_key nat_eq (λ x y is. eqb-true x y is) events e
-
-abbrev events_of : Read → List ℕ
-events_of r = r.event ∷ map (λ (c : Candidate). c.event) r.candidates
-
-read_has : (r : Read) (e : ℕ) → Contains (events_of r) e → (events : List ℕ) → Contains (with_body events (body.Read r)) e
-read_has r e there events =
-    let others : List ℕ = map (λ (c : Candidate). c.event) r.candidates in
-    elim (contains_cases r.event e others there) [
-      | inl is ↦ fold_keeps with_candidate candidate_keeps (with_event events r.event) r.candidates e
-          (subst (Contains (with_event events r.event)) is (event_has events r.event))
-      | inr later ↦ subst (λ es. Contains es e) (fold-map with_event (λ (c : Candidate). c.event) (with_event events r.event) r.candidates)
-          (fold_has with_event event_keeps e e (λ es. event_has es e) (with_event events r.event) others later)
-    ]
-
-contended_has : (formula : List Conjunct) (c : Conjunct) (r : Read) (e : ℕ) → Contains formula c → c.body ≡ body.Read r → Contains (events_of r) e
-    → Contains (contended formula) e
-contended_has formula c r e there is named =
-    fold_has (λ es (d : Conjunct). with_body es d.body) (λ es d k at. body_keeps es d.body k at) c e
-    (λ es. subst (λ b. Contains (with_body es b) e) (sym is) (read_has r e named es)) [] formula there
 
 module _ (o p : Order) (events : p.events ≡ o.events) (sleeps : p.sleeps ≡ o.sleeps) where
   atom_in : (a : Atom) → AtomIsIn o a → AtomIsIn p a
@@ -118,36 +44,44 @@ module _ (o p : Order) (events : p.events ≡ o.events) (sleeps : p.sleeps ≡ o
   pub formula_in : (formula : List Conjunct) → All (ConjunctIsIn o) formula → All (ConjunctIsIn p) formula
   formula_in formula h = All-weaker (ConjunctIsIn o) (ConjunctIsIn p) (λ c k. body_in c.body k) formula h
 
-module _ (nodes : List Node) (formula : List Conjunct) (o : Order) (loads : ℕ) (h : IsPosed nodes formula o) (lawful : IsOrder (layout_of o loads formula).order) where
+module _ (nodes : List Node) (formula : List Conjunct) (o : Order) (loads : ℕ) (h : IsPosed nodes formula o) (lawful : IsOrder (layout_of o loads).order) where
   abbrev y : Layout
-  y = layout_of o loads formula
-
-  abbrev pairs : List Pair
-  pairs = pairs_among (contended formula)
+  y = layout_of o loads
 
   events : y.order.events ≡ o.events
-  events = same_part (λ (k : Order). k.events) (λ k p. refl) o pairs
+  events = completed_events o
 
   sleeps : y.order.sleeps ≡ o.sleeps
-  sleeps = same_part (λ (k : Order). k.sleeps) (λ k p. refl) o pairs
+  sleeps = completed_sleeps o
 
   choices : y.order.choices ≡ o.choices
-  choices = same_part (λ (k : Order). k.choices) (λ k p. refl) o pairs
+  choices = completed_choices o
 
   within : All (ConjunctIsIn y.order) formula
   within = formula_in o y.order events sleeps formula h.within
 
   asked : IsAsked y.order formula
-  asked = formula_stays o y.order formula (grows-completed o (contended formula)) h.asked
+  asked = formula_stays o y.order formula (grows-completed o) h.asked
+
+  abbrev events_of : Read → List ℕ
+  events_of r = r.event ∷ map (λ (c : Candidate). c.event) r.candidates
+
+  there_within : (r : Read) → BodyIsIn y.order (body.Read r) → All (λ e. e < y.order.events) (events_of r)
+  there_within r inside =
+      All-cons (λ e. e < y.order.events) r.event (map (λ (k : Candidate). k.event) r.candidates) inside.0
+      (All-map (λ e. e < y.order.events) (λ (k : Candidate). k.event) r.candidates inside.1)
+
+  in_range : (r : Read) → BodyIsIn y.order (body.Read r) → (e : ℕ) → Contains (events_of r) e → e < o.events
+  in_range r inside e there =
+      let below : e < y.order.events = All-contains (λ k. k < y.order.events) (events_of r) e (there_within r inside) there in
+      omega (arith, below, events)
 
   told_body : (c : Conjunct) → Contains formula c → (b : Body) → c.body ≡ b → BodyIsAsked y.order b → BodyIsIn y.order b → IsApart b → BodyIsTold y.order b
   told_body c there (body.Any cases) is all there_too apart = all
   told_body c there (body.Read r) is all inside apart = record {
     distinct = apart;
-    within = All-cons (λ e. e < y.order.events) r.event (map (λ (k : Candidate). k.event) r.candidates) inside.0
-        (All-map (λ e. e < y.order.events) (λ (k : Candidate). k.event) r.candidates inside.1);
-    asked = λ first second p q differ.
-        completed-asked o (contended formula) first second (contended_has formula c r first there is p) (contended_has formula c r second there is q) differ;
+    within = there_within r inside;
+    asked = λ first second p q differ. completed-asked o first second (in_range r inside first p) (in_range r inside second q) differ;
   }
 
   told : All (λ c. BodyIsTold y.order c.body) formula
@@ -155,8 +89,8 @@ module _ (nodes : List Node) (formula : List Conjunct) (o : Order) (loads : ℕ)
       (λ c there. told_body c there c.body refl (All-contains (ConjunctIsAsked y.order) formula c asked there)
       (All-contains (ConjunctIsIn y.order) formula c within there) (All-contains (λ (d : Conjunct). IsApart d.body) formula c h.apart there))
 
-  ready : IsReady y nodes formula
-  ready = record { order = lawful; events = omega (arith, h.events, events); ints = h.ints; told = told; within = within }
+  pub ready : IsReady y nodes formula
+  ready = record { order = lawful; events = omega (arith, h.events, events); terms = h.terms; ints = h.ints; told = told; within = within }
 
   abbrev posed : Layout
   posed = record { order = o; loads = loads }

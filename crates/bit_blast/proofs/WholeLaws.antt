@@ -65,7 +65,7 @@ module _ (y : Layout) (nodes : List Node) (formula : List Conjunct) (h : IsReady
       (λ k below. record { literals = literals.load_there k (omega (arith, below)); width = literals.load_wide k }))
 
   terms : HaveInts nodes (load_words y) (ordered y) (clauses_with_terms y nodes)
-  terms = terms-mean nodes (load_words y) (ordered y) some h.ints loads
+  terms = terms-mean nodes (load_words y) (ordered y) some h.terms h.ints loads
 
   abbrev g : Formula
   g = (clauses_with_terms y nodes).formula

@@ -1,6 +1,7 @@
 -- A formula as clauses, with the layout that reads models as worlds, and each conjunct's clause.
 use Rattle.std.specs.Prelude.{◌≡◌, ℕ, ◌+◌, ◌-◌, ◌==◌, ◌<◌, ◌≤◌, true, false, List, [], ◌∷◌, ℤ, Some, length, map, take, get_or, slice_get, IsTrue}
 use Rattle.std.specs.List.{All, Contains, IsDistinct}
+use Rattle.sym_terms.specs.Terms.{AreTerms}
 use Rattle.sym_terms.specs.declared.node.Node.{Node}
 use Rattle.order_formula.specs.declared.formula.Body.{Body}
 use Rattle.order_formula.specs.declared.formula.Body.TheVariants as body
@@ -14,7 +15,6 @@ use Rattle.bit_order.specs.Laws.{IsWorldFor, SaysSame}
 use Rattle.bit_order.specs.Layouts.{Layout}
 use Rattle.bit_order.specs.Readings.{world_of}
 use Rattle.bit_terms.specs.Laws.{IsIntNode}
-use Rattle.bit_blast.specs.Contended.{contended}
 use Rattle.bit_blast.specs.Whole.{all_clauses}
 
 pub record Blasted : Type 0 where
@@ -27,10 +27,9 @@ pub record Blasted : Type 0 where
 abbrev pub root_of : Blasted → ℕ → ℕ
 root_of b conjunct = length b.clauses.clauses - b.conjuncts + conjunct
 
--- the layout of an order with all pairs of contended events added, and of `loads` loads
-abbrev pub layout_of : Order → ℕ → List Conjunct → Layout
-layout_of order loads formula =
-    record { order = completed order (contended formula); loads = loads }
+-- the layout of an order that asks about every two of its events, and of `loads` loads
+abbrev pub layout_of : Order → ℕ → Layout
+layout_of order loads = record { order = completed order; loads = loads }
 
 -- the clauses of a formula over a layout and terms
 abbrev pub blast_over : List Node → List Conjunct → Layout → Blasted
@@ -39,7 +38,7 @@ blast_over nodes formula y =
 
 -- the clauses of a formula over an order, with `loads` loads
 abbrev pub blast : List Node → List Conjunct → Order → ℕ → Blasted
-blast nodes formula order loads = blast_over nodes formula (layout_of order loads formula)
+blast nodes formula order loads = blast_over nodes formula (layout_of order loads)
 
 -- the clauses of an impossible formula: only the empty clause, over no variables
 abbrev pub impossible : Blasted
@@ -57,6 +56,7 @@ IsApart (body.Read r) = IsDistinct (λ e d. e == d) (r.event ∷ map (λ c. c.ev
 -- a valid input: the order asks about all that the formula compares, and numbers in terms are ints
 pub record IsPosed (nodes : List Node) (formula : List Conjunct) (order : Order) : Type 0 where
   pub events : order.events ≤ 256
+  pub terms : AreTerms nodes
   pub ints : All IsIntNode nodes
   pub asked : IsAsked order formula
   pub within : All (ConjunctIsIn order) formula
@@ -67,13 +67,13 @@ pub record BlastMeans (nodes : List Node) (formula : List Conjunct) (order : Ord
     (loads : ℕ) : Type 0 where
   pub to : (v : Valuation) → IsTrue (satisfies v (blast nodes formula order loads).clauses.clauses)
       → IsWorldFor (record { order = order; loads = loads })
-      (world_of (layout_of order loads formula) v)
-      × (holds_at nodes (world_of (layout_of order loads formula) v) formula ≡ true)
+      (world_of (layout_of order loads) v)
+      × (holds_at nodes (world_of (layout_of order loads) v) formula ≡ true)
   pub back : (w : World) → IsWorldFor (record { order = order; loads = loads }) w
       → holds_at nodes w formula ≡ true
       → (v : Valuation) × IsTrue (satisfies v (blast nodes formula order loads).clauses.clauses)
       × SaysSame (record { order = order; loads = loads }) w
-      (world_of (layout_of order loads formula) v)
+      (world_of (layout_of order loads) v)
 
 -- the clause at an index, from 0
 abbrev pub clause_at : Blasted → ℕ → List ℤ

@@ -7,7 +7,7 @@ pub use Rattle.order_formula.specs as order_formula
 pub use Rattle.sym_terms.specs as sym_terms
 pub mod Blasted
 pub mod Cases
-pub mod Contended
+pub mod Drafts
 pub mod Laws
 pub mod Layered
 pub mod Reads

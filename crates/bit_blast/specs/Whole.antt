@@ -1,6 +1,7 @@
 -- All clauses of an order, its terms and a formula, and what they mean.
 use Rattle.std.specs.Prelude.{◌≡◌, ◌≤◌, true, List, ℤ, map}
 use Rattle.std.specs.List.{All, range_with_len}
+use Rattle.sym_terms.specs.Terms.{AreTerms}
 use Rattle.sym_terms.specs.declared.node.Node.{Node}
 use Rattle.order_formula.specs.declared.formula.Conjunct.{Conjunct}
 use Rattle.order_formula.specs.Orders.{IsOrder, ConjunctIsIn}
@@ -43,6 +44,7 @@ all_clauses y nodes formula =
 pub record IsReady (y : Layout) (nodes : List Node) (formula : List Conjunct) : Type 0 where
   pub order : IsOrder y.order
   pub events : y.order.events ≤ 256
+  pub terms : AreTerms nodes
   pub ints : All IsIntNode nodes
   pub told : All (λ c. BodyIsTold y.order c.body) formula
   pub within : All (ConjunctIsIn y.order) formula

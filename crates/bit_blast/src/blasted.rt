@@ -1,5 +1,5 @@
 //! A formula as clauses, and what answers about them mean.
-ghost use Rattle.std.specs.Prelude.{◌≡◌, ◌<◌, ◌≤◌, length, IfOk};
+ghost use Rattle.std.specs.Prelude.{◌≡◌, ◌<◌, ◌≤◌, ◌+◌, length, IfOk};
 ghost use Rattle.std.specs.List.{All};
 ghost use Rattle.cnf_core.specs.Clauses.{value_in};
 ghost use Rattle.cnf_core.specs.declared.cnf.TheConstants.{LIMIT};
@@ -8,14 +8,18 @@ ghost use Rattle.order_formula.specs.Orders.{ConjunctIsIn, IsOrder};
 ghost use Rattle.bit_order.specs.Comparators.{completed};
 ghost use Rattle.bit_order.specs.Layouts.{base};
 ghost use Rattle.bit_order.specs.Readings.{world_of};
-ghost use Rattle.bit_blast.specs.Blasted.{blast, blast_over, impossible, root_of};
-ghost use Rattle.bit_blast.specs.Contended.{contended};
+ghost use Rattle.bit_ops.specs.bit_words.Words.{AreWithin};
+ghost use Rattle.bit_blast.specs.Blasted.{blast, blast_over, impossible, layout_of, root_of};
+ghost use Rattle.bit_blast.specs.Drafts.{asserted, drafted};
 ghost use Rattle.bit_blast.specs.Sizes.{IsUpTo, whole_size};
 
-use crate::contended::contended;
-use crate::whole::clauses;
+use crate::roots::{add_units, roots};
+use crate::whole::{clauses, load_words};
+use bit_gates::Circuit;
+use bit_ops::Word;
+use bit_terms::term_words;
 use bit_order::{Layout, complete};
-use cnf_core::{Assignment, Cnf};
+use cnf_core::{Assignment, Cnf, Lit};
 use order_formula::{Formula, Order, World};
 use std::alloc::{AllocError, Global};
 use std::marker::Model;
@@ -63,11 +67,11 @@ pub fn blast(
     ensures variables { IfOk result (λ blasted. 0 < blasted.clauses.vars) }
     ensures size { IfOk result (λ blasted. IsUpTo (whole_size (record { order = order; loads = loads }) terms.now formula.now) blasted.clauses) }
 {
-    let order = complete_order(alloc, order, formula)?;
+    let order = complete_order(order)?;
     blast_completed(alloc, terms, formula, order, loads)
 }
 
-/// The clauses over an order that asks about the contended events too.
+/// The clauses over an order that asks about every two events.
 fn blast_completed(
     alloc: Global,
     terms: &Terms,
@@ -91,19 +95,89 @@ fn blast_completed(
     })
 }
 
-/// The order, with all pairs of contended events added.
+/// The order, asking about every two events.
 #[tactic(auto, using(crate::proofs::Completed::completed_events, crate::proofs::Completed::completed_sleeps))]
-fn complete_order(alloc: Global, order: Order, formula: &Formula) -> Result<Order, AllocError>
-    requires events { order.events ≤ 256 }
-    requires within { All (ConjunctIsIn order) formula.now }
-    ensures completed { IfOk result (λ made. made ≡ completed order (contended formula.now)) }
+fn complete_order(order: Order) -> Result<Order, AllocError>
+    requires { order.events ≤ 256 }
+    ensures completed { IfOk result (λ made. made ≡ completed order) }
     ensures events { IfOk result (λ made. made.events ≡ order.events) }
     ensures sleeps { IfOk result (λ made. made.sleeps ≡ order.sleeps) }
 {
     let mut order = order;
-    let events = contended(alloc, formula)?;
-    complete(&mut order, events.as_slice())?;
+    complete(&mut order)?;
     Ok(order)
+}
+
+/// The clauses of a formula before any conjunct is asserted, with the words of the terms and the
+/// literals of the conjuncts. A caller may add clauses that hold in every world.
+#[derive(Debug, Drop)]
+pub struct Draft {
+    /// The layout of the order's variables.
+    pub layout: Layout,
+    /// The clauses.
+    pub circuit: Circuit,
+    /// The word of each term.
+    pub words: Vec<Word>,
+    /// The literal of each conjunct.
+    pub roots: Vec<Lit>,
+}
+
+impl Model for Draft {
+    ghost use Rattle.bit_blast.specs.Drafts.{Draft as PlainDraft};
+
+    ghost Value = { PlainDraft };
+
+    ghost view = { λ d. record { layout = d.layout; clauses = d.circuit; words = d.words.items; roots = d.roots.items } };
+}
+
+/// The clauses of a formula over terms, `loads` loads and an order, before its conjuncts are
+/// asserted.
+pub fn blast_draft(
+    alloc: Global,
+    terms: &Terms,
+    formula: &Formula,
+    order: Order,
+    loads: u32,
+) -> Result<Draft, AllocError>
+    requires terms { IsOf (length terms.now) formula.now }
+    requires events { order.events ≤ 256 }
+    requires within { All (ConjunctIsIn order) formula.now }
+    requires room { whole_size (record { order = order; loads = loads }) terms.now formula.now < LIMIT }
+    ensures draft { IfOk result (λ draft. draft ≡ drafted terms.now formula.now (layout_of order loads)) }
+    ensures lawful { IfOk result (λ draft. IsOrder draft.layout.order) }
+    ensures variables { IfOk result (λ draft. (base draft.layout).vars ≤ draft.clauses.vars) }
+    ensures size { IfOk result (λ draft. IsUpTo (whole_size (record { order = order; loads = loads }) terms.now formula.now) draft.clauses) }
+{
+    let order = complete_order(order)?;
+    let (layout, mut circuit) = Layout::clauses(alloc, order, loads)?;
+    let symbols = load_words(alloc, &layout)?;
+    let words = term_words(alloc, &mut circuit, terms, symbols.as_slice())?;
+    let roots = roots(alloc, &mut circuit, &layout, words.as_slice(), formula)?;
+    Ok(Draft {
+        layout,
+        circuit,
+        words,
+        roots,
+    })
+}
+
+impl Draft {
+    /// Asserts the conjuncts: the last clauses, in order.
+    pub fn asserted(self) -> Result<Blasted, AllocError>
+        requires events { self.layout.order.events ≤ 256 }
+        requires variables { (base self.layout).vars ≤ self.clauses.vars }
+        requires roots { AreWithin self.clauses.vars self.roots }
+        requires room { length self.clauses.clauses + length self.roots < LIMIT }
+        ensures { IfOk result (λ blasted. blasted ≡ asserted self) }
+    {
+        let mut circuit = self.circuit;
+        add_units(&mut circuit, self.roots.as_slice())?;
+        Ok(Blasted {
+            layout: self.layout,
+            clauses: circuit.into_clauses(),
+            conjuncts: self.roots.len(),
+        })
+    }
 }
 
 impl Blasted {

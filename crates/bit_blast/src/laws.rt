@@ -6,6 +6,7 @@ ghost use Rattle.order_formula.specs.Orders.{IsOrder, Order};
 ghost use Rattle.cnf_core.specs.Clauses.{IsUnsatisfiable};
 ghost use Rattle.bit_order.specs.Layouts.{Layout};
 ghost use Rattle.bit_blast.specs.Blasted.{BlastMeans, IsPosed, RootsTell, blast, impossible, layout_of};
+ghost use Rattle.bit_blast.specs.Drafts.{Draft, DraftMeans, KeepsWorlds, drafted};
 ghost use Rattle.bit_blast.specs.Laws.{CasesMean, ReadsMean, RootsMean};
 ghost use Rattle.bit_blast.specs.Whole.{IsReady, WholeMeans};
 
@@ -34,15 +35,24 @@ pub fn whole_means()
 /// each such world has a model.
 pub fn blast_means()
     ensures { (nodes : List Node) (formula : List Conjunct) (order : Order) (loads : ℕ) → IsPosed nodes formula order
-        → IsOrder (layout_of order loads formula).order → BlastMeans nodes formula order loads }
+        → IsOrder (layout_of order loads).order → BlastMeans nodes formula order loads }
 {}
 
 /// Each conjunct has its own clause, its root, and in every world the other clauses have a model.
 /// So an impossibility follows from the conjuncts whose roots its refutation uses.
 pub fn roots_tell()
     ensures { (nodes : List Node) (formula : List Conjunct) (order : Order) (loads : ℕ) → IsPosed nodes formula order
-        → IsOrder (layout_of order loads formula).order
+        → IsOrder (layout_of order loads).order
         → RootsTell nodes formula (record { order = order; loads = loads }) (blast nodes formula order loads) }
+{}
+
+/// The same for clauses to which more were added before the conjuncts are asserted, if each world
+/// gives the new variables values with which these hold.
+pub fn drafts_mean()
+    ensures { (nodes : List Node) (formula : List Conjunct) (order : Order) (loads : ℕ) (e : Draft) → IsPosed nodes formula order
+        → IsOrder (layout_of order loads).order
+        → KeepsWorlds nodes formula (drafted nodes formula (layout_of order loads)) e
+        → DraftMeans nodes formula (record { order = order; loads = loads }) e }
 {}
 
 /// The clauses of an impossible formula are unsatisfiable.

@@ -4,12 +4,11 @@
 
 mod blasted;
 mod cases;
-mod contended;
 mod first_values;
 pub mod laws;
 mod reads;
 mod roots;
 mod whole;
 
-pub use blasted::{Blasted, blast};
+pub use blasted::{Blasted, Draft, blast, blast_draft};
 pub use first_values::extend_values;

@@ -41,7 +41,7 @@ pub(crate) fn add_formula(
 }
 
 /// The literals of all conjuncts, in order.
-fn roots(
+pub(crate) fn roots(
     alloc: Global,
     circuit: &mut Circuit,
     layout: &Layout,
@@ -87,7 +87,7 @@ fn body_literal(
 }
 
 /// Adds a clause for each literal that asserts it.
-fn add_units(circuit: &mut Circuit, literals: &[Lit]) -> Result<(), AllocError>
+pub(crate) fn add_units(circuit: &mut Circuit, literals: &[Lit]) -> Result<(), AllocError>
     requires literals { AreWithin circuit.old.vars literals.now }
     requires room { length circuit.old.clauses + length literals.now < LIMIT }
     ensures vars { OnOk result (circuit.new.vars ≡ circuit.old.vars) }

@@ -67,7 +67,7 @@ fn add_system(
 }
 
 /// The words of the loads' values.
-fn load_words(alloc: Global, layout: &Layout) -> Result<Vec<Word>, AllocError>
+pub(crate) fn load_words(alloc: Global, layout: &Layout) -> Result<Vec<Word>, AllocError>
     ensures { IfOk result (λ words. words.items ≡ load_words layout.now) }
 {
     let mut words = Vec::with_capacity(alloc, layout.loads() as usize)?;

@@ -1,8 +1,9 @@
 -- An order that asks about every two of some events asks all that a conjunct with these events
 -- needs.
-use Rattle.std.proofs.Common.{◌≡◌, ◌≢◌, ◌⊎◌, ℕ, zero, suc, true, List, [], ◌∷◌, ◌++◌, inl, inr, refl, ap, sym, ◌∙◌, subst, arith, map, min, max}
+use Rattle.std.proofs.Common.{◌≡◌, ◌≢◌, ◌⊎◌, ◌+◌, ◌<◌, ◌≤◌, ℕ, zero, suc, true, List, [], ◌∷◌, ◌++◌, inl, inr, refl, ap, sym, ◌∙◌, subst, arith, map, min, max}
 use Rattle.std.specs.Prelude.{fold}
-use Rattle.std.specs.List.{All, Contains, list_any}
+use Rattle.std.specs.List.{All, Contains, list_any, range_with_len}
+use Rattle.std.proofs.lemmas.Bool.{cases_eq}
 use Rattle.std.proofs.lemmas.List.{get_or-map, length-map}
 use Rattle.std.proofs.lemmas.List.Elements.{All-head, All-contains, Contains-append_left, Contains-append_right}
 use Rattle.std.proofs.lemmas.List.Folds.{fold-map}
@@ -16,6 +17,10 @@ use Rattle.order_formula.specs.declared.formula.Conjunct.{Conjunct}
 use Rattle.order_formula.specs.declared.group.Group.TheVariants.{Mutex}
 use Rattle.order_formula.proofs.Asked.{formula_asked, grows_formula}
 use Rattle.bit_order.specs.Comparators.{pairs_among, completed}
+
+-- an order that asks about every two of some events
+abbrev pub among : Order → List ℕ → Order
+among o events = fold with_pair o (pairs_among events)
 
 -- the literal that an event comes before another
 abbrev before : ℕ → ℕ → Literal
@@ -31,7 +36,7 @@ asking events = record { group = Mutex 0; body = body.Any (literals_among events
 abbrev with_literal : Order → Literal → Order
 with_literal o l = with_atom o l.atom
 
-asked_same : (o : Order) (events : List ℕ) → with_formula o (asking events ∷ []) ≡ completed o events
+asked_same : (o : Order) (events : List ℕ) → with_formula o (asking events ∷ []) ≡ among o events
 asked_same o [] = refl
 asked_same o (event ∷ events) =
     let next : Order = fold with_pair o (map (pair_of event) events) in
@@ -39,8 +44,11 @@ asked_same o (event ∷ events) =
     ∙ ap (λ p. fold with_literal p (literals_among events)) (fold-map with_literal (before event) o events ∙ sym (fold-map with_pair (pair_of event) o events))
     ∙ asked_same next events ∙ sym (fold-append with_pair o (map (pair_of event) events) (pairs_among events))
 
-pub grows-completed : (o : Order) (events : List ℕ) → Grows o (completed o events)
-grows-completed o events = subst (Grows o) (asked_same o events) (grows_formula o (asking events ∷ []))
+grows_among : (o : Order) (events : List ℕ) → Grows o (among o events)
+grows_among o events = subst (Grows o) (asked_same o events) (grows_formula o (asking events ∷ []))
+
+pub grows-completed : (o : Order) → Grows o (completed o)
+grows-completed o = grows_among o (range_with_len 0 o.events)
 
 head_or_tail : {A : Type 0} (x : A) (xs : List A) (y : A) → Contains (x ∷ xs) y → (x ≡ y) ⊎ Contains xs y
 head_or_tail x xs y (zero, within, is) = inl is
@@ -82,9 +90,9 @@ pair_turned first second =
     let upper : ℕ → Pair = λ e. record { lesser = min first second; greater = e } in
     ap lower low ∙ ap upper high
 
-pub completed-asked : (o : Order) (events : List ℕ) (first second : ℕ) → Contains events first → Contains events second → first ≢ second
-    → list_any (same_pair (pair_of first second)) (completed o events).pairs ≡ true
-completed-asked o events first second p q apart =
+among_asked : (o : Order) (events : List ℕ) (first second : ℕ) → Contains events first → Contains events second → first ≢ second
+    → list_any (same_pair (pair_of first second)) (among o events).pairs ≡ true
+among_asked o events first second p q apart =
     let after : Order = with_formula o (asking events ∷ []) in
     let all : All (LiteralIsAsked after) (literals_among events) =
     All-head (All (LiteralIsAsked after)) (literals_among events) []
@@ -95,3 +103,18 @@ completed-asked o events first second p q apart =
       | inr there ↦ subst (λ r. list_any (same_pair r) after.pairs ≡ true) (pair_turned first second)
           (All-contains (LiteralIsAsked after) (literals_among events) (before second first) all there)
     ])
+
+-- a range contains its numbers
+pub range_has : (a n e : ℕ) → a ≤ e → e < a + n → Contains (range_with_len a n) e
+range_has a zero e low high = absurd (omega (arith, low, high))
+range_has a (suc n) e low high =
+    elim (cases_eq e a) [
+      | inl same ↦ (0, omega arith, sym same)
+      | inr other ↦ Contains-append_right (a ∷ []) (range_with_len (a + 1) n) e (range_has (a + 1) n e (omega (arith, low, other)) (omega (arith, high)))
+    ]
+
+pub completed-asked : (o : Order) (first second : ℕ) → first < o.events → second < o.events → first ≢ second
+    → list_any (same_pair (pair_of first second)) (completed o).pairs ≡ true
+completed-asked o first second one two apart =
+    let n : ℕ = o.events in
+    among_asked o (range_with_len 0 n) first second (range_has 0 n first (omega arith) (omega (arith, one))) (range_has 0 n second (omega arith) (omega (arith, two))) apart

@@ -10,13 +10,14 @@ use Rattle.order_formula.specs.declared.order.Pair.{Pair}
 use Rattle.bit_order.specs.Clauses.{folded_clause}
 use Rattle.bit_order.specs.Layouts.{Layout, position_word, base}
 
--- all pairs among some events; `completed` adds them to the pairs that an order asks about
+-- all pairs among some events
 abbrev pub pairs_among : List ℕ → List Pair
 pairs_among [] = []
 pairs_among (event ∷ events) = map (pair_of event) events ++ pairs_among events
 
-abbrev pub completed : Order → List ℕ → Order
-completed o events = fold with_pair o (pairs_among events)
+-- an order that asks about every two of its events
+abbrev pub completed : Order → Order
+completed o = fold with_pair o (pairs_among (range_with_len 0 o.events))
 
 -- whether the lesser event of a pair comes before the greater
 unfoldable pub compared_pair : Formula → Pair → Made

@@ -1,6 +1,6 @@
 //! Laws of orders as clauses: each is the clause of a function that does nothing.
-ghost use Rattle.std.specs.Prelude.{◌≡◌, ◌≢◌, ◌≤◌, ℕ, ℤ, List, IsTrue, true};
-ghost use Rattle.std.specs.List.{All, Contains, list_any};
+ghost use Rattle.std.specs.Prelude.{◌≡◌, ◌≢◌, ◌<◌, ◌≤◌, ℕ, ℤ, List, IsTrue, true};
+ghost use Rattle.std.specs.List.{All, list_any};
 ghost use Rattle.cnf_core.specs.Clauses.{Valuation, clause_true, satisfies};
 ghost use Rattle.cnf_core.specs.Gates.{Agree, IsOver};
 ghost use Rattle.bit_gates.specs.Extended.{IsExtended};
@@ -45,9 +45,9 @@ pub fn first_variables_say_the_world()
     ensures { (y : Layout) (v w : Valuation) → Agree (base y).vars v w → world_of y v ≡ world_of y w }
 {}
 
-/// A completed order keeps its pairs, with their numbers, and asks about all pairs of the events.
+/// A completed order keeps its pairs, with their numbers, and asks about every two events.
 pub fn completed_orders_ask_all()
-    ensures grows { (o : Order) (events : List ℕ) → Grows o (completed o events) }
-    ensures asked { (o : Order) (events : List ℕ) (first second : ℕ) → Contains events first → Contains events second → first ≢ second
-        → IsTrue (list_any (same_pair (pair_of first second)) (completed o events).pairs) }
+    ensures grows { (o : Order) → Grows o (completed o) }
+    ensures asked { (o : Order) (first second : ℕ) → first < o.events → second < o.events → first ≢ second
+        → IsTrue (list_any (same_pair (pair_of first second)) (completed o).pairs) }
 {}

@@ -1,6 +1,6 @@
 //! Which of two events comes first.
-ghost use Rattle.std.specs.Prelude.{◌≡◌, ◌<◌, ◌≤◌, ◌*◌, [], length, map, fold, IfOk, OnOk};
-ghost use Rattle.std.specs.List.{All};
+ghost use Rattle.std.specs.Prelude.{◌≡◌, ◌<◌, ◌≤◌, ◌+◌, ◌-◌, ◌*◌, [], length, map, fold, IfOk, OnOk};
+ghost use Rattle.std.specs.List.{All, range_with_len};
 ghost use Rattle.cnf_core.specs.Clauses.{var_of};
 ghost use Rattle.bit_gates.specs.Folded.{HasRoom, IsLarger};
 ghost use Rattle.bit_words.specs.Words.{AreWithin};
@@ -15,31 +15,30 @@ use cnf_core::Lit;
 use order_formula::{Order, Pair};
 use std::alloc::{AllocError, Global};
 
-/// Makes the order ask about every two of these events. Earlier pairs keep their numbers.
+/// Makes the order ask about every two events. Earlier pairs keep their numbers.
 ///
-/// Used for the events of loads and of conjuncts with several literals: transitivity then covers
-/// every three of them, and contended logs need far fewer conflicts.
-pub fn complete(order: &mut Order, events: &[u32]) -> Result<(), AllocError>
-    requires few { order.old.events ≤ 256 }
-    requires events { All (λ event. event < order.old.events) events.now }
-    ensures { OnOk result (order.new ≡ completed order.old events.now) }
+/// Transitivity then covers every three events, so unit propagation sees that an event comes before
+/// another wherever others lie between them.
+pub fn complete(order: &mut Order) -> Result<(), AllocError>
+    requires { order.old.events ≤ 256 }
+    ensures { OnOk result (order.new ≡ completed order.old) }
 {
-    for place in 0..events.len() {
-        ask_pairs(order, events[place], &events[place + 1..])?;
+    for event in 0..order.events() {
+        ask_later(order, event)?;
     }
     Ok(())
 }
 
-/// Makes the order ask about an event and each of some others.
-fn ask_pairs(order: &mut Order, event: u32, others: &[u32]) -> Result<(), AllocError>
+/// Makes the order ask about an event and each later one.
+fn ask_later(order: &mut Order, event: u32) -> Result<(), AllocError>
     requires few { order.old.events ≤ 256 }
     requires event { event < order.old.events }
-    requires others { All (λ other. other < order.old.events) others.now }
-    ensures asked { OnOk result (order.new ≡ fold with_pair order.old (map (pair_of event) others.now)) }
+    ensures asked { OnOk result (order.new
+        ≡ fold with_pair order.old (map (pair_of event) (range_with_len (event + 1) (order.old.events - (event + 1))))) }
     ensures events { OnOk result (order.new.events ≡ order.old.events) }
 {
-    for other in others {
-        ask_pair(order, event, *other)?;
+    for later in event + 1..order.events() {
+        ask_pair(order, event, later)?;
     }
     Ok(())
 }

@@ -1,6 +1,7 @@
 -- The meaning of the words of terms.
-use Rattle.std.proofs.Common.{◌≡◌, ℕ, suc, zero, ◌+◌, ◌*◌, ◌/◌, ◌^◌, ◌<◌, ◌≤◌, List, [], ◌∷◌, ◌++◌, ℤ, pos, refl, ap, sym, ◌∙◌, subst, arith, true, false, not, length, get_or, map}
-use Rattle.std.specs.Prelude.{◌%◌, ◌==◌, fold}
+use Rattle.std.proofs.Common.{◌≡◌, ℕ, suc, zero, ◌+◌, ◌*◌, ◌/◌, ◌^◌, ◌<◌, ◌≤◌, List, [], ◌∷◌, ◌++◌, ℤ, pos, refl, ap, ap₂, sym, ◌∙◌, subst, arith, Bool, true, false, not, length, get_or, map, take}
+use Rattle.std.specs.Prelude.{◌%◌, ◌==◌, ◌&&◌, ◌||◌, fold, Option, None, Some}
+use Rattle.std.specs.Option.{option_map_or}
 use Rattle.std.specs.Int.{w32, cast_signed, cast_unsigned, bit_at}
 use Rattle.std.specs.List.{All, range_with_len}
 use Rattle.std.specs.Ordering.{int_eq}
@@ -9,15 +10,24 @@ use Rattle.std.proofs.Math.ListN.{get_or-map}
 use Rattle.std.proofs.lemmas.Int.{to_z-of_z}
 use Rattle.std.proofs.lemmas.Nat.{shr-shr, mod-pow-add}
 use Rattle.std.proofs.lemmas.Nat.Bits.{bit_at-lt}
-use Rattle.std.proofs.lemmas.List.{length-replicate, length_push, map-append}
+use Rattle.std.proofs.lemmas.Bool.{and_parts, eqb-true, false≢true}
+use Rattle.std.proofs.lemmas.Cmp.{int_eq_equiv}
+use Rattle.std.proofs.lemmas.List.{append-nil, append_assoc, get_or_append_left, length-append, length-replicate, length_push, map-append, take_at}
+use Rattle.std.proofs.lemmas.List.Quantifiers.{position-Some}
+use Rattle.std.proofs.lemmas.List.Sums.{fold-append}
+use Rattle.std.proofs.lemmas.Option.{get_or_from_slice_get, none-some, slice_get-get_or, slice_get_within}
 use Rattle.std.proofs.lemmas.List.Elements.{All-nil, All-cons, All-head, All-tail, All-map, All-push, All-replicate, All-weaker}
 use Rattle.std.proofs.lemmas.List.FromFn.{length-map-range_with_len}
-use Rattle.sym_terms.specs.int_ops.Arith.{IsInt, bit, unary, binary}
+use Rattle.sym_terms.specs.int_ops.Arith.{IsInt, binary, bit, truth, unary}
+use Rattle.int_ops.specs.declared.arith.BinOp.TheVariants.{Eq, Ne}
+use Rattle.int_ops.specs.declared.arith.UnOp.TheVariants.{Not}
 use Rattle.sym_terms.proofs.int_ops.Bits.{unsigned-below}
 use Rattle.sym_terms.specs.declared.node.Node.{Node}
 use Rattle.sym_terms.specs.declared.node.Node.TheVariants.{Constant, Symbol, Unary, Binary}
-use Rattle.sym_terms.specs.Values.{node_value}
-use Rattle.sym_terms.proofs.Folds.{step}
+use Rattle.sym_terms.specs.Terms.{NamesBelow}
+use Rattle.sym_terms.specs.Values.{node_value, value_of, values_of}
+use Rattle.sym_terms.proofs.Folds.{of_node, step}
+use Rattle.sym_terms.proofs.Growth.{Earlier, earlier_none}
 use Rattle.cnf_core.specs.Clauses.{Formula, Valuation, literal_true}
 use Rattle.bit_gates.specs.Folded.{constant}
 use Rattle.bit_gates.specs.Laws.{IsGrown, IsModel, IsOf}
@@ -30,10 +40,10 @@ use Rattle.bit_ops.specs.bit_arith.Laws.{int_value}
 use Rattle.bit_ops.specs.bit_arith.Sums.{zeros}
 use Rattle.bit_ops.proofs.bit_arith.Values.{value_below, value_zeros}
 use Rattle.bit_ops.specs.Laws.{IsOperand, HasInt}
-use Rattle.bit_ops.specs.Ops.{some_of}
+use Rattle.bit_ops.specs.Ops.{some_of, unary_word}
 use Rattle.bit_ops.proofs.Meaning.{unary_means, binary_means, some_bit, same_int, bit_with}
 use Rattle.bit_terms.specs.Laws.{IsIntNode, TermsMean, NonzeroMeans}
-use Rattle.bit_terms.specs.Terms.{constant_word, word_at, node_word, Words, with_word, term_words}
+use Rattle.bit_terms.specs.Terms.{constant_word, equality_for, is_equality_of, node_word, own_word, term_words, with_word, word_at, Words}
 
 -- the words of numbers
 digit_of : (n : ℕ) → n < 2 → digit (n == 1) ≡ n
@@ -96,17 +106,17 @@ operand_grown f g xs h o = record { literals = all_grown f g xs h o.literals; wi
 operands_grown : (f g : Formula) (words : List (List ℤ)) → IsGrown f g → All (IsOperand f) words → All (IsOperand g) words
 operands_grown f g words h a = All-weaker (IsOperand f) (IsOperand g) (λ xs o. operand_grown f g xs h o) words a
 
--- the word of a node
-node_means : (symbols known : List (List ℤ)) (f : Formula) (node : Node) → 0 < f.vars → IsIntNode node → All (IsOperand f) symbols → All (IsOperand f) known
-    → HasInt f (node_word symbols known f node) (λ w. node_value (map (int_value w) known) (map (int_value w) symbols) node)
-node_means symbols known f (Constant z) one h p q =
+-- the word of a node of its own
+own_means : (symbols known : List (List ℤ)) (f : Formula) (node : Node) → 0 < f.vars → IsIntNode node → All (IsOperand f) symbols → All (IsOperand f) known
+    → HasInt f (own_word symbols known f node) (λ w. node_value (map (int_value w) known) (map (int_value w) symbols) node)
+own_means symbols known f (Constant z) one h p q =
     record { grown = grown_none f; word = constant_operand f z one; int = λ w m. constant_int w z m.one h }
-node_means symbols known f (Symbol load) one h p q =
+own_means symbols known f (Symbol load) one h p q =
     record { grown = grown_none f; word = at_operand f symbols load one p; int = λ w m. at_int w symbols load m.one }
-node_means symbols known f (Unary op a) one h p q =
+own_means symbols known f (Unary op a) one h p q =
     let r = unary_means op f (word_at known a) one (at_operand f known a one q) in
     record { grown = r.grown; word = r.word; int = λ w m. r.int w m ∙ ap (unary op) (at_int w known a m.one) }
-node_means symbols known f (Binary op a b) one h p q =
+own_means symbols known f (Binary op a b) one h p q =
     let r = binary_means op f (word_at known a) (word_at known b) one (at_operand f known a one q) (at_operand f known b one q) in
     record {
       grown = r.grown;
@@ -115,43 +125,155 @@ node_means symbols known f (Binary op a b) one h p q =
           ∙ ap (binary op (get_or (map (int_value w) known) a (pos 0))) (at_int w known b m.one);
     }
 
--- the words of additional nodes
-record AreAdded (nodes : List Node) (symbols : List (List ℤ)) (m r : Words) : Type 0 where
-  pub grown : IsGrown m.formula r.formula
-  pub count : length r.words ≡ length m.words + length nodes
-  pub words : All (IsOperand r.formula) r.words
-  pub ints : (w : Valuation) → IsModel w r.formula → map (int_value w) r.words ≡ fold (step (map (int_value w) symbols)) (map (int_value w) m.words) nodes
+-- the equality of two terms, either way round, is the opposite of their difference
+not_truth : (b : Bool) → unary Not (truth b) ≡ truth (not b)
+not_truth true = refl
+not_truth false = refl
 
-are_added : (nodes : List Node) (symbols : List (List ℤ)) (m : Words) → 0 < m.formula.vars → All IsIntNode nodes → All (IsOperand m.formula) symbols
-    → All (IsOperand m.formula) m.words → AreAdded nodes symbols m (fold (with_word symbols) m nodes)
-are_added [] symbols m one is p q = record { grown = grown_none m.formula; count = omega arith; words = q; ints = λ w k. refl }
-are_added (node ∷ nodes) symbols m one is p q =
-    let f : Formula = m.formula in
-    let here : Walked Formula = node_word symbols m.words f node in
-    let h = node_means symbols m.words f node one (All-head IsIntNode node nodes is) p q in
-    let g : Formula = here.state in
-    let more : f.vars ≤ g.vars = grown_more f g h.grown in
-    let next : Words = with_word symbols m node in
-    let r = are_added nodes symbols next (omega (arith, one, more)) (All-tail IsIntNode node nodes is) (operands_grown f g symbols h.grown p)
-    (All-push (IsOperand g) m.words here.word (operands_grown f g m.words h.grown q) h.word) in
-    let last : Words = fold (with_word symbols) next nodes in
+either_way : (values loads : List ℤ) (a b : ℕ) (e : Node) → is_equality_of a b e ≡ true
+    → unary Not (node_value values loads e) ≡ node_value values loads (Binary Ne a b)
+either_way values loads a b (Binary Eq c d) is = by (c == a && d == b) refl
+  where
+    at : ℕ → ℤ
+    at k = get_or values k (pos 0)
+
+    by : (one : Bool) → (c == a && d == b) ≡ one → unary Not (truth (int_eq (at c) (at d))) ≡ truth (not (int_eq (at a) (at b)))
+    by true one =
+        let parts = and_parts (c == a) (d == b) one in
+        not_truth (int_eq (at c) (at d))
+        ∙ ap₂ (λ x y. truth (not (int_eq (at x) (at y)))) (eqb-true c a parts.0) (eqb-true d b parts.1)
+    by false one =
+        let other : (c == b && d == a) ≡ true = sym (ap (λ x. x || (c == b && d == a)) one) ∙ is in
+        let parts = and_parts (c == b) (d == a) other in
+        not_truth (int_eq (at c) (at d))
+        ∙ ap₂ (λ x y. truth (not (int_eq (at x) (at y)))) (eqb-true c b parts.0) (eqb-true d a parts.1)
+        ∙ ap (λ t. truth (not t)) (int_eq_equiv.symm (at b) (at a))
+either_way values loads a b _ is = absurd (false≢true is)
+
+-- an equality that is found is one of the nodes, and its opposite is the value of the node
+found_value : (before : List Node) (loads : List ℤ) (node : Node) (p : ℕ) → Earlier before → equality_for before node ≡ Some p
+    → unary Not (value_of before loads p) ≡ node_value (values_of before loads) loads node
+found_value before loads (Binary Ne a b) p names is =
+    let found = position-Some (is_equality_of a b) before p (Constant (pos 0)) is in
+    let e : Node = get_or before p (Constant (pos 0)) in
+    let below : NamesBelow p e = names p e (slice_get-get_or before p (Constant (pos 0)) found.0) in
+    ap (unary Not) (of_node before loads p (Constant (pos 0)) found.0 below) ∙ either_way (values_of before loads) loads a b e found.1
+found_value before loads _ p names is = absurd (none-some p is)
+
+-- the first of some nodes name only earlier ones
+earlier_first : (first rest : List Node) → Earlier (first ++ rest) → Earlier first
+earlier_first first rest names id node found =
+    let below : id < length first = slice_get_within first id node found in
+    names id node
+    (slice_get-get_or (first ++ rest) id node (grind (arith, below, length-append))
+    ∙ ap Some (get_or_append_left first rest node id below ∙ get_or_from_slice_get first id node node found))
+
+-- the words of the first nodes
+record AreFirst (before : List Node) (symbols : List (List ℤ)) (m : Words) : Type 0 where
+  pub one : 0 < m.formula.vars
+  pub names : Earlier before
+  pub operands : All (IsOperand m.formula) symbols
+  pub count : length m.words ≡ length before
+  pub words : All (IsOperand m.formula) m.words
+  pub ints : (w : Valuation) → IsModel w m.formula → map (int_value w) m.words ≡ values_of before (map (int_value w) symbols)
+
+-- the word of the next node
+next_means : (symbols : List (List ℤ)) (before rest : List Node) (m : Words) (node : Node) → AreFirst before symbols m → IsIntNode node
+    → HasInt m.formula (node_word symbols (before ++ rest) m node)
+    (λ w. node_value (map (int_value w) m.words) (map (int_value w) symbols) node)
+next_means symbols before rest m node h int = by (equality_for before node) refl
+  where
+    first : take (length m.words) (before ++ rest) ≡ before
+    first = take_at before rest (length m.words) (sym h.count)
+
+    meaning : Valuation → ℤ
+    meaning w = node_value (map (int_value w) m.words) (map (int_value w) symbols) node
+
+    word : Option ℕ → Walked Formula
+    word o = option_map_or (λ p. unary_word Not m.formula (word_at m.words p)) o (own_word symbols m.words m.formula node)
+
+    known : (w : Valuation) → IsModel w m.formula → (p : ℕ) → equality_for before node ≡ Some p → unary Not (int_value w (word_at m.words p)) ≡ meaning w
+    known w k p is =
+        let loads : List ℤ = map (int_value w) symbols in
+        ap (unary Not) (at_int w m.words p k.one ∙ ap (λ vs. get_or vs p (pos 0)) (h.ints w k))
+        ∙ found_value before loads node p h.names is ∙ ap (λ vs. node_value vs loads node) (sym (h.ints w k))
+
+    made : (o : Option ℕ) → equality_for before node ≡ o → HasInt m.formula (word o) meaning
+    made None is = own_means symbols m.words m.formula node h.one int h.operands h.words
+    made (Some p) is =
+        let r = unary_means Not m.formula (word_at m.words p) h.one (at_operand m.formula m.words p h.one h.words) in
+        record { grown = r.grown; word = r.word; int = λ w k. r.int w k ∙ known w (model_before w m.formula (word (Some p)).state r.grown k) p is }
+
+    by : (o : Option ℕ) → equality_for before node ≡ o → HasInt m.formula (node_word symbols (before ++ rest) m node) meaning
+    by o is =
+        subst (λ q. HasInt m.formula (word q) meaning) (sym (ap (λ ns. equality_for ns node) first ∙ is)) (made o is)
+
+-- the words of additional nodes
+record AreAdded (all : List Node) (symbols : List (List ℤ)) (m r : Words) : Type 0 where
+  pub grown : IsGrown m.formula r.formula
+  pub count : length r.words ≡ length all
+  pub words : All (IsOperand r.formula) r.words
+  pub ints : (w : Valuation) → IsModel w r.formula → map (int_value w) r.words ≡ values_of all (map (int_value w) symbols)
+
+are_added : (before rest : List Node) (symbols : List (List ℤ)) (m : Words) → Earlier (before ++ rest) → All IsIntNode rest → AreFirst before symbols m
+    → AreAdded (before ++ rest) symbols m (fold (with_word symbols (before ++ rest)) m rest)
+are_added before [] symbols m names is h =
+    let same : before ++ [] ≡ before = append-nil before in
     record {
-      grown = grown_twice f g last.formula h.grown r.grown;
-      count = let e : length next.words ≡ length m.words + 1 = length_push m.words here.word in omega (arith, e, r.count);
+      grown = grown_none m.formula;
+      count = h.count ∙ ap length (sym same);
+      words = h.words;
+      ints = λ w k. h.ints w k ∙ ap (λ ns. values_of ns (map (int_value w) symbols)) (sym same);
+    }
+are_added before (node ∷ rest) symbols m names is h =
+    let f : Formula = m.formula in
+    let all : List Node = before ++ node ∷ rest in
+    let here : Walked Formula = node_word symbols all m node in
+    let made = next_means symbols before (node ∷ rest) m node h (All-head IsIntNode node rest is) in
+    let g : Formula = here.state in
+    let more : f.vars ≤ g.vars = grown_more f g made.grown in
+    let next : Words = with_word symbols all m node in
+    let longer : List Node = before ++ node ∷ [] in
+    let same : longer ++ rest ≡ all = append_assoc before (node ∷ []) rest in
+    let ready : AreFirst longer symbols next = record {
+      one = omega (arith, h.one, more);
+      names = earlier_first longer rest (subst Earlier (sym same) names);
+      operands = operands_grown f g symbols made.grown h.operands;
+      count = let e : length next.words ≡ length m.words + 1 = length_push m.words here.word in e ∙ ap (λ n. n + 1) h.count ∙ sym (length_push before node);
+      words = All-push (IsOperand g) m.words here.word (operands_grown f g m.words made.grown h.words) made.word;
+      ints = λ w k.
+          let was = h.ints w (model_before w f g made.grown k) in
+          let loads : List ℤ = map (int_value w) symbols in
+          map-append (int_value w) m.words (here.word ∷ [])
+          ∙ ap₂ (λ vs z. vs ++ z ∷ []) was (made.int w k ∙ ap (λ vs. node_value vs loads node) was)
+          ∙ sym (fold-append (step loads) [] before (node ∷ []));
+    } in
+    let rest_added = are_added longer rest symbols next (subst Earlier (sym same) names) (All-tail IsIntNode node rest is) ready in
+    let r = subst (λ ns. AreAdded ns symbols next (fold (with_word symbols ns) next rest)) same rest_added in
+    let last : Words = fold (with_word symbols all) next rest in
+    record {
+      grown = grown_twice f g last.formula made.grown r.grown;
+      count = r.count;
       words = r.words;
-      ints = λ w k. r.ints w k ∙ ap (λ known. fold (step (map (int_value w) symbols)) known nodes)
-          (map-append (int_value w) m.words (here.word ∷ [])
-          ∙ ap (λ z. map (int_value w) m.words ++ z ∷ []) (h.int w (model_before w g last.formula r.grown k)));
+      ints = r.ints;
     }
 
 pub terms-mean : TermsMean
-terms-mean nodes symbols f one is p =
+terms-mean nodes symbols f one terms is p =
     let none : Words = record { formula = f; words = [] } in
-    let h = are_added nodes symbols none one is p (All-nil (IsOperand f)) in
+    let first : AreFirst [] symbols none = record {
+      one = one;
+      names = earlier_none;
+      operands = p;
+      count = refl;
+      words = All-nil (IsOperand f);
+      ints = λ w k. refl;
+    } in
+    let h = are_added [] nodes symbols none terms.earlier is first in
     let all : Words = term_words nodes symbols f in
     record {
       grown = h.grown;
-      count = h.count ∙ omega arith;
+      count = h.count;
       words = h.words;
       int = λ w m id. at_int w all.words id m.one ∙ ap (λ known. get_or known id (pos 0)) (h.ints w m);
     }

@@ -5,6 +5,7 @@ use Rattle.std.specs.Ordering.{int_eq}
 use Rattle.sym_terms.specs.int_ops.Arith.{IsInt}
 use Rattle.sym_terms.specs.declared.node.Node.{Node}
 use Rattle.sym_terms.specs.declared.node.Node.TheVariants.{Constant}
+use Rattle.sym_terms.specs.Terms.{AreTerms}
 use Rattle.sym_terms.specs.Values.{value_of}
 use Rattle.cnf_core.specs.Clauses.{Formula, Valuation}
 use Rattle.bit_gates.specs.Laws.{IsGrown, IsModel, IsBit}
@@ -31,8 +32,8 @@ pub record HaveInts (nodes : List Node) (symbols : List (List ℤ)) (f : Formula
 -- the word of each term has the term's value
 abbrev pub TermsMean : Type 0
 TermsMean =
-    (nodes : List Node) (symbols : List (List ℤ)) (f : Formula) → 0 < f.vars → All IsIntNode nodes
-    → All (IsOperand f) symbols
+    (nodes : List Node) (symbols : List (List ℤ)) (f : Formula) → 0 < f.vars → AreTerms nodes
+    → All IsIntNode nodes → All (IsOperand f) symbols
     → HaveInts nodes symbols f (term_words nodes symbols f)
 
 -- the literal `some_of` is true exactly if the word isn't 0

@@ -40,8 +40,6 @@ use Rattle.bit_blast.specs.bit_order.Layouts.{Layout}
 use Rattle.bit_blast.specs.bit_order.Readings.{world_of}
 use Rattle.bit_blast.specs.bit_terms.Laws.{IsIntNode}
 use Rattle.bit_blast.specs.Blasted.{BlastMeans, IsApart, IsPosed, impossible, layout_of}
-use Rattle.bit_blast.specs.Contended.{contended}
-use Rattle.bit_blast.proofs.Completed.{contended_within}
 use Rattle.bit_blast.proofs.Posed.{blast_means}
 use Rattle.refute_check.specs.Refutations.{IsClosed}
 use Rattle.refute_check.specs.declared.line.Line.{Line}
@@ -51,6 +49,7 @@ use Rattle.clap_system.specs.Ready.{IsReady}
 use Rattle.clap_system.specs.Systems.{System, system_of}
 use Rattle.clap_system.proofs.Choices.{choices_are_enders}
 use Rattle.clap_system.proofs.Ready.{is_ready}
+use Rattle.orders_are_runs.proofs.Terms.{system_terms}
 use Rattle.orders_are_runs.specs.Possible.{IsPossible}
 use Rattle.orders_are_runs.proofs.Systems.{possible_is_run, run_is_possible, run_world_is}
 use Rattle.clap_solve.specs.Clauses.{blasted_by, clauses_of}
@@ -94,6 +93,7 @@ module _ (buffered : Bool) (bound : Binding) (code : Code) (log : Log) (lawful :
   pub posed : IsPosed s.nodes s.formula s.order
   posed = record {
     events = omega (arith, events, few);
+    terms = system_terms buffered bound code paths lawful;
     ints = All-weaker HasInt IsIntNode int_node s.nodes ready.ints;
     asked = ready.asked;
     within = ready.within;
@@ -106,11 +106,11 @@ module _ (buffered : Bool) (bound : Binding) (code : Code) (log : Log) (lawful :
       (unasked_for s.order (length (all_events paths)) (length (all_sleeps paths)) (sym events) (sym sleeps)) ready.within).lawful
 
   abbrev y : Layout
-  y = layout_of s.order s.symbolic.loads s.formula
+  y = layout_of s.order s.symbolic.loads
 
   means : BlastMeans s.nodes s.formula s.order s.symbolic.loads
   means = blast_means s.nodes s.formula s.order s.symbolic.loads posed
-      (completed_lawful s.order (contended s.formula) ordered (contended_within s.order s.formula ready.within))
+      (completed_lawful s.order ordered)
 
   -- values that satisfy the clauses of a system give such a world
   said : paths.dead ≡ false → (v : Valuation) → IsTrue (satisfies v (blasted_by s).clauses.clauses) → IsPossible buffered bound code log

@@ -1,7 +1,7 @@
 -- Orders stay lawful when they are asked about their own events and sleeps.
 use Rattle.std.proofs.Common.{◌≡◌, ℕ, ◌<◌, ◌==◌, ◌&&◌, Bool, true, false, List, [], ◌∷◌, map, fold, refl, ap, ap₂, arith}
 use Rattle.std.specs.Cmp.{IsEquivalence, decided}
-use Rattle.std.specs.List.{All, IsDistinct, list_any}
+use Rattle.std.specs.List.{All, IsDistinct, list_any, range_with_len}
 use Rattle.std.proofs.lemmas.Bool.{and_from, and_parts, eqb-true, eq-eqb}
 use Rattle.std.proofs.lemmas.List.Elements.{All-nil, All-append, All-head, All-map, All-tail, All-weaker}
 use Rattle.std.proofs.lemmas.Map.Keys.{IsDistinct-push}
@@ -17,6 +17,7 @@ use Rattle.order_formula.specs.declared.order.Pair.{Pair}
 use Rattle.order_formula.specs.Orders.{AtomIsIn, BodyIsIn, ChoiceIsOf, ConjunctIsIn, IsOrder, LiteralIsIn, Order, PairIsOf, pair_of, same_choice, same_pair}
 use Rattle.order_formula.specs.Orders.{order_without_questions, with_atom, with_body, with_case, with_choice, with_conjunct, with_formula, with_pair}
 use Rattle.bit_blast.specs.bit_order.Comparators.{completed, pairs_among}
+use Rattle.bit_blast.proofs.WholeLaws.{all_range}
 use Rattle.clap_system.proofs.Choices.{each_key}
 
 none_twice : {K : Type 0} (eq : K → K → Bool) → IsDistinct eq []
@@ -130,8 +131,10 @@ among_within n (event ∷ events) all =
     (All-weaker (λ e. e < n) (λ e. PairIsOf n (pair_of event e)) (λ e below. pair_is n event e own below) events rest))
     (among_within n events rest)
 
-pub completed_lawful : (o : Order) (events : List ℕ) → IsOrder o → All (λ e. e < o.events) events → IsOrder (completed o events)
-completed_lawful o events is within =
+pub completed_lawful : (o : Order) → IsOrder o → IsOrder (completed o)
+completed_lawful o is =
+    let events : List ℕ = range_with_len 0 o.events in
+    let within : All (λ e. e < o.events) events = all_range (λ e. e < o.events) 0 o.events (λ k below. omega (arith, below)) in
     (all_for o with_pair (PairIsOf o.events)
     (λ p pair k of. record {
       lawful = with_pair_lawful p pair k.lawful (record { ordered = of.ordered; within = omega (arith, of.within, k.events) });

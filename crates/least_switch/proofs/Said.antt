@@ -16,7 +16,6 @@ use Rattle.bit_order.specs.Layouts.{Layout}
 use Rattle.bit_order.specs.Readings.{world_of}
 use Rattle.bit_order.proofs.Meaning.{values-say-worlds}
 use Rattle.bit_blast.specs.Blasted.{impossible}
-use Rattle.bit_blast.specs.Contended.{contended}
 use Rattle.bit_blast.proofs.Completed.{completed_events}
 use Rattle.schedule_decode.specs.path_laws.Setting.{setting_of}
 use Rattle.schedule_decode.specs.world_plan.Going.{IsLawfulWorld}
@@ -43,7 +42,7 @@ pub posed_few : (buffered : Bool) (bound : Binding) (code : Code) (log : Log) �
 posed_few buffered bound code log lawful within p by alive =
     let s = system_of buffered bound code log in
     let own : (blasted_by s).layout.order.events ≤ 256 =
-    let same = completed_events s.order (contended s.formula) in
+    let same = completed_events s.order in
     let few = (solve.posed buffered bound code log lawful within).events in
     omega (arith, same, few) in
     subst (λ (q : Posed). q.blasted.layout.order.events ≤ 256) (sym by)

@@ -5,7 +5,7 @@ ghost use Rattle.clap_system.specs.Systems.{system_from};
 ghost use Rattle.least_switch.specs.helpers.Bounded.{IsBounded};
 ghost use Rattle.least_switch.specs.helpers.Levels.{AreBounded, IsAskable};
 
-use crate::levels::{blast_asked, with_levels};
+use crate::levels::{blast_with_room, with_levels};
 use bit_blast::{Blasted, extend_values};
 use bit_order::Layout;
 use clap_system::{BuildFault, build};
@@ -64,7 +64,7 @@ fn clauses(
         return Ok(Blasted::impossible(alloc)?.into_parts());
     }
     let loads = execution.symbolic.loads();
-    let blasted = blast_asked(alloc, &execution.terms, formula, order, loads)?;
+    let blasted = blast_with_room(alloc, &execution.terms, formula, order, loads)?;
     with_levels(alloc, &execution.paths, blasted, most)
 }
 

@@ -1,6 +1,6 @@
 //! The clauses of a formula with a bound on context switches.
 ghost use Rattle.std.specs.Prelude.{◌≡◌, ◌+◌, ◌≤◌, ◌<◌, IfOk, length};
-ghost use Rattle.std.specs.List.{All, range_with_len};
+ghost use Rattle.std.specs.List.{All};
 ghost use Rattle.schedule_file.specs.tc_limits.declared.limits.TheConstants.{EVENTS};
 ghost use Rattle.cnf_core.specs.declared.cnf.TheConstants.{LIMIT};
 ghost use Rattle.order_formula.specs.Formulas.{IsOf};
@@ -10,12 +10,11 @@ ghost use Rattle.bit_blast.specs.Blasted.{blast};
 ghost use Rattle.bit_blast.specs.Sizes.{whole_size};
 ghost use Rattle.bit_order.specs.bit_gates.Folded.{HasRoom};
 ghost use Rattle.switch_order.specs.Sizes.{size_of};
-ghost use Rattle.switch_clauses.specs.Clauses.{asked_of_all};
 ghost use Rattle.least_switch.specs.helpers.Levels.{AreLevelled, StandsOnOrder};
 
 use crate::events::threads_of;
 use bit_blast::{Blasted, blast};
-use bit_order::{Layout, complete};
+use bit_order::Layout;
 use cnf_core::Cnf;
 use order_formula::{Formula, Order};
 use path_walk::Paths;
@@ -23,8 +22,8 @@ use std::alloc::{AllocError, Global};
 use switch_order::add_levels;
 use sym_terms::Terms;
 
-/// The clauses of a formula over an order that asks about every two events.
-pub(crate) fn blast_asked(
+/// The clauses of a formula, which leave room for levels.
+pub(crate) fn blast_with_room(
     alloc: Global,
     terms: &Terms,
     formula: &Formula,
@@ -35,35 +34,12 @@ pub(crate) fn blast_asked(
     requires events { order.events ≤ 256 }
     requires within { All (ConjunctIsIn order) formula.now }
     requires room { whole_size (record { order = order; loads = loads }) terms.now formula.now + size_of EVENTS 255 < LIMIT }
-    ensures blasted { IfOk result (λ blasted. blasted ≡ blast terms.now formula.now (asked_of_all order) loads) }
+    ensures blasted { IfOk result (λ blasted. blasted ≡ blast terms.now formula.now order loads) }
     ensures lawful { IfOk result (λ blasted. IsOrder blasted.layout.order) }
     ensures variables { IfOk result (λ blasted. 0 < blasted.clauses.vars) }
     ensures room { IfOk result (λ blasted. HasRoom (size_of EVENTS 255) blasted.clauses) }
 {
-    let order = ask_all(alloc, order)?;
     blast(alloc, terms, formula, order, loads)
-}
-
-/// The order, with all pairs of events added.
-fn ask_all(alloc: Global, order: Order) -> Result<Order, AllocError>
-    requires { order.events ≤ 256 }
-    ensures { IfOk result (λ asked. asked ≡ asked_of_all order) }
-{
-    let mut order = order;
-    let events = numbers(alloc, order.events())?;
-    complete(&mut order, events.as_slice())?;
-    Ok(order)
-}
-
-/// The first `count` numbers, from 0.
-fn numbers(alloc: Global, count: u32) -> Result<Vec<u32>, AllocError>
-    ensures { IfOk result (λ numbers. numbers.items ≡ range_with_len 0 count) }
-{
-    let mut numbers = Vec::new(alloc);
-    for number in 0..count {
-        numbers.push(number)?;
-    }
-    Ok(numbers)
 }
 
 /// Adds levels up to `most` to clauses, and so bounds their switches.

@@ -78,7 +78,7 @@ first_true v cs m n all less below =
     (Contains-get_or (take m cs) n [] (omega (arith, less, below, length-take m cs))))
 
 module _ (nodes : List Node) (formula : List Conjunct) (o : Order) (loads : ℕ) (lines : List Line) (groups : List Group) (posed : IsPosed nodes formula o)
-    (ordered : IsOrder (layout_of o loads formula).order) (closed : IsClosed (blast nodes formula o loads).clauses lines)
+    (ordered : IsOrder (layout_of o loads).order) (closed : IsClosed (blast nodes formula o loads).clauses lines)
     (are : AreReachedGroups formula (blast nodes formula o loads) lines groups) (w : World) (is : IsWorldIn o loads w)
     (all : All (HoldsIn nodes w formula) groups) where
   abbrev b : Blasted

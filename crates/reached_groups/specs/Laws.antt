@@ -28,7 +28,7 @@ abbrev pub GroupsBind : Type 0
 GroupsBind =
     (nodes : List Node) (formula : List Conjunct) (o : Order) (loads : ℕ) (lines : List Line)
     (groups : List Group)
-    → IsPosed nodes formula o → IsOrder (layout_of o loads formula).order
+    → IsPosed nodes formula o → IsOrder (layout_of o loads).order
     → IsClosed (blast nodes formula o loads).clauses lines
     → AreReachedGroups formula (blast nodes formula o loads) lines groups
     → (w : World) → IsWorldIn o loads w → All (HoldsIn nodes w formula) groups → ⊥

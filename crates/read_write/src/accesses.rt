@@ -8,9 +8,11 @@ use sym_exec::{Access, Symbolic};
 
 /// An access of a thread, with the thread's index in the paths.
 #[derive(Clone, Copy, Debug)]
-pub(crate) struct PlacedAccess {
-    pub(crate) thread: usize,
-    pub(crate) access: Access,
+pub struct PlacedAccess {
+    /// The thread.
+    pub thread: usize,
+    /// The access.
+    pub access: Access,
 }
 
 impl Model for PlacedAccess {
@@ -41,7 +43,7 @@ impl PlacedAccess {
 }
 
 /// The accesses of all threads, in order.
-pub(crate) fn all_accesses(
+pub fn all_accesses(
     alloc: Global,
     symbolic: &Symbolic,
 ) -> Result<Vec<PlacedAccess>, AllocError>

@@ -1,12 +1,10 @@
 -- What the clauses with a bound on switches mean.
-use Rattle.std.proofs.Common.{◌≡◌, ◌≢◌, ◌∙◌, inl, inr, ℕ, zero, suc, ◌+◌, ◌<◌, ◌≤◌, nat_lt, Bool, true, false, ◌||◌, List, [], ◌∷◌, map, length, Option, Some, None, refl, sym, ap, subst, arith}
+use Rattle.std.proofs.Common.{◌≡◌, ◌≢◌, ◌∙◌, ℕ, suc, ◌<◌, ◌≤◌, nat_lt, Bool, true, false, List, [], length, Option, Some, None, refl, sym, subst, arith}
 use Rattle.std.specs.Bool.{IsTrue}
 use Rattle.std.specs.Prelude.{if◌then◌else◌, option_map}
-use Rattle.std.specs.List.{All, Contains, find, list_any, range_with_len}
-use Rattle.std.proofs.lemmas.Bool.{cases_eq, false≢true, ltb-true}
+use Rattle.std.specs.List.{All, find}
+use Rattle.std.proofs.lemmas.Bool.{false≢true, ltb-true}
 use Rattle.std.proofs.lemmas.List.{length-map}
-use Rattle.std.proofs.lemmas.List.Elements.{All-cons, All-contains, All-map, Contains-append_right}
-use Rattle.std.proofs.lemmas.List.Folds.{list_any-append}
 use Rattle.std.proofs.lemmas.Option.{none-some, same_Some}
 use Rattle.switch_runs.specs.tc_base.Buffers.{BufferOps}
 use Rattle.clap_solve.specs.run_log.Logs.{Log}
@@ -21,37 +19,27 @@ use Rattle.switch_runs.specs.run_follows.Follow.{moves_for}
 use Rattle.clap_solve.specs.run_log.Logs.{is_log}
 use Rattle.clap_solve.specs.path_walk.Paths.{Paths, paths_of}
 use Rattle.clap_solve.specs.path_walk.declared.event.Event.{Event}
-use Rattle.clap_solve.specs.order_formula.declared.formula.Body.{Body}
-use Rattle.clap_solve.specs.order_formula.declared.formula.Body.TheVariants as body
-use Rattle.clap_solve.specs.order_formula.declared.formula.Conjunct.{Conjunct}
-use Rattle.clap_solve.specs.order_formula.declared.order.Pair.{Pair}
-use Rattle.clap_solve.specs.order_formula.declared.read.Candidate.{Candidate}
-use Rattle.clap_solve.specs.order_formula.Orders.{BodyIsAsked, BodyIsIn, ConjunctIsAsked, ConjunctIsIn, Grows, IsOrder, Order, pair_of, same_pair}
+use Rattle.clap_solve.specs.order_formula.Orders.{IsOrder}
 use Rattle.clap_solve.specs.order_formula.Worlds.{World}
-use Rattle.clap_solve.proofs.order_formula.Asked.{formula_stays}
 use Rattle.switch_runs.specs.lawful_order.Events.{Of, all_events, number_of}
 use Rattle.switch_runs.proofs.order_events.Lists as lists
 use Rattle.switch_runs.proofs.order_events.Numbers.{has_number}
-use Rattle.switch_runs.proofs.order_events.Parts.{each_in}
 use Rattle.switch_runs.proofs.order_events.Whole as paths_are
 use Rattle.switch_runs.specs.world_plan.Plan.{is_failure, plan}
 use Rattle.switch_runs.proofs.world_plan.Numbers.{event_numbered, of_find}
 use Rattle.clap_solve.specs.cnf_core.Clauses.{Formula, Valuation, satisfies}
-use Rattle.clap_solve.specs.bit_order.Comparators.{pairs_among}
 use Rattle.clap_solve.specs.bit_order.Laws.{IsWorldFor, PairIsAsked}
 use Rattle.clap_solve.specs.bit_order.Layouts.{Layout}
 use Rattle.clap_solve.specs.bit_order.Readings.{world_of}
-use Rattle.clap_solve.proofs.bit_order.Asking.{completed-asked, grows-completed}
+use Rattle.clap_solve.proofs.bit_order.Asking.{completed-asked}
 use Rattle.clap_solve.proofs.bit_order.Meaning.{values-say-worlds}
-use Rattle.clap_solve.specs.bit_blast.Blasted.{BlastMeans, IsApart, IsPosed, impossible, layout_of}
-use Rattle.clap_solve.specs.bit_blast.Contended.{contended}
-use Rattle.clap_solve.specs.bit_blast.Laws.{BodyIsTold}
+use Rattle.clap_solve.specs.bit_blast.Blasted.{BlastMeans, IsPosed, impossible, layout_of}
 use Rattle.clap_solve.specs.bit_blast.Whole.{all_clauses}
 use Rattle.clap_solve.specs.bit_blast.Whole as blast
-use Rattle.clap_solve.proofs.bit_blast.Completed.{completed_events, contended_within, same_part}
-use Rattle.clap_solve.proofs.bit_blast.Posed.{blast_means, formula_in}
+use Rattle.clap_solve.proofs.bit_blast.Completed.{completed_events}
+use Rattle.clap_solve.proofs.bit_blast.Posed.{blast_means}
+use Rattle.clap_solve.proofs.bit_blast.Posed as blasted
 use Rattle.clap_solve.proofs.bit_blast.Prefixes.{first_part}
-use Rattle.clap_solve.proofs.bit_blast.WholeLaws.{all_range}
 use Rattle.clap_solve.specs.refute_check.Refutations.{IsClosed}
 use Rattle.clap_solve.specs.refute_check.declared.line.Line.{Line}
 use Rattle.clap_solve.proofs.refute_check.Sound.{closed-means-unsatisfiable}
@@ -70,24 +58,10 @@ use Rattle.switch_runs.proofs.plan_runs.Runs.{plan_reproduces}
 use Rattle.clap_solve.specs.Solved.{IsWithin}
 use Rattle.clap_solve.proofs.Meaning as solve
 use Rattle.clap_solve.proofs.Ordered.{completed_lawful}
-use Rattle.switch_clauses.specs.Clauses.{asked_of_all, switch_clauses, clauses_with_levels}
+use Rattle.switch_clauses.specs.Clauses.{switch_clauses, clauses_with_levels}
 use Rattle.switch_clauses.proofs.Same.{same_few}
 use Rattle.switch_clauses.proofs.Whole as stands
 use Rattle.switch_runs.specs.path_laws.Setting.{Setting, setting_of}
-
--- a range contains its numbers
-range_has : (a n e : ℕ) → a ≤ e → e < a + n → Contains (range_with_len a n) e
-range_has a zero e low high = absurd (omega (arith, low, high))
-range_has a (suc n) e low high =
-    elim (cases_eq e a) [
-      | inl same ↦ (0, omega arith, sym same)
-      | inr other ↦ Contains-append_right (a ∷ []) (range_with_len (a + 1) n) e (range_has (a + 1) n e (omega (arith, low, other)) (omega (arith, high)))
-    ]
-
--- a question stays in an order that grows
-still_asked : (o p : Order) (q : Pair) → Grows o p → IsTrue (list_any (same_pair q) o.pairs) → IsTrue (list_any (same_pair q) p.pairs)
-still_asked o p q g asked =
-    ap (list_any (same_pair q)) g.pairs.1 ∙ list_any-append (same_pair q) o.pairs g.pairs.0 ∙ ap (λ b. b || list_any (same_pair q) g.pairs.0) asked
 
 module _ (buffered : Bool) (bound : Binding) (code : Code) (log : Log) (lawful : IsLawful code) (within : IsWithin code log) where
   abbrev ps : Paths
@@ -96,92 +70,28 @@ module _ (buffered : Bool) (bound : Binding) (code : Code) (log : Log) (lawful :
   abbrev s : System
   s = system_of buffered bound code log
 
-  abbrev every : List ℕ
-  every = range_with_len 0 s.order.events
-
-  -- the order that asks about every two events
-  abbrev oa : Order
-  oa = asked_of_all s.order
-
   abbrev y : Layout
-  y = layout_of oa s.symbolic.loads s.formula
+  y = layout_of s.order s.symbolic.loads
 
-  was : IsPosed s.nodes s.formula s.order
-  was = solve.posed buffered bound code log lawful within
-
-  events_all : oa.events ≡ s.order.events
-  events_all = completed_events s.order every
-
-  sleeps_all : oa.sleeps ≡ s.order.sleeps
-  sleeps_all = same_part (λ (k : Order). k.sleeps) (λ k p. refl) s.order (pairs_among every)
-
-  choices_all : oa.choices ≡ s.order.choices
-  choices_all = same_part (λ (k : Order). k.choices) (λ k p. refl) s.order (pairs_among every)
-
-  lawful_all : IsOrder oa
-  lawful_all =
-      completed_lawful s.order every (solve.ordered buffered bound code log lawful within)
-      (all_range (λ e. e < s.order.events) 0 s.order.events (λ k below. omega (arith, below)))
-
-  posed : IsPosed s.nodes s.formula oa
-  posed = record {
-    events = omega (arith, was.events, events_all);
-    ints = was.ints;
-    asked = formula_stays s.order oa s.formula (grows-completed s.order every) was.asked;
-    within = formula_in s.order oa events_all sleeps_all s.formula was.within;
-    apart = was.apart;
-  }
+  posed : IsPosed s.nodes s.formula s.order
+  posed = solve.posed buffered bound code log lawful within
 
   lawful_y : IsOrder y.order
-  lawful_y = completed_lawful oa (contended s.formula) lawful_all (contended_within oa s.formula posed.within)
+  lawful_y = completed_lawful s.order (solve.ordered buffered bound code log lawful within)
 
-  means : BlastMeans s.nodes s.formula oa s.symbolic.loads
-  means = blast_means s.nodes s.formula oa s.symbolic.loads posed lawful_y
-
-  grows : Grows oa y.order
-  grows = grows-completed oa (contended s.formula)
+  means : BlastMeans s.nodes s.formula s.order s.symbolic.loads
+  means = blast_means s.nodes s.formula s.order s.symbolic.loads posed lawful_y
 
   events_y : y.order.events ≡ length (all_events ps)
-  events_y = completed_events oa (contended s.formula) ∙ events_all ∙ solve.events buffered bound code log lawful within
-
-  same_events : y.order.events ≡ oa.events
-  same_events = completed_events oa (contended s.formula)
+  events_y = completed_events s.order ∙ solve.events buffered bound code log lawful within
 
   asked : (e g : ℕ) → e < y.order.events → g < y.order.events → e ≢ g → PairIsAsked y e g
   asked e g one other apart =
-      still_asked oa y.order (pair_of e g) grows
-      (completed-asked s.order every e g (range_has 0 s.order.events e (omega arith) (omega (arith, one, same_events, events_all)))
-      (range_has 0 s.order.events g (omega arith) (omega (arith, other, same_events, events_all))) apart)
-
-  within_y : All (ConjunctIsIn y.order) s.formula
-  within_y = formula_in oa y.order same_events (same_part (λ (k : Order). k.sleeps) (λ k p. refl) oa (pairs_among (contended s.formula))) s.formula posed.within
-
-  told : (c : Conjunct) → (b : Body) → c.body ≡ b → BodyIsAsked y.order b → BodyIsIn y.order b → IsApart b → BodyIsTold y.order b
-  told c (body.Any cases) is all inside apart = all
-  told c (body.Read r) is all inside apart =
-      let named : List ℕ = r.event ∷ map (λ (k : Candidate). k.event) r.candidates in
-      let there : All (λ e. e < y.order.events) named =
-      All-cons (λ e. e < y.order.events) r.event (map (λ (k : Candidate). k.event) r.candidates) inside.0
-      (All-map (λ e. e < y.order.events) (λ (k : Candidate). k.event) r.candidates inside.1) in
-      record {
-        distinct = apart;
-        within = there;
-        asked = λ first second p q differ.
-            asked first second (All-contains (λ e. e < y.order.events) named first there p) (All-contains (λ e. e < y.order.events) named second there q) differ;
-      }
+      let same : y.order.events ≡ s.order.events = completed_events s.order in
+      completed-asked s.order e g (omega (arith, one, same)) (omega (arith, other, same)) apart
 
   pub ready : blast.IsReady y s.nodes s.formula
-  ready = record {
-    order = lawful_y;
-    events = omega (arith, posed.events, same_events);
-    ints = was.ints;
-    told = each_in (λ (c : Conjunct). BodyIsTold y.order c.body) s.formula (λ c there.
-        told c c.body refl
-        (All-contains (ConjunctIsAsked y.order) s.formula c (formula_stays oa y.order s.formula grows posed.asked) there)
-        (All-contains (ConjunctIsIn y.order) s.formula c within_y there)
-        (All-contains (λ (d : Conjunct). IsApart d.body) s.formula c was.apart there));
-    within = within_y;
-  }
+  ready = blasted.ready s.nodes s.formula s.order s.symbolic.loads posed lawful_y
 
   -- the event that fails is an event of the order
   failing_within : (last : ℕ) → failing_of ps ≡ Some last → last < y.order.events
@@ -235,9 +145,9 @@ module _ (buffered : Bool) (bound : Binding) (code : Code) (log : Log) (lawful :
             lives = lives;
             world = w;
             is = said.0.world;
-            of = (choices_are_enders buffered bound code ps w (said.0.positions ∙ events_all ∙ solve.events buffered bound code log lawful within) said.0.loads
-                (said.0.enders ∙ sleeps_all ∙ solve.sleeps buffered bound code log lawful within)).1
-                (λ sleep by is. subst (λ cs. Contains cs (record { sleep = sleep; by = by })) choices_all (said.0.chosen sleep by is));
+            of = (choices_are_enders buffered bound code ps w (said.0.positions ∙ solve.events buffered bound code log lawful within) said.0.loads
+                (said.0.enders ∙ solve.sleeps buffered bound code log lawful within)).1
+                said.0.chosen;
             holds = said.1;
           };
           world = refl;
@@ -259,21 +169,13 @@ module _ (buffered : Bool) (bound : Binding) (code : Code) (log : Log) (lawful :
     pub is_said : (p : IsPossible buffered bound code log) → IsWorldFor (record { order = s.order; loads = s.symbolic.loads }) p.world
         → world_switches ps p.world ≤ most → (v : Valuation) × IsTrue (satisfies v (clauses_with_levels ps s most).clauses)
     is_said p is few =
-        let world_for : IsWorldFor (record { order = oa; loads = s.symbolic.loads }) p.world = record {
-          world = is.world;
-          positions = is.positions ∙ sym events_all;
-          small = is.small;
-          loads = is.loads;
-          ints = is.ints;
-          enders = is.enders ∙ sym sleeps_all;
-          chosen = λ sleep by at. subst (λ cs. Contains cs (record { sleep = sleep; by = by })) (sym choices_all) (is.chosen sleep by at);
-        } in
-        let m = means.back p.world world_for p.holds in
+        let same_events : y.order.events ≡ s.order.events = completed_events s.order in
+        let m = means.back p.world is p.holds in
         let x = world_of y m.0 in
         let x_is = values-say-worlds y m.0 ready.events in
         let threads_are : length (threads_of ps) ≡ y.order.events = levels_ready.every in
         let same = same_few (threads_of ps) (failing_of ps) most p.world x is.world x_is.world
-        (omega (arith, threads_are, same_events, events_all, is.positions)) (omega (arith, threads_are, x_is.positions))
+        (omega (arith, threads_are, same_events, is.positions)) (omega (arith, threads_are, x_is.positions))
         (λ last some. let less = failing_within last some in omega (arith, less, threads_are)) is.small
         (λ e g one other. m.2.before e g (omega (arith, one, threads_are, same_events)) (omega (arith, other, threads_are, same_events))) few in
         let u = level_means.extends m.0 (stands.over y s.nodes s.formula ready) (stands.model y s.nodes s.formula ready m.0 m.1) same in

@@ -35,8 +35,6 @@ use Rattle.clap_solve.proofs.clap_system.Needs.{parts_exact}
 use Rattle.clap_solve.proofs.orders_are_runs.Terms.{system_terms}
 use Rattle.dead_paths.specs.Causes.{cause_of}
 use Rattle.reached_groups.specs.bit_blast.Blasted.{Blasted, impossible, layout_of}
-use Rattle.reached_groups.specs.bit_blast.Contended.{contended}
-use Rattle.reached_groups.proofs.bit_blast.Completed.{contended_within}
 use Rattle.refute_check.specs.Refutations.{IsClosed}
 use Rattle.refute_check.specs.declared.line.Line.{Line}
 use Rattle.clap_solve.specs.Clauses.{blasted_by, blasted_of}
@@ -103,9 +101,8 @@ module _ {B : Type 0} (ops : BufferOps B) (model : Model) (bound : Binding) (cod
       (All-contains (MeetsRule ops.buffered bound code paths s.symbolic s.nodes w) groups g m.rules i)
       (λ c is. m.enders c (subst (Contains groups) (sym is) i))))
 
-  ordered : IsOrder (layout_of s.order s.symbolic.loads s.formula).order
-  ordered = completed_lawful s.order (contended s.formula) (meaning.ordered ops.buffered bound code log given.lawful given.within)
-      (contended_within s.order s.formula ready.within)
+  ordered : IsOrder (layout_of s.order s.symbolic.loads).order
+  ordered = completed_lawful s.order (meaning.ordered ops.buffered bound code log given.lawful given.within)
 
   -- paths that aren't dead have the clauses of their system
   own_clauses : paths.dead ≡ false → blasted_of ops.buffered bound code log ≡ blasted_by s

@@ -6,7 +6,8 @@ use Rattle.store_buffers.specs.Pending.{Binding}
 use Rattle.bit_order.specs.Layouts.{base}
 use Rattle.clap_system.specs.Systems.{execution_of, system_of}
 use Rattle.clap_solve.specs.Solved.{IsWithin}
-use Rattle.switch_clauses.specs.Clauses.{clauses_over_all_pairs, switch_clauses}
+use Rattle.clap_solve.specs.Clauses.{blasted_by}
+use Rattle.switch_clauses.specs.Clauses.{switch_clauses}
 use Rattle.least_switch.specs.declared.bounded.Bounded.{Bounded}
 
 pub record IsBounded (buffered : Bool) (bound : Binding) (code : Code) (log : Log) (most : ℕ)
@@ -14,6 +15,6 @@ pub record IsBounded (buffered : Bool) (bound : Binding) (code : Code) (log : Lo
   pub within : IsWithin code log
   pub execution : b.execution ≡ execution_of (system_of buffered bound code log)
   pub layout : b.execution.paths.dead ≡ false
-      → b.layout ≡ (clauses_over_all_pairs (system_of buffered bound code log)).layout
+      → b.layout ≡ (blasted_by (system_of buffered bound code log)).layout
   pub variables : b.execution.paths.dead ≡ false → (base b.layout).vars ≤ b.clauses.vars
   pub clauses : b.clauses ≡ switch_clauses buffered bound code log most

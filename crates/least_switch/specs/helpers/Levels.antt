@@ -16,7 +16,7 @@ use Rattle.switch_order.specs.Levels.{with_levels}
 use Rattle.switch_order.specs.Sizes.{size_of}
 use Rattle.switch_clauses.specs.switch_runs.Worlds.{failing_of, threads_of}
 use Rattle.clap_system.specs.Systems.{System}
-use Rattle.switch_clauses.specs.Clauses.{clauses_over_all_pairs}
+use Rattle.clap_solve.specs.Clauses.{blasted_by}
 
 -- the clauses have at least the variables of their order
 pub record StandsOnOrder (b : Blasted) : Type 0 where
@@ -29,17 +29,17 @@ pub record AreLevelled (paths : Paths) (b : Blasted) (most : ℕ)
   pub clauses : made.1 ≡ with_levels b.layout (threads_of paths) (failing_of paths) most b.clauses
   pub variables : (base made.0).vars ≤ made.1.vars
 
--- a system whose order can ask about every two events of the paths
+-- a system whose clauses leave room for levels
 pub record IsAskable (s : System) : Type 0 where
   pub terms : IsOf (length s.nodes) s.formula
   pub within : All (ConjunctIsIn s.order) s.formula
   pub events : length (all_events s.paths) ≡ s.order.events
   pub few : s.order.events ≤ EVENTS
-  pub stands : StandsOnOrder (clauses_over_all_pairs s)
+  pub stands : StandsOnOrder (blasted_by s)
   pub room : whole_size
       (record { order = s.order; loads = s.symbolic.loads }) s.nodes s.formula + size_of EVENTS 255 < LIMIT
 
 -- the clauses with levels up to `most`, unless the paths are dead
 pub record AreBounded (s : System) (most : ℕ) (made : Layout × Formula) : Type 0 where
-  pub lives : s.paths.dead ≡ false → AreLevelled s.paths (clauses_over_all_pairs s) most made
+  pub lives : s.paths.dead ≡ false → AreLevelled s.paths (blasted_by s) most made
   pub dead : s.paths.dead ≡ true → made.1 ≡ impossible.clauses
