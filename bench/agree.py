@@ -51,7 +51,9 @@ def program(chance):
             elif kind < 0.76:
                 found.append(pick(["fence();", "stbar();"]))
             elif kind < 0.82:
-                found.append(f"q = {pick(['swap({}, {})', 'cas({}, {}, ' + number() + ')']).format(cell(), number())};")
+                exchange = pick(["swap({}, {})", "cas({}, {}, " + number() + ")", "add({}, {})"])
+                target = cell() if chance.random() < 0.7 else f"a[{pick([number(), cell()])} & 1]"
+                found.append(f"q = {exchange.format(target, number())};")
             elif depth < 2:
                 found += [f"if ({expression(names)}) {{", *statements(names, chance.randrange(1, 3), depth + 1), "}"]
         return found

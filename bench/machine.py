@@ -28,8 +28,10 @@ WORD = 1 << 32
 TOKEN = re.compile(r"(?:\s|//[^\n]*|/\*.*?\*/)*([A-Za-z_]\w*|\d+|<<|>>|[<>=!]=|&&|\|\||[][(){},;=+\-*/%!~<>&^|]|$)", re.S)
 MODELS = ["sc", "tso", "pso"]
 LEVELS = [["||"], ["&&"], ["|"], ["^"], ["&"], ["==", "!="], ["<", "<=", ">", ">="], ["<<", ">>"], ["+", "-"], ["*", "/", "%"]]
+# Instructions that read and write a cell in one step, and those among them that name an element of an array.
+EXCHANGES = {"swap", "cas", "add", "swapat", "casat", "addat"}
 # Instructions that need an empty buffer.
-DRAINED = {"swap", "cas", "lock", "unlock", "sleep", "wake", "signal", "broadcast", "create", "join", "fence", "exit"}
+DRAINED = EXCHANGES | {"lock", "unlock", "sleep", "wake", "signal", "broadcast", "create", "join", "fence", "exit"}
 SITES = {"inside", "nonzero", "inrange", "holds", "ready", "assert"}
 EVENTS = DRAINED | {"load", "loadat", "store", "storeat"}
 # Instructions that read and write nothing that another thread can change.
@@ -42,6 +44,20 @@ def int32(n):
 
 def divided(a, b):
     return 0 if b == 0 else int32(abs(a) // abs(b) * (1 if (a < 0) == (b < 0) else -1))
+
+
+def operands(word, args):
+    """The cell of an exchange as a function of its expressions' values, and its operands."""
+    return ((lambda of: args[1] + of(args[3])), args[4:]) if word.endswith("at") else ((lambda of: args[1]), args[2:])
+
+
+def exchanged(word, old, given):
+    """What an exchange leaves in a cell that had this value, given the values of its operands."""
+    if word.startswith("swap"):
+        return given[0]
+    if word.startswith("cas"):
+        return given[1] if old == given[0] else old
+    return int32(old + given[0])
 
 
 BINARY = {
@@ -288,18 +304,30 @@ class Code:
                 thread = self.named("thread")
                 self.take("(")
                 self.emit(line, "create", number, thread, *self.arguments(line))
-            elif self.peek() in ("swap", "cas") and self.peek(1) == "(":
-                word = self.next()
-                self.take("(")
-                cell = self.named("cell")
-                given = self.arguments(line)
-                taken = self.slot()
-                self.emit(line, word, taken, cell, *given)
-                self.emit(line, "set", number, ("slot", taken))
+            elif self.peek() in ("swap", "cas", "add") and self.peek(1) == "(":
+                self.exchange(line, number)
             else:
                 e = self.expression(line)
                 self.emit(line, "set" if kind == "slot" else "store", number, e)
         self.take(";")
+
+    def exchange(self, line, number):
+        """What is taken from a cell or an element that is swapped, compared or added to, into the slot of that number."""
+        word = self.next()
+        self.take("(")
+        if self.peek(1) == "[":
+            kind, first, length = self.of(self.next())
+            self.take("[")
+            index = self.expression(line)
+            self.take("]")
+            self.emit(line, "inside", length, index)
+            word, place = word + "at", (first, length, index)
+        else:
+            place = (self.named("cell"),)
+        given = self.arguments(line)
+        taken = self.slot()
+        self.emit(line, word, taken, *place, *given)
+        self.emit(line, "set", number, ("slot", taken))
 
     def expression(self, line, level=0):
         if level == len(LEVELS):
@@ -501,10 +529,11 @@ class State:
         elif word == "stbar":
             if self.model == "pso" and thread.buffer:
                 thread.buffer += (None,)
-        elif word in ("swap", "cas"):
-            old = self.memory[args[1]]
-            if word == "swap" or old == of(args[2]):
-                self.memory[args[1]] = of(args[-1])
+        elif word in EXCHANGES:
+            cell_of, given = operands(word, args)
+            cell = cell_of(of)
+            old = self.memory[cell]
+            self.memory[cell] = exchanged(word, old, [of(e) for e in given])
             put(args[0], old)
         elif word in ("lock", "wake"):
             self.owners[args[-1]] = name
@@ -667,7 +696,7 @@ def search(code, log, model):
         word = state.instr(name)[0]
         if name == log.failing and state.threads[name].steps + 1 == log.threads[name][0]:
             return False
-        return word not in ("load", "loadat", "swap", "cas", "lock", "sleep", "wake", "signal", "broadcast") and (
+        return word not in EXCHANGES | {"load", "loadat", "lock", "sleep", "wake", "signal", "broadcast"} and (
             word not in ("store", "storeat") or model != "sc")
 
     def ways(state):

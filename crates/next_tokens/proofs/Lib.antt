@@ -1,3 +1,6 @@
+pub mod Lengths
 pub mod Stops
 pub mod Picks
 pub mod Syntax
+pub mod Shapes
+pub mod Missed

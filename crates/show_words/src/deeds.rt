@@ -4,6 +4,7 @@ use crate::program::Program;
 use crate::rows::Shared;
 use crate::sites::{failed_words, silent_words};
 use crate::terms::value_over;
+use int_ops::{Update, updated};
 use show_deeds::{Deed, Step, Stored};
 use show_rows::Row;
 use std::alloc::{AllocError, Global};
@@ -24,10 +25,7 @@ pub(crate) fn deed_words(
         Deed::Did(step) => match step.asks {
             Request::Silent => silent_words(alloc, program, row),
             Request::Fail => failed_words(alloc, program, row),
-            Request::Read(_)
-            | Request::Write(_, _)
-            | Request::Exchange(_, _)
-            | Request::CompareExchange(_, _, _) => {
+            Request::Read(_) | Request::Write(_, _) | Request::Exchange(_, _) => {
                 access_words(alloc, program, step, buffered, shared.own)
             }
             Request::BeginWait(_, _)
@@ -74,16 +72,21 @@ fn access_words(
                 format!(in alloc; "{name} = {value}")
             }
         }
-        Request::Exchange(cell, value) => {
+        Request::Exchange(cell, update) => {
             let name = program.names.cell(cell);
-            format!(in alloc; "swap {name}: took {took}, put {value}")
-        }
-        Request::CompareExchange(cell, expected, value) => {
-            let name = program.names.cell(cell);
-            if took == expected {
-                format!(in alloc; "cas {name}: took {took}, put {value}")
-            } else {
-                format!(in alloc; "cas {name}: took {took}, put nothing")
+            let word = match update {
+                Update::Swap(_) => "swap",
+                Update::Cas(_, _) => "cas",
+                Update::Add(_) => "add",
+            };
+            match update {
+                Update::Cas(expected, _) if took != expected => {
+                    format!(in alloc; "{word} {name}: took {took}, put nothing")
+                }
+                _ => {
+                    let put = updated(update, took);
+                    format!(in alloc; "{word} {name}: took {took}, put {put}")
+                }
             }
         }
         _ => String::from_str(alloc, ""),

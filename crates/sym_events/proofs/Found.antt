@@ -11,7 +11,7 @@ use Rattle.std.proofs.lemmas.List.Elements.{All-nil, All-cons, All-append, All-w
 use Rattle.std.proofs.lemmas.Option.{none-some, same_Some}
 use Rattle.order_cells.specs.tc_code.Code.{Code, instr_at, line_at}
 use Rattle.order_cells.specs.tc_code.declared.instr.Instr.{Instr}
-use Rattle.order_cells.specs.tc_code.declared.instr.Instr.TheVariants.{Load, LoadAt, Store, StoreAt, Inside, Holds, Ready, Assert, Nonzero, InRange, Swap, Cas, Exit}
+use Rattle.order_cells.specs.tc_code.declared.instr.Instr.TheVariants.{Load, Store, Inside, Holds, Ready, Assert, Nonzero, InRange, Exit, Modify}
 use Rattle.order_events.specs.path_walk.Steps.{is_site, step_at, steps_at}
 use Rattle.order_events.specs.path_walk.Marks.{Marks, marks_after_instr, marked_from}
 use Rattle.order_events.specs.path_walk.Events.{asks, kind_with, events_of}
@@ -107,12 +107,8 @@ does m step i = option_and_then (cell_event_at step) (asks m i)
 
 instr_finds : (line : ℕ) (wanted : Bool) (d : Doing) (m : Marks) (i : Instr) → Finds d (after_instr line wanted d i) (option_to_list (does m d.steps i))
 instr_finds line wanted d m (Load k c) = load_found d (after_instr line wanted d (Load k c)) _ _ refl refl
-instr_finds line wanted d m (LoadAt k first len i) = load_found d (after_instr line wanted d (LoadAt k first len i)) _ _ refl refl
 instr_finds line wanted d m (Store c e) = one_found d (after_instr line wanted d (Store c e)) _ _ _ refl (omega arith) (λ k is. absurd (none-some k is))
-instr_finds line wanted d m (StoreAt first len i e) =
-    one_found d (after_instr line wanted d (StoreAt first len i e)) _ _ _ refl (omega arith) (λ k is. absurd (none-some k is))
-instr_finds line wanted d m (Swap k c e) = load_found d (after_instr line wanted d (Swap k c e)) _ _ refl refl
-instr_finds line wanted d m (Cas k c e new) = load_found d (after_instr line wanted d (Cas k c e new)) _ _ refl refl
+instr_finds line wanted d m (Modify k c u) = load_found d (after_instr line wanted d (Modify k c u)) _ _ refl refl
 instr_finds line wanted d m i = nothing_found d (after_instr line wanted d i) refl refl
 
 -- the failing step is at a site, which accesses no cell

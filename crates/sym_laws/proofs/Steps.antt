@@ -7,7 +7,7 @@ use Rattle.std.specs.Option.{option_map_or}
 use Rattle.sym_exec.specs.tc_base.States.{Local}
 use Rattle.sym_exec.specs.tc_code.Code.{Code, instr_at, line_at}
 use Rattle.sym_exec.specs.tc_code.declared.instr.Instr.{Instr}
-use Rattle.sym_exec.specs.tc_code.declared.instr.Instr.TheVariants.{Load, LoadAt, Store, StoreAt, Inside, Branch, Create, Assert, Nonzero, InRange, Swap, Cas}
+use Rattle.sym_exec.specs.tc_code.declared.instr.Instr.TheVariants.{Load, Store, Inside, Branch, Create, Assert, Nonzero, InRange, Modify}
 use Rattle.sym_exec.specs.tc_code.Lawful.{IsLawful}
 use Rattle.sym_exec.specs.tc_code.Step.{ints_of}
 use Rattle.sym_exec.specs.sym_terms.Terms.{AreTerms}
@@ -81,13 +81,8 @@ access_added i wanted d e cell takes writes taken accesses tests creates = recor
 
 pub adds : (line : ℕ) (wanted : Bool) (d : Doing) (i : Instr) → Adds i wanted d (after_instr line wanted d i)
 adds line wanted d (Load k c) = access_added (Load k c) wanted d (after_instr line wanted d (Load k c)) _ _ _ refl refl refl refl
-adds line wanted d (LoadAt k first len i) =
-    access_added (LoadAt k first len i) wanted d (after_instr line wanted d (LoadAt k first len i)) _ _ _ refl refl refl refl
 adds line wanted d (Store c e) = access_added (Store c e) wanted d (after_instr line wanted d (Store c e)) _ _ _ refl refl refl refl
-adds line wanted d (StoreAt first len i e) =
-    access_added (StoreAt first len i e) wanted d (after_instr line wanted d (StoreAt first len i e)) _ _ _ refl refl refl refl
-adds line wanted d (Swap k c e) = access_added (Swap k c e) wanted d (after_instr line wanted d (Swap k c e)) _ _ _ refl refl refl refl
-adds line wanted d (Cas k c e new) = access_added (Cas k c e new) wanted d (after_instr line wanted d (Cas k c e new)) _ _ _ refl refl refl refl
+adds line wanted d (Modify k c u) = access_added (Modify k c u) wanted d (after_instr line wanted d (Modify k c u)) _ _ _ refl refl refl refl
 adds line wanted d (Inside len i) = test_added (Inside len i) wanted d (after_instr line wanted d (Inside len i)) _ _ refl refl refl refl
 adds line wanted d (Branch e to) = test_added (Branch e to) wanted d (after_instr line wanted d (Branch e to)) _ _ refl refl refl refl
 adds line wanted d (Assert e) = test_added (Assert e) wanted d (after_instr line wanted d (Assert e)) _ _ refl refl refl refl

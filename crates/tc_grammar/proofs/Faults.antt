@@ -103,5 +103,20 @@ module _ (language : ℕ) (least : 1 ≤ language) where
   pub program_or_fault : (ws : List Word) → AreOf language ws → ((p : Program) × IsSpelled language ws p) ⊎ ((k : ℕ) × IsSyntaxFault language ws k)
   program_or_fault ws all = program_or_place ws (fault (Some (Globals ∷ [])) ws) all refl
 
-pub program_or_fault_3 : (ws : List Word) → ((p : Program) × IsSpelled 3 ws p) ⊎ ((k : ℕ) × IsSyntaxFault 3 ws k)
-program_or_fault_3 ws = program_or_fault 3 (omega arith) ws (are_of ws)
+-- words over which the machine passes are a program
+pub where_passed : (ws : List Word) → fault (Some (Globals ∷ [])) ws ≡ None → (p : Program) × IsSpelled 4 ws p
+where_passed ws h = a_program 4 (omega arith) ws (are_of ws) (all_stand (Globals ∷ []) ws h)
+
+pub program_or_fault_last : (ws : List Word) → ((p : Program) × IsSpelled 4 ws p) ⊎ ((k : ℕ) × IsSyntaxFault 4 ws k)
+program_or_fault_last ws = program_or_fault 4 (omega arith) ws (are_of ws)
+
+-- words that two languages have have the same fault in both
+module _ (m n : ℕ) (old : 1 ≤ m) (new : 1 ≤ n) (ws : List Word) (of_m : AreOf m ws) (of_n : AreOf n ws) (k : ℕ) (x : IsSyntaxFault m ws k) where
+  fault_by : (o : Option ℕ) → fault (Some (Globals ∷ [])) ws ≡ o → IsSyntaxFault n ws k
+  fault_by None e = let p = a_program m old ws of_m (all_stand (Globals ∷ []) ws e) in absurd (x.none p.0 p.1)
+  fault_by (Some left) e =
+      let place = one_syntax_fault m ws _ k (is_syntax_fault m old ws left of_m e).1 x in
+      subst (IsSyntaxFault n ws) place (is_syntax_fault n new ws left of_n e).1
+
+  pub same_fault : IsSyntaxFault n ws k
+  same_fault = fault_by (fault (Some (Globals ∷ [])) ws) refl

@@ -4,3 +4,4 @@ pub mod Statements
 pub mod Programs
 pub mod Faults
 pub mod Apart
+pub mod Kept

@@ -50,3 +50,10 @@ pub fn language_3_has_the_tokens_of_2()
     ensures { (text : List ℕ) (tokens : List OneToken)
         → AreTokens 2 text tokens → HaveNoKeywordOf 3 (plain_tokens text tokens) → AreTokens 3 text tokens }
 {}
+
+/// Language 4 has the tokens of language 3, and the faults.
+pub fn language_4_has_the_tokens_of_3()
+    ensures tokens { (text : List ℕ) (tokens : List OneToken) → AreTokens 3 text tokens → AreTokens 4 text tokens }
+    ensures back { (text : List ℕ) (tokens : List OneToken) → AreTokens 4 text tokens → AreTokens 3 text tokens }
+    ensures faults { (text : List ℕ) (fault : OneFault) → IsFault 3 text fault → IsFault 4 text fault }
+{}

@@ -4,9 +4,12 @@ ghost use Rattle.tc_lexer.specs.declared.token.Token.{Token as OneToken};
 ghost use Rattle.tc_lexer.specs.Tokens.{plain_tokens};
 ghost use Rattle.tc_lexer.specs.Text.{AreTokens};
 ghost use Rattle.tc_lexer.specs.Languages.{HaveNoKeywordOf};
-ghost use Rattle.tc_tree.specs.Grammar.{Program as OneProgram};
+ghost use Rattle.tc_tree.specs.Grammar.{Program as OneProgram, AreOf};
+ghost use Rattle.tc_tree.specs.Words.{words_of};
 ghost use Rattle.tc_tree.specs.Numbers.{HasInts};
+ghost use Rattle.tc_lexer.specs.declared.fault.LexFault.{LexFault as OneLexFault};
 ghost use Rattle.tc_parser.specs.declared.fault.TextFault.{TextFault as OneFault};
+ghost use Rattle.tc_parser.specs.declared.fault.TextFault.TheVariants.{Lex};
 ghost use Rattle.tc_parser.specs.Programs.{IsProgram, IsTextFault};
 
 /// A text is at most one program.
@@ -41,4 +44,13 @@ pub fn language_3_has_the_programs_of_2()
     ensures { (text : List ℕ) (tokens : List OneToken) (program : OneProgram)
         → AreTokens 2 text tokens → HaveNoKeywordOf 3 (plain_tokens text tokens)
         → IsProgram 2 text program → IsProgram 3 text program }
+{}
+
+/// A text that is a program in language 3 is the same program in language 4. A text without updates
+/// that language 4 adds has the same fault, if it has one.
+pub fn language_4_has_the_programs_of_3()
+    ensures programs { (text : List ℕ) (program : OneProgram) → IsProgram 3 text program → IsProgram 4 text program }
+    ensures faults { (text : List ℕ) (tokens : List OneToken) (fault : OneFault)
+        → AreTokens 4 text tokens → AreOf 3 (words_of 4 text tokens) → IsTextFault 3 text fault → IsTextFault 4 text fault }
+    ensures unread { (text : List ℕ) (fault : OneLexFault) → IsTextFault 3 text (Lex fault) → IsTextFault 4 text (Lex fault) }
 {}

@@ -7,7 +7,7 @@ use Rattle.tc_parser.proofs.parser.read_tree.Goals as goal
 
 pub returns-in-Ok : goal.returns-in-Ok
 returns-in-Ok c =
-    subst (λ (ws : List Word). IsSpelled 3 ws (program_of c.in-Ok.program)) (c.as_slice.ensures.value ∙ c.in_ok-words.ensures) c.in-Ok.ensures
+    subst (λ (ws : List Word). IsSpelled 4 ws (program_of c.in-Ok.program)) (c.as_slice.ensures.value ∙ c.in_ok-words.ensures) c.in-Ok.ensures
 
 pub returns : goal.returns
 returns c =
