@@ -9,6 +9,7 @@ use memory_models::Model;
 use show_rows::Row;
 use show_words::{Program, Words, is_event};
 use std::alloc::{AllocError, Global};
+use std::fmt::Write;
 
 /// The rows so far.
 #[derive(Drop)]
@@ -56,9 +57,7 @@ impl<'a> Moves<'a> {
         let lane = lanes.lane(row.deed.thread());
         let source = self.sources.source(before, row, words.own);
         let fails = if is_failure(row) { " fail" } else { "" };
-        let alloc = *self.out.allocator();
-        let head = format!(in alloc; "<li class=\"row{fails}\" id=\"m{number}\"")?;
-        self.out.push_str(head.as_str())?;
+        write!(self.out, "<li class=\"row{fails}\" id=\"m{number}\"")?;
         push_number(&mut self.out, "lane", lane)?;
         self.push_marks(lanes, row)?;
         if let Some(source) = source {
@@ -106,22 +105,20 @@ impl<'a> Moves<'a> {
 
     /// Adds the number of a row, and the beginning of its entry in its lane.
     fn push_place(&mut self, number: usize, lane: usize) -> Result<(), AllocError> {
-        let alloc = *self.out.allocator();
         let column = lane.saturating_add(2);
-        let place = format!(in alloc;
+        write!(
+            self.out,
             "><div class=\"n\">{number}</div><div class=\"deed\" style=\"grid-column:{column}\">"
-        )?;
-        self.out.push_str(place.as_str())
+        )
     }
 }
 
 /// Adds the words of a row, to its end.
 fn push_words(out: &mut String, words: &Words<'_>, brief: Option<&str>) -> Result<(), AllocError> {
-    let alloc = *out.allocator();
     let line = words.line;
     out.push_str("<span class=\"who\">")?;
     push_text(out, words.thread.as_str())?;
-    out.push_str(format!(in alloc; ", </span><span class=\"line\">{line}</span><code>")?.as_str())?;
+    write!(out, ", </span><span class=\"line\">{line}</span><code>")?;
     push_text(out, words.source)?;
     out.push_str("</code><span class=\"each\">")?;
     push_text(out, words.deed.as_str())?;

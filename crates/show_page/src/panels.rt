@@ -1,12 +1,13 @@
 //! The parts of a page that lie side by side: the program, the lanes with their moves, and the state.
 
 use crate::escape::push_text;
-use crate::fixed::ARROWS;
+use crate::fixed::{ARROWS, STATE};
 use crate::lanes::{End, Lanes};
 use crate::marks::{Synchronization, awaited_by};
 use crate::tags::{push_number, push_synchronization};
 use show_words::Program;
 use std::alloc::AllocError;
+use std::fmt::Write;
 use tc_base::ThreadName;
 
 /// Adds the program's text, line by line.
@@ -22,10 +23,9 @@ pub(crate) fn push_program(out: &mut String, program: Program<'_>) -> Result<(),
 
 /// Adds the lanes with their rows.
 pub(crate) fn push_run(out: &mut String, lanes: &Lanes, moves: &str) -> Result<(), AllocError> {
-    let alloc = *out.allocator();
     let count = lanes.lanes().len();
     out.push_str("<div id=\"run\" role=\"region\" aria-label=\"moves\" tabindex=\"0\">\n")?;
-    out.push_str(format!(in alloc; "<div id=\"sheet\" style=\"--lanes:{count}\">\n")?.as_str())?;
+    write!(out, "<div id=\"sheet\" style=\"--lanes:{count}\">\n")?;
     out.push_str("<div class=\"row head\"><div class=\"n\"></div>")?;
     for (i, (thread, lane)) in lanes.lanes().iter().enumerate() {
         out.push_str("<div")?;
@@ -65,10 +65,7 @@ pub(crate) fn push_state(
     program: Program<'_>,
     lanes: &Lanes,
 ) -> Result<(), AllocError> {
-    out.push_str("<aside aria-label=\"state\">\n<div>\n<p id=\"at\"></p>\n")?;
-    out.push_str("<p id=\"said\" role=\"status\" aria-live=\"polite\"></p>\n")?;
-    out.push_str("<div id=\"why\"></div>\n</div>\n<div class=\"held\">\n")?;
-    out.push_str("<h2>memory</h2>\n<table id=\"memory\">\n")?;
+    out.push_str(STATE)?;
     for (cell, value) in program.names.cells().iter().zip(program.code.memory()) {
         out.push_str("<tr")?;
         push_number(out, "start", *value)?;
@@ -82,18 +79,15 @@ pub(crate) fn push_state(
         out.push_str("<tr")?;
         push_entry(out, lane.title.as_str())?;
     }
-    out.push_str("</table>\n")?;
-    out.push_str(ARROWS)?;
-    out.push_str("</div>\n</aside>\n")
+    out.push_str(ARROWS)
 }
 
 /// Adds a table with an entry for each name, if there is one.
 fn push_table(out: &mut String, title: &str, names: &[String]) -> Result<(), AllocError> {
-    let alloc = *out.allocator();
     if names.is_empty() {
         return Ok(());
     }
-    out.push_str(format!(in alloc; "<h2>{title}</h2>\n<table id=\"{title}\">\n")?.as_str())?;
+    write!(out, "<h2>{title}</h2>\n<table id=\"{title}\">\n")?;
     for name in names {
         out.push_str("<tr")?;
         push_entry(out, name.as_str())?;

@@ -10,6 +10,7 @@ use schedule_file::Schedule;
 use show_rows::{End, Told};
 use show_words::{Counts, Program, counts_of, end_words, folded_words, row_words};
 use std::alloc::{AllocError, Global};
+use std::mem::drop;
 
 /// The page of a schedule's moves. It has a lane for each thread, with time downwards, and an arrow
 /// from the store to each load that took its value and from each store's issue to its drain. It
@@ -22,29 +23,73 @@ pub fn schedule_page(
     schedule: &Schedule,
     told: &Told,
 ) -> Result<String, AllocError> {
-    let lanes = Lanes::of(alloc, program, told)?;
-    let moves = moves_of(alloc, program, schedule, told, &lanes)?;
     let mut out = String::new(alloc);
+    push_page(alloc, &mut out, name, program, schedule, told)?;
+    Ok(out)
+}
+
+/// Adds the page.
+fn push_page(
+    alloc: Global,
+    out: &mut String,
+    name: &str,
+    program: Program<'_>,
+    schedule: &Schedule,
+    told: &Told,
+) -> Result<(), AllocError> {
+    push_title(alloc, out, name, schedule, told)?;
+    push_outcome(alloc, out, program, told)?;
+    out.push_str(TOOLS)?;
+    let lanes = Lanes::of(alloc, program, told)?;
+    let pushed = push_parts(alloc, out, program, schedule, told, &lanes);
+    drop(lanes);
+    pushed?;
+    out.push_str(KEYS)?;
+    push_script(out)?;
+    push_bottom(out)
+}
+
+/// Adds the beginning, with the title.
+fn push_title(
+    alloc: Global,
+    out: &mut String,
+    name: &str,
+    schedule: &Schedule,
+    told: &Told,
+) -> Result<(), AllocError> {
     let numbers = numbers(alloc, counts_of(schedule.model, told.rows.as_slice()))?;
     let model = schedule.model.name();
     let title = format!(in alloc; "{name} under {model}: {numbers}")?;
-    push_top(&mut out, "moves", title.as_str())?;
+    push_top(out, "moves", title.as_str())
+}
+
+/// Adds how the moves end.
+fn push_outcome(
+    alloc: Global,
+    out: &mut String,
+    program: Program<'_>,
+    told: &Told,
+) -> Result<(), AllocError> {
+    let words = end_words(alloc, program, told)?;
     let is_failure = matches!(told.end, End::Failed | End::Deadlock);
-    push_end(
-        &mut out,
-        is_failure,
-        end_words(alloc, program, told)?.as_str(),
-    )?;
-    out.push_str(TOOLS)?;
-    out.push_str("<main>\n")?;
-    push_program(&mut out, program)?;
-    push_run(&mut out, &lanes, moves.html())?;
-    push_state(&mut out, program, &lanes)?;
-    out.push_str("</main>\n")?;
-    out.push_str(KEYS)?;
-    push_script(&mut out)?;
-    push_bottom(&mut out)?;
-    Ok(out)
+    push_end(out, is_failure, words.as_str())
+}
+
+/// Adds the parts that lie side by side.
+fn push_parts(
+    alloc: Global,
+    out: &mut String,
+    program: Program<'_>,
+    schedule: &Schedule,
+    told: &Told,
+    lanes: &Lanes,
+) -> Result<(), AllocError> {
+    push_program(out, program)?;
+    let moves = moves_of(alloc, program, schedule, told, lanes)?;
+    let pushed = push_run(out, lanes, moves.html());
+    drop(moves);
+    pushed?;
+    push_state(out, program, lanes)
 }
 
 /// The rows of a schedule's moves.

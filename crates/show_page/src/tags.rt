@@ -2,15 +2,11 @@
 
 use crate::marks::{Access, Synchronization};
 use std::alloc::AllocError;
-use std::fmt::Display;
+use std::fmt::{Display, Write};
 
 /// Adds an attribute with a word that HTML takes as it is.
 pub(crate) fn push_mark(out: &mut String, name: &str, word: &str) -> Result<(), AllocError> {
-    out.push_str(" data-")?;
-    out.push_str(name)?;
-    out.push_str("=\"")?;
-    out.push_str(word)?;
-    out.push('"')
+    write!(out, " data-{name}=\"{word}\"")
 }
 
 /// Adds an attribute with a number.
@@ -19,8 +15,7 @@ pub(crate) fn push_number<N: Display + Copy>(
     name: &str,
     number: N,
 ) -> Result<(), AllocError> {
-    let alloc = *out.allocator();
-    push_mark(out, name, format!(in alloc; "{number}")?.as_str())
+    write!(out, " data-{name}=\"{number}\"")
 }
 
 /// Adds the values that a move takes and puts.
