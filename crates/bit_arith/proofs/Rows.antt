@@ -1,12 +1,11 @@
 -- The rows of a product.
-use Rattle.std.proofs.Common.{◌≡◌, ℕ, suc, ◌+◌, ◌*◌, ◌-◌, ◌<◌, ◌≤◌, List, [], ◌∷◌, ◌++◌, ℤ, neg_ℤ, refl, ap, sym, ◌∙◌, arith, length, take, drop, get_or, append_assoc}
+use Rattle.std.proofs.Common.{◌≡◌, ℕ, suc, ◌+◌, ◌*◌, ◌-◌, ◌<◌, ◌≤◌, List, ◌∷◌, ◌++◌, ℤ, neg_ℤ, ap, sym, ◌∙◌, arith, length, take, drop, get_or, append_assoc}
 use borrow.Rule.Slice.PartMut.{put_mid, mid_of}
 use Rattle.std.proofs.Common.{rules}
 use Rattle.std.proofs.lemmas.Slice.{overwrites}
 use Rattle.std.proofs.Math.Seq.{drop-cons, take-append-add, drop-append-add}
 use Rattle.std.proofs.Math.Nat.{mul-add, mul-one}
-use Rattle.std.proofs.lemmas.Grind.{common_steps}
-use Rattle.std.proofs.lemmas.List.{drop_all, length-take}
+use Rattle.std.proofs.lemmas.List.{length-take}
 use Rattle.std.proofs.lemmas.List.Elements.{All-map, All-weaker}
 use Rattle.cnf_core.specs.Clauses.{var_of, Formula}
 use Rattle.bit_gates.specs.Folded.{IsLarger}
@@ -22,18 +21,6 @@ within_inverted n xs h = All-map (λ l. var_of l ≤ n) neg_ℤ xs
 pub record IsMultiplied (all : Walked Formula) (i : ℕ) (f : Formula) (ws xs bs : List ℤ) : Type 0 where
   pub state : all.state ≡ (with_product f (drop i ws) xs (drop i bs)).state
   pub word : all.word ≡ take i ws ++ (with_product f (drop i ws) xs (drop i bs)).word
-
-pub multiplied_none : (f : Formula) (word xs bs : List ℤ) → IsMultiplied (with_product f word xs bs) 0 f word xs bs
-multiplied_none f word xs bs = record { state = refl; word = refl }
-
-pub multiplied_all : (all : Walked Formula) (i : ℕ) (f : Formula) (word xs bs : List ℤ) → IsMultiplied all i f word xs bs → length bs ≤ i
-    → (all.state ≡ f) × (all.word ≡ word)
-multiplied_all all i f word xs bs h p =
-    let none : drop i bs ≡ [] = drop_all i bs p in
-    let end : with_product f (drop i word) xs (drop i bs) ≡ record { state = f; word = drop i word } = ap (with_product f (drop i word) xs) none in (
-      h.state ∙ ap (λ (k : Walked _). k.state) end,
-      h.word ∙ ap (λ (k : Walked _). take i word ++ k.word) end ∙ grind (arith, common_steps),
-    )
 
 pub multiplied_more : (all : Walked Formula) (i : ℕ) (f g : Formula) (word next xs bs : List ℤ) (b : ℤ)
     → IsMultiplied all i f word xs bs → i < length word → i < length bs → b ≡ get_or bs i b → g ≡ (with_row f (drop i word) xs b).state

@@ -1,5 +1,5 @@
 -- Formulas to which definitions are added, one after another.
-use Rattle.std.proofs.Common.{◌≡◌, List, [], ◌∷◌, refl, sym, subst, ◌∙◌, arith, true}
+use Rattle.std.proofs.Common.{◌≡◌, List, [], ◌∷◌, sym, subst, ◌∙◌, arith, true}
 use Rattle.std.proofs.lemmas.Bool.{and_parts}
 use Rattle.cnf_core.specs.Clauses.{Formula, Valuation, satisfies}
 use Rattle.cnf_core.specs.Gates.{IsOver, Wired, is_block, after_gate, after_gates, extended}
@@ -21,9 +21,6 @@ gates-extend f g one h = record {
       let b = block-keeps f h.gates v o h.block m.all in
       (w, record { one = sym (b.1 1 (omega (arith, one))) ∙ m.one; all = subst (λ (k : Formula). satisfies w k.clauses ≡ true) (sym h.formula) b.0 }, b.1);
 }
-
-pub extended_none : (f : Formula) → IsExtended f f
-extended_none f = record { more = omega arith; over = λ o. o; before = λ w m. m; extends = λ v o m. (v, m, λ k h. refl) }
 
 pub extended_twice : (f g k : Formula) → IsExtended f g → IsExtended g k → IsExtended f k
 extended_twice f g k p q = record {

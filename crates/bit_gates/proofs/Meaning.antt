@@ -173,10 +173,6 @@ differing_bit f a b p q =
     (λ w m. literal_true-neg w a p.0 ∙ second_true _ _ (is_constant w b true e m.one)))
     (λ _. gated_bit f Xor a b p q))))))
 
-either_side : (c a : Bool) → a ≡ (if c then a else a)
-either_side true a = refl
-either_side false a = refl
-
 choice : (c a b : Bool) → ((c && a) || (not c && b)) ≡ (if c then a else b)
 choice true true b = refl
 choice true false b = refl

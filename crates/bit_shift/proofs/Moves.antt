@@ -1,16 +1,14 @@
 -- Words with their places moved.
-use Rattle.std.proofs.Common.{◌≡◌, ℕ, suc, zero, ◌+◌, ◌-◌, ◌*◌, ◌<◌, ◌≤◌, List, [], ◌∷◌, ◌++◌, ℤ, refl, ap, sym, ◌∙◌, arith, length, take, drop, set, get_or}
+use Rattle.std.proofs.Common.{◌≡◌, ℕ, suc, zero, ◌+◌, ◌-◌, ◌<◌, ◌≤◌, List, [], ◌∷◌, ◌++◌, ℤ, refl, ap, sym, ◌∙◌, arith, length, take, drop, set, get_or}
 use Rattle.std.specs.Fn.{iterate}
 use Rattle.std.specs.List.{All}
 use Rattle.std.proofs.lemmas.List.{drop_all, take_all, length-take, length-drop, length-append}
 use Rattle.std.proofs.lemmas.List.Elements.{All-nil, All-cons, All-take, All-drop, All-append}
 use Rattle.std.proofs.Math.Seq.{take-append_seam, set-append_seam}
-use Rattle.cnf_core.specs.Clauses.{Formula}
-use Rattle.bit_words.specs.Words.{Walked}
 use Rattle.bit_words.proofs.Loops.{split_here, join_here, drop_here}
 use Rattle.bit_shift.specs.declared.Direction.{Direction}
 use Rattle.bit_shift.specs.declared.Direction.TheVariants.{Up, Down}
-use Rattle.bit_shift.specs.Shifts.{shifted_in, shifted_out, moved, stage, shifted}
+use Rattle.bit_shift.specs.Shifts.{shifted_in, shifted_out, moved}
 
 pub shifted_more : (all xs : List ℤ) (i : ℕ) (next here : ℤ) → all ≡ take i xs ++ (next ∷ drop i xs) → i < length xs → here ≡ get_or xs i here
     → all ≡ take (i + 1) (set xs i next) ++ (here ∷ drop (i + 1) (set xs i next))
@@ -31,10 +29,6 @@ rotated [] bit h = absurd (omega (arith, h))
 rotated (x ∷ xs) bit h =
     let long : length (xs ++ x ∷ []) - 1 ≡ length xs = omega (arith, length-append xs (x ∷ [])) in
     ap (λ k. set (xs ++ x ∷ []) k bit) long ∙ set-append_seam xs x [] bit
-
-pub none_out : (xs : List ℤ) (bit : ℤ) → length xs ≡ 0 → xs ≡ shifted_out bit xs
-none_out [] bit e = refl
-none_out (x ∷ xs) bit e = absurd (omega (arith, e))
 
 pub iterate_more : {A : Type 0} (h : A → A) (all x : A) (n i : ℕ) → all ≡ iterate h (n - i) x → i < n → all ≡ iterate h (n - (i + 1)) (h x)
 iterate_more h all x n i e p = let s : n - i ≡ suc (n - (i + 1)) = omega (arith, p) in e ∙ ap (λ k. iterate h k x) s
@@ -57,18 +51,3 @@ moved_are P Down bit xs b h = All-drop P 1 (xs ++ bit ∷ []) (All-append P xs (
 pub far_are : (P : ℤ → Type 0) (to : Direction) (bit : ℤ) (by : ℕ) (xs : List ℤ) → P bit → All P xs → All P (iterate (moved to bit) by xs)
 far_are P to bit zero xs b h = h
 far_are P to bit (suc by) xs b h = far_are P to bit by (moved to bit xs) b (moved_are P to bit xs b h)
-
-pub staged_more : (all : Walked Formula) (to : Direction) (bit : ℤ) (by : ℕ) (f g : Formula) (word next ds : List ℤ) (d : ℤ) (i : ℕ)
-    → all ≡ shifted to bit by f word (drop i ds) → i < length ds → d ≡ get_or ds i d → g ≡ (stage to bit by d f word).state
-    → next ≡ (stage to bit by d f word).word → all ≡ shifted to bit (by + by) g next (drop (i + 1) ds)
-staged_more all to bit by f g word next ds d i h p e eg en =
-    let here : Walked Formula = stage to bit by d f word in
-    let rest : List ℤ = drop (i + 1) ds in
-    h ∙ ap (shifted to bit by f word) (split_here ds i d p e) ∙ ap (λ k. shifted to bit (by + by) k here.word rest) (sym eg)
-    ∙ ap (λ k. shifted to bit (by + by) g k rest) (sym en)
-
-pub staged_all : (all : Walked Formula) (to : Direction) (bit : ℤ) (by : ℕ) (f : Formula) (word ds : List ℤ) (i : ℕ)
-    → all ≡ shifted to bit by f word (drop i ds) → length ds ≤ i → (word ≡ all.word) × (f ≡ all.state)
-staged_all all to bit by f word ds i h p =
-    let end : all ≡ record { state = f; word = word } = h ∙ ap (shifted to bit by f word) (drop_all i ds p) in
-    (sym (ap (λ (k : Walked Formula). k.word) end), sym (ap (λ (k : Walked Formula). k.state) end))

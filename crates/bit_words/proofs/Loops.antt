@@ -1,5 +1,5 @@
 -- Loops that go over two words from the lowest place on.
-use Rattle.std.proofs.Common.{◌≡◌, ℕ, suc, ◌+◌, ◌<◌, ◌≤◌, List, [], ◌∷◌, ◌++◌, ℤ, neg_ℤ, refl, ap, sym, ◌∙◌, arith, length, take, drop, set, get_or, replicate, append_assoc}
+use Rattle.std.proofs.Common.{◌≡◌, ℕ, suc, ◌+◌, ◌<◌, ◌≤◌, List, [], ◌∷◌, ◌++◌, ℤ, neg_ℤ, ap, sym, ◌∙◌, arith, length, take, drop, set, get_or, replicate, append_assoc}
 use Rattle.std.proofs.Math.Seq.{drop-cons}
 use Rattle.std.proofs.lemmas.Grind.{common_steps}
 use Rattle.std.proofs.lemmas.List.{take_more_set, drop-set-lt, drop_all}
@@ -12,9 +12,6 @@ use Rattle.bit_words.specs.Words.{AreWithin, Placed, Walked, along, compared_pla
 pub record IsReached {S : Type 0} (step : S → ℤ → ℤ → Placed S) (all : Walked S) (i : ℕ) (s : S) (xs ys : List ℤ) : Type 0 where
   pub state : all.state ≡ (along step s (drop i xs) (drop i ys)).state
   pub word : all.word ≡ take i xs ++ (along step s (drop i xs) (drop i ys)).word
-
-pub reached_none : {S : Type 0} (step : S → ℤ → ℤ → Placed S) (s : S) (xs ys : List ℤ) → IsReached step (along step s xs ys) 0 s xs ys
-reached_none step s xs ys = record { state = refl; word = refl }
 
 -- an element, and those before and after it
 pub split_here : (xs : List ℤ) (i : ℕ) (x : ℤ) → i < length xs → x ≡ get_or xs i x → drop i xs ≡ x ∷ drop (i + 1) xs
@@ -41,15 +38,6 @@ reached_more step all i s t xs ys x y l h p q ex ey e f =
       word = h.word ∙ ap (λ (k : Walked _). take i xs ++ k.word) whole ∙ ap (λ k. take i xs ++ (k ∷ rest.word)) (sym f) ∙ join_here xs rest.word i l p
           ∙ ap (λ (k : Walked _). take (i + 1) (set xs i l) ++ k.word) (sym next);
     }
-
-pub reached_all : {S : Type 0} (step : S → ℤ → ℤ → Placed S) (all : Walked S) (i : ℕ) (s : S) (xs ys : List ℤ) → IsReached step all i s xs ys
-    → length xs ≤ i → (all.state ≡ s) × (all.word ≡ xs)
-reached_all step all i s xs ys h p =
-    let none : drop i xs ≡ [] = drop_all i xs p in
-    let end : along step s (drop i xs) (drop i ys) ≡ record { state = s; word = [] } = ap (λ k. along step s k (drop i ys)) none in (
-      h.state ∙ ap (λ (k : Walked _). k.state) end,
-      h.word ∙ ap (λ (k : Walked _). take i xs ++ k.word) end ∙ grind (arith, common_steps),
-    )
 
 pub compared_more : (all : Made) (f g : Formula) (low next x y : ℤ) (xs ys : List ℤ) (i : ℕ) → all ≡ less_literal (kept f low) (drop i xs) (drop i ys)
     → i < length xs → i < length ys → x ≡ get_or xs i x → y ≡ get_or ys i y → g ≡ (compared_place (kept f low) x y).formula

@@ -1,9 +1,9 @@
 -- Learnt clauses are deleted.
 use Rattle.cdcl_core.proofs.Tallying.{kept-dropped, kept-le, marked-more, none-marked}
-use Rattle.std.proofs.Common.{◌≡◌, ℕ, suc, ◌+◌, ◌*◌, ◌<◌, ◌≤◌, Bool, true, false, Option, Some, None, List, [], ◌∷◌, ◌++◌, map, length, take, get_or}
+use Rattle.std.proofs.Common.{◌≡◌, ℕ, suc, ◌+◌, ◌*◌, ◌<◌, ◌≤◌, Bool, true, false, Some, None, List, [], ◌∷◌, ◌++◌, map, length, take, get_or}
 use Rattle.std.proofs.Common.{set, inl, inr, refl, sym, ◌∙◌, ap, subst, arith, length-set, replicate}
-use Rattle.std.specs.Prelude.{All, MatchOption, fold, not, count_by, ◌&&◌}
-use Rattle.std.proofs.lemmas.Bool.{cases_lt, cases_eq, both_ways, not-false}
+use Rattle.std.specs.Prelude.{All, fold, not, count_by, ◌&&◌}
+use Rattle.std.proofs.lemmas.Bool.{cases_lt, cases_eq, not-false}
 use Rattle.std.proofs.lemmas.Option.{none-some, same_Some}
 use Rattle.std.proofs.lemmas.List.{length_push, length-map, get_or-map, take_more, get_or-set_same, get_or-set_other, length-replicate}
 use Rattle.std.proofs.lemmas.List.Elements.{All-push}
@@ -14,7 +14,6 @@ use Rattle.refute_check.specs.Refutations.{Checking, state_after_pass}
 use Rattle.refute_check.specs.declared.line.Line.{Line}
 use Rattle.cdcl_trail.specs.Trail.{Trail}
 use Rattle.cdcl_clauses.specs.Clauses.{Clause, at}
-use Rattle.cdcl_clauses.specs.Invariants.{AreReasoned, BeginsAt, IsReason}
 use Rattle.cdcl_lines.specs.Literals.{numbers_of}
 use Rattle.cdcl_lines.specs.Lines.{deleted}
 use Rattle.cdcl_lines.specs.Keeping.{Represents, CanDrop}
@@ -74,19 +73,6 @@ agree-dropped f cs lines n d a ks c b some half =
 
 pub all-within : (s : State) (ks : List ℕ) → MayAllGo s ks → All (λ k. k < length s.clauses) ks
 all-within s ks m = λ k d h. kept-within s.clauses (get_or ks k d) (m.each k d h).kept
-
--- a reason is an existing clause
-reason-in : (cs : List Clause) (P : Type 0) (xs : List ℕ) (l : ℕ) (o : Option ℕ) (k : ℕ) → o ≡ Some k → MatchOption o P (IsReason cs xs l) → k < length cs
-reason-in cs P xs l o k e h = (subst (λ (q : Option ℕ). MatchOption q P (IsReason cs xs l)) e h).there
-
-pub reasons-there : (t : Trail) (cs : List Clause) → AreReasoned t cs → (p k : ℕ) → p < length t.literals → get_or t.reasons p None ≡ Some k
-    → k < length cs
-reasons-there t cs r p k h e = reason-in cs (BeginsAt t p) (take p t.literals) (get_or t.literals p 0) (get_or t.reasons p None) k e (r p h)
-
-pub may-go : (s : State) (marks : List Bool) (k : ℕ) → MarksReasons s.trail (length s.clauses) marks → length s.formula.clauses ≤ k
-    → (at s.clauses k).kept ≡ true
-    → not (get_or marks k false) ≡ true → MayGo s k
-may-go s marks k m h e f = record { learnt = h; kept = e; no_reason = λ p pl g. both_ways (not (get_or marks k false)) (ap not (m.marked p k pl g)) f }
 
 -- the marks of the reasons at the first places
 pub record MarksBelow (t : Trail) (n place : ℕ) (marks : List Bool) : Type 0 where

@@ -1,5 +1,5 @@
 -- From one state of a search to the next.
-use Rattle.std.proofs.Common.{◌≡◌, ℕ, ◌+◌, ◌*◌, ◌^◌, ◌<◌, ◌≤◌, List, [], ◌∷◌, ◌++◌, length, take, get_or, set, length-set, refl, sym, ◌∙◌, ap, subst}
+use Rattle.std.proofs.Common.{◌≡◌, ℕ, ◌+◌, ◌*◌, ◌^◌, ◌<◌, ◌≤◌, List, [], ◌∷◌, ◌++◌, length, take, get_or, set, length-set, sym, ◌∙◌, ap, subst}
 use Rattle.std.proofs.Common.{inl, inr, arith, get_or-take}
 use Rattle.std.specs.Prelude.{Contains, All}
 use Rattle.std.proofs.lemmas.Bool.Decides.{nat_tests}
@@ -17,7 +17,7 @@ use Rattle.cdcl_learn.specs.Lessons.{TurnsBack}
 use Rattle.cdcl_steps.specs.Attached.{CanAssert, both_listed}
 use Rattle.cdcl_lines.proofs.Members.{all-from_contains, contains-cases}
 use Rattle.cdcl_trail.proofs.Opposites.{not-both}
-use Rattle.cdcl_core.specs.helpers.States.{IsAsFar, IsFurther, IsShort, IsLive, HasBound, ComesTo}
+use Rattle.cdcl_core.specs.helpers.States.{IsAsFar, IsFurther, IsShort, IsLive, ComesTo}
 use Rattle.cdcl_core.specs.declared.state.State.{State}
 use Rattle.cdcl_core.specs.declared.turns.Step.{Step}
 use Rattle.cdcl_core.specs.declared.turns.Step.TheVariants as steps
@@ -78,17 +78,6 @@ can-assert t u ls s level a b g =
           g.high i il' ne (subst (λ (xs : List ℕ). Contains xs (opposite_of b)) e c);
     }
 
-pub as-far-refl : (s : State) → IsAsFar s s
-as-far-refl s = record { formula = refl; derivation = refl; added = refl; deleted = refl }
-
-pub as-far-trans : (s t u : State) → IsAsFar s t → IsAsFar t u → IsAsFar s u
-as-far-trans s t u a b = record {
-  formula = b.formula ∙ a.formula;
-  derivation = b.derivation ∙ a.derivation;
-  added = b.added ∙ a.added;
-  deleted = b.deleted ∙ a.deleted;
-}
-
 pub further-none : (s t : State) → IsAsFar s t → IsFurther s t 0
 further-none s t a = record {
   formula = a.formula;
@@ -108,27 +97,9 @@ further-trans s t u m n a b = record {
 pub short-after : (s t u : State) (m n k : ℕ) → IsFurther s t m → IsShort t u n → m + n ≤ k → IsShort s u k
 short-after s t u m n k a b h = record { count = m + b.count; few = omega (arith, b.few, h); further = further-trans s t u m b.count a b.further }
 
-pub short-none : (s t : State) (n : ℕ) → IsAsFar s t → 0 < n → IsShort s t n
-short-none s t n a h = record { count = 0; few = h; further = further-none s t a }
-
-pub short-far : (s t u : State) (n : ℕ) → IsAsFar s t → IsShort t u n → IsShort s u n
-short-far s t u n a b = short-after s t u 0 n n (further-none s t a) b (omega arith)
-
-pub further-far : (s t u : State) (n : ℕ) → IsAsFar s t → IsFurther t u n → IsFurther s u n
-further-far s t u n a b =
-    subst (λ (k : ℕ). IsFurther s u k) (let e : 0 + n ≡ n = omega arith in e) (further-trans s t u 0 n (further-none s t a) b)
-
 pub far-further : (s t u : State) (n : ℕ) → IsFurther s t n → IsAsFar t u → IsFurther s u n
 far-further s t u n a b =
     subst (λ (k : ℕ). IsFurther s u k) (let e : n + 0 ≡ n = omega arith in e) (further-trans s t u n 0 a (further-none t u b))
-
-pub as-far-equal : (s t : State) → t ≡ s → IsAsFar s t
-as-far-equal s t e = subst (λ (u : State). IsAsFar s u) (sym e) (as-far-refl s)
-
-pub comes-far : (s t u : State) (n : ℕ) (p : Step) → IsAsFar s t → ComesTo t u n p → ComesTo s u n p
-comes-far s t u n steps.Learnt a h = (h.0, further-far s t u n a h.1)
-comes-far s t u n steps.Closed a h = (h.0, short-far s t u n a h.1)
-comes-far s t u n (steps.Full values) a h = (h.0, short-far s t u n a h.1, h.2)
 
 -- the parts are the same, except the count until the next restart
 pub live-with : (s : State) → IsLive s → (t : State) → t.trail ≡ s.trail → t.clauses ≡ s.clauses → t.watches ≡ s.watches → t.activity ≡ s.activity
@@ -162,6 +133,3 @@ pub comes-further : (s t u : State) (n : ℕ) (p : Step) → IsFurther s t 0 →
 comes-further s t u n steps.Learnt a h = (h.0, subst (λ (k : ℕ). IsFurther s u k) (let e : 0 + n ≡ n = omega arith in e) (further-trans s t u 0 n a h.1))
 comes-further s t u n steps.Closed a h = (h.0, short-after s t u 0 n n a h.1 (omega arith))
 comes-further s t u n (steps.Full values) a h = (h.0, short-after s t u 0 n n a h.1 (omega arith), h.2)
-
-pub bound-far : (s t : State) → IsAsFar s t → HasBound s.formula.vars s.added s.deleted → HasBound t.formula.vars t.added t.deleted
-bound-far s t a h = rw (a.formula, a.added, a.deleted) h

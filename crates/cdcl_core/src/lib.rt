@@ -1,6 +1,7 @@
 //! A search for a satisfying assignment, which learns from conflicts and can be paused.
 #![tactic(auto)]
 
+mod answer;
 mod loading;
 mod progress;
 mod reducing;
@@ -11,6 +12,7 @@ mod stages;
 mod state;
 mod turns;
 
-pub use progress::{Progress, Solved};
+pub use answer::Answer;
+pub use progress::Progress;
 pub use search::Search;
 pub use solve::solve_cnf;

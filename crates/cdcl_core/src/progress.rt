@@ -1,7 +1,6 @@
-//! The results of a search.
+//! How far a search got.
 
 use cnf_core::Assignment;
-use refute_check::Derivation;
 
 /// The result of a run of a search.
 #[derive(Debug, Drop)]
@@ -12,15 +11,4 @@ pub enum Progress {
     Closed,
     /// The search learnt as many clauses as it was allowed, and found neither.
     Paused,
-}
-
-/// The final result of a search with a budget.
-#[derive(Debug, Drop)]
-pub enum Solved {
-    /// This assignment satisfies every clause.
-    Sat(Assignment),
-    /// This derivation is closed: no assignment satisfies the clauses.
-    Unsat(Derivation),
-    /// The search learnt as many clauses as its budget allows, and found neither.
-    Spent(Derivation),
 }

@@ -41,7 +41,7 @@ use Rattle.std.specs.Prelude.{Contains, count_by}
 use Rattle.std.proofs.lemmas.List.Elements.{Contains-push, Contains-append_left, Contains-push_cases}
 use Rattle.cdcl_literals.specs.Literals.{opposite_of}
 use Rattle.cdcl_trail.specs.Trail.{Trail}
-use Rattle.cdcl_learn.specs.helpers.Analyses.{IsMet, open_from, Marks, Tallies}
+use Rattle.cdcl_learn.specs.helpers.Analyses.{IsMet, open_from, Tallies}
 
 pub open_from-set : (met : List Bool) (base p : ℕ) (b : Bool) → p < length met → base ≤ p
     → open_from (set met p b) base + cond (get_or met p false) 1 0 ≡ open_from met base + cond b 1 0
@@ -64,16 +64,6 @@ met-set met p q b h =
       | inl e ↦ inl (e, ap (λ (n : ℕ). get_or (set met p b) n false) e ∙ get_or-set_same met p b false h)
       | inr e ↦ inr (e, get_or-set_other met p q b false e)
     ]
-
-pub marks-set : (met : List Bool) (p : ℕ) → p < length met → Marks met (set met p true) p
-marks-set met p h = record {
-  this = get_or-set_same met p true false h;
-  kept = λ q m. elim (met-set met p q true h) [ inl e ↦ e.1 | inr e ↦ e.1 ∙ m ];
-  only = λ q m. elim (met-set met p q true h) [ inl e ↦ inr e.0 | inr e ↦ inl (sym e.1 ∙ m) ];
-}
-
-pub marks-same : (met : List Bool) (p : ℕ) → IsMet met p → Marks met met p
-marks-same met p h = record { this = h; kept = λ q m. m; only = λ q m. inl m }
 
 pub tallies_last : (t : Trail) (met : List Bool) (n root base : ℕ) (ls : List ℕ) → Tallies t met n root base ls → (p : ℕ) → p < length met
     → get_or met p false ≡ false → base ≤ p → Tallies t (set met p true) (n + 1) root base ls

@@ -15,9 +15,6 @@ use Rattle.cdcl_learn.specs.Shown.{Forces, Leads}
 use Rattle.cdcl_learn.specs.helpers.Analyses.{IsMet, Marks, Meets, Suffices, Resolves, Tallies, open_from}
 use Rattle.cdcl_learn.proofs.Counting.{met-set, open_from-set, open_from-set_below}
 
-pub meets_none : (t : Trail) (met : List Bool) (ls : List ℕ) → Meets t met met (take 0 ls)
-meets_none t met ls = record { all = λ x p c h e. absurd (omega (arith, c.1)); kept = λ p m. m; only = λ p m. inl m }
-
 pub meets_more : (t : Trail) → IsTrail t → (a b c : List Bool) (ls : List ℕ) (i p : ℕ) → i < length ls → p < length t.literals
     → get_or t.literals p 0 / 2 ≡ get_or ls i 0 / 2 → Meets t a b (take i ls) → Marks b c p → Meets t a c (take (i + 1) ls)
 meets_more t u a b c ls i p il pl e s m =

@@ -60,9 +60,6 @@ value-false t v u h = record { yes = λ m. absurd (not-both t u (2 * v) m h); no
 pub value-open : (t : Trail) (v : ℕ) → Is t (2 * v) Open → IsValue t v false
 value-open t v h = record { yes = λ m. absurd (h.not_true m); no = λ m. refl }
 
-pub agrees-none : (t : Trail) → AgreesBelow t [] 0
-agrees-none t = record { count = refl; same = λ v h. absurd (omega arith) }
-
 pub agrees-more : (t : Trail) (values : List Bool) (n : ℕ) (b : Bool) → AgreesBelow t values n → IsValue t n b → AgreesBelow t (values ++ b ∷ []) (n + 1)
 agrees-more t values n b a i = record {
   count = omega (arith, length_push values b, a.count);

@@ -148,9 +148,6 @@ reasoned-pushed t cs u s l k r p h =
           (subst (λ (xs : List ℕ). IsReason cs xs (get_or (t.literals ++ l ∷ []) p 0) k) (sym e1) (subst (λ (x : ℕ). IsReason cs t.literals x k) (sym e2) r))
     ]
 
-pub same-refl : (cs : List Clause) → AreSame cs cs
-same-refl cs = record { count = refl; literals = λ k. refl; kept = λ k. refl }
-
 pub same-trans : (cs ds es : List Clause) → AreSame cs ds → AreSame ds es → AreSame cs es
 same-trans cs ds es a b = record { count = b.count ∙ a.count; literals = λ k. b.literals k ∙ a.literals k; kept = λ k. b.kept k ∙ a.kept k }
 
@@ -160,9 +157,6 @@ same-rewatched cs k first second h = record {
   literals = λ m. (at-rewatched cs k first second m h).0;
   kept = λ m. (at-rewatched cs k first second m h).1;
 }
-
-pub extends-refl : (t : Trail) → Extends t t
-extends-refl t = record { variables = refl; starts = refl; literals = take_all (length t.literals) t.literals (omega arith); longer = omega arith }
 
 pub extends-pushed : (t : Trail) (l : ℕ) (r : Option ℕ) → Extends t (pushed t l r)
 extends-pushed t l r = record {
@@ -178,15 +172,6 @@ extends-trans t u v a b = record {
   starts = b.starts ∙ a.starts;
   literals = sym (take-take (length t.literals) (length u.literals) v.literals a.longer) ∙ ap (take (length t.literals)) b.literals ∙ a.literals;
   longer = omega (arith, a.longer, b.longer);
-}
-
--- a true literal stays true
-pub has_true-extends : (t u : Trail) → Extends t u → (c : Clause) → HasTrue t.literals c → HasTrue u.literals c
-has_true-extends t u e c h = record {
-  literal = h.literal;
-  in_clause = h.in_clause;
-  is_true = contains-take u.literals (length t.literals) h.literal
-      (subst (λ (xs : List ℕ). Contains xs h.literal) (sym e.literals) h.is_true);
 }
 
 pub extends-advanced : (t u : Trail) → Extends t u → Extends t (record u { propagated = u.propagated + 1 })

@@ -1,10 +1,10 @@
 //! Unit propagation to the end.
-ghost use Rattle.std.specs.Prelude.{◌≡◌, ℕ, ◌<◌, IfOk, IfSome, IsNone, OnErr, OnOk, Contains, true, length, slice_index};
+ghost use Rattle.std.specs.Prelude.{◌≡◌, ℕ, ◌<◌, [], ◌∷◌, ◌++◌, IfOk, IfSome, IsNone, OnErr, OnOk, Contains, true, length, slice_index, slice_set};
 ghost use Rattle.cdcl_literals.specs.Literals.{opposite_of};
 ghost use Rattle.cdcl_trail.specs.Trail.{IsOpen};
 ghost use Rattle.cdcl_clauses.specs.Clauses.{at, watches, listed};
 ghost use Rattle.cdcl_clauses.specs.Invariants.{AreConsistent, IsConflict, AreLinked};
-ghost use Rattle.cdcl_propagate.specs.helpers.Looks.{IsVisited, Watching, AllFalseBut, IsFound, WasMoved};
+ghost use Rattle.cdcl_propagate.specs.helpers.Looks.{IsVisited, Watching, AllFalseBut, IsFound};
 ghost use Rattle.cdcl_propagate.specs.Propagation.{Propagates};
 
 use crate::inspect::{Look, look_at};
@@ -71,7 +71,7 @@ fn visit(
     Ok(None)
 }
 
-/// Makes a clause watch `other` and `next`.
+/// Makes a clause watch `other` and `next`, and adds it to the watch list of `next`.
 fn move_watch(
     clauses: &mut Clauses,
     watches: &mut Watches,
@@ -81,7 +81,8 @@ fn move_watch(
 ) -> Result<(), AllocError>
     requires clause { clause < length clauses.old }
     requires next { next < length watches.old }
-    ensures ok { OnOk result (WasMoved clauses.old watches.old clauses.new watches.new clause other next) }
+    ensures ok_clauses { OnOk result (clauses.new ≡ slice_set clauses.old clause (record (at clauses.old clause) { first = other; second = next })) }
+    ensures ok_watches { OnOk result (watches.new ≡ slice_set watches.old next (listed watches.old next ++ record { clause = clause; blocker = other } ∷ [])) }
     ensures err_clauses { OnErr result (clauses.new ≡ clauses.old) }
     ensures err_watches { OnErr result (watches.new ≡ watches.old) }
 {

@@ -98,17 +98,6 @@ sound-decided t cs ws s e l u = record {
   reasoned = reasoned-decided t cs s.lawful s.reasoned l;
 }
 
-pub descends-refl : (t : Trail) (cs : List Clause) (ws : List (List Watch)) → AreConsistent t cs ws → Descends t cs t cs ws
-descends-refl t cs ws s = record {
-  sound = s;
-  same = record { count = refl; literals = λ k. refl; kept = λ k. refl };
-  variables = refl;
-  literals =
-      take_all (length t.literals) t.literals (omega arith);
-  longer = omega arith;
-  rooted = λ r. r;
-}
-
 pub descends-propagates : (t : Trail) (cs : List Clause) (u : Trail) (ds : List Clause) (us : List (List Watch)) (v : Trail) (es : List Clause)
     (vs : List (List Watch)) → Descends t cs u ds us → Propagates u ds v es vs → Descends t cs v es vs
 descends-propagates t cs u ds us v es vs a b = record {

@@ -10,7 +10,7 @@ use Rattle.cdcl_clauses.specs.Clauses.{Clause, at, no_clause, kept_clause}
 use Rattle.cdcl_clauses.specs.Invariants.{IsClause, AreGuarded, IsReason, AreConsistent, AreRooted, root_of}
 use Rattle.cdcl_clauses.specs.declared.watches.Watch.{Watch}
 use Rattle.cdcl_propagate.proofs.Guarding.{reasoned-pushed}
-use Rattle.cdcl_steps.specs.Attached.{both_listed, WasAttached}
+use Rattle.cdcl_steps.specs.Attached.{both_listed}
 use Rattle.cdcl_steps.specs.Loads.{IsAtStart, MayBeLoaded}
 use Rattle.cdcl_steps.specs.helpers.Watched.{AreWatched}
 use Rattle.cdcl_steps.proofs.OneMore.{at-push, linked-attach, reasoned-push}
@@ -53,11 +53,6 @@ sound-loaded t cs ws s start ls a b i = record {
   guarded = guarded-start t (cs ++ kept_clause ls a b ∷ []) start;
   reasoned = reasoned-push t cs (kept_clause ls a b) s.reasoned;
 }
-
-pub sound-attached : (t : Trail) (cs : List Clause) (ws : List (List Watch)) → AreConsistent t cs ws → IsAtStart t → (ls : List ℕ) (a b : ℕ)
-    → MayBeLoaded t.variables ls → AreWatched ls a b → (ds : List Clause) (vs : List (List Watch)) → WasAttached cs ws ds vs ls a b → AreConsistent t ds vs
-sound-attached t cs ws s start ls a b m w ds vs h =
-    rw (h.clauses, h.lists) (sound-loaded t cs ws s start ls a b (loaded-clause t.variables ls a b m w))
 
 pub sound-loaded_unit : (t : Trail) (cs : List Clause) (ws : List (List Watch)) → AreConsistent t cs ws → IsAtStart t → (ls : List ℕ) (a b : ℕ)
     → IsClause t.variables (kept_clause ls a b) → ls ≡ a ∷ [] → IsTrail (pushed t a (Some (length cs)))

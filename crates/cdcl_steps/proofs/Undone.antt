@@ -1,9 +1,9 @@
 -- Undoing the last push.
-use Rattle.std.proofs.Common.{◌≡◌, ◌-◌, ◌<◌, ◌∙◌, ◌∷◌, [], ◌++◌, ℕ, List, length, take, set, ap, refl, true, arith, length-set, get_or-set_same}
+use Rattle.std.proofs.Common.{◌≡◌, ◌-◌, ◌<◌, ◌∙◌, ◌∷◌, [], ◌++◌, ℕ, List, length, take, set, ap, refl, arith, length-set, get_or-set_same}
 use Rattle.std.proofs.lemmas.List.{take_at, length_push, set-set, set-get_or}
-use Rattle.cdcl_clauses.specs.Clauses.{Clause, listed}
+use Rattle.cdcl_clauses.specs.Clauses.{Clause, kept_clause, listed}
 use Rattle.cdcl_clauses.specs.declared.watches.Watch.{Watch}
-use Rattle.cdcl_steps.specs.Attached.{WasAttached}
+use Rattle.cdcl_steps.specs.Attached.{both_listed}
 
 -- removing the watch that was pushed last restores the lists
 pub undone : (ws vs : List (List Watch)) (f : ℕ) (w : Watch) → f < length ws → vs ≡ set ws f (listed ws f ++ w ∷ [])
@@ -19,18 +19,19 @@ undone ws vs f w h e =
 abbrev pub popped : List (List Watch) → ℕ → List (List Watch)
 popped ws l = set ws l (take (length (listed ws l) - 1) (listed ws l))
 
-pub detached : (cs : List Clause) (ws : List (List Watch)) (ds : List Clause) (vs : List (List Watch)) (ls : List ℕ) (first second : ℕ)
-    → first < length vs → second < length vs → WasAttached cs ws ds vs ls first second
-    → (take (length ds - 1) ds ≡ cs) × (popped (popped vs second) first ≡ ws)
-detached cs ws ds vs ls first second fh sh w =
-    let k : ℕ = length cs in
+-- removing the clause that was pushed last restores the clauses
+pub detached : (cs ds : List Clause) (ls : List ℕ) (first second : ℕ) → ds ≡ cs ++ kept_clause ls first second ∷ [] → take (length ds - 1) ds ≡ cs
+detached cs ds ls first second e =
+    let c : Clause = kept_clause ls first second in
+    ap (λ (es : List Clause). take (length es - 1) es) e ∙ take_at cs (c ∷ []) (length (cs ++ c ∷ []) - 1) (omega (arith, length_push cs c))
+
+pub unlisted : (ws vs : List (List Watch)) (k first second : ℕ) → first < length vs → second < length vs → vs ≡ both_listed ws k first second
+    → popped (popped vs second) first ≡ ws
+unlisted ws vs k first second fh sh e =
     let wa : Watch = record { clause = k; blocker = second } in
     let wb : Watch = record { clause = k; blocker = first } in
     let us : List (List Watch) = set ws first (listed ws first ++ wa ∷ []) in
     let un : length us ≡ length ws = length-set ws first (listed ws first ++ wa ∷ []) in
-    let vn : length vs ≡ length us = ap length w.lists ∙ length-set us second (listed us second ++ wb ∷ []) in
-    let c : Clause = record { literals = ls; first = first; second = second; kept = true } in (
-      ap (λ (es : List Clause). take (length es - 1) es) w.clauses ∙ take_at cs (c ∷ []) (length (cs ++ c ∷ []) - 1) (omega (arith, length_push cs c)),
-      ap (λ (es : List (List Watch)). popped es first) (undone us vs second wb (omega (arith, sh, vn)) w.lists)
-          ∙ undone ws us first wa (omega (arith, fh, vn, un)) refl,
-    )
+    let vn : length vs ≡ length us = ap length e ∙ length-set us second (listed us second ++ wb ∷ []) in
+    ap (λ (es : List (List Watch)). popped es first) (undone us vs second wb (omega (arith, sh, vn)) e)
+    ∙ undone ws us first wa (omega (arith, fh, vn, un)) refl

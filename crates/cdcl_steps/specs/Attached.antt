@@ -2,7 +2,7 @@
 use Rattle.std.specs.Prelude.{◌≡◌, ◌≢◌, ℕ, ◌*◌, ◌<◌, List, [], ◌∷◌, ◌++◌, length, take, slice_index, slice_set, Contains, All}
 use Rattle.cdcl_literals.specs.Literals.{opposite_of}
 use Rattle.cdcl_trail.specs.Trail.{Trail, IsOpen}
-use Rattle.cdcl_clauses.specs.Clauses.{Clause, kept_clause, listed}
+use Rattle.cdcl_clauses.specs.Clauses.{listed}
 use Rattle.cdcl_clauses.specs.declared.watches.Watch.{Watch}
 
 -- the watch lists with a clause added at both literals
@@ -11,13 +11,6 @@ both_listed ws k first second =
     let us : List (List Watch) = slice_set ws first
     (listed ws first ++ record { clause = k; blocker = second } ∷ []) in
     slice_set us second (listed us second ++ record { clause = k; blocker = first } ∷ [])
-
--- one more clause is kept, and is in the watch lists of the two literals that it watches
-pub record WasAttached (cs : List Clause) (ws : List (List Watch)) (ds : List Clause)
-    (vs : List (List Watch)) (literals : List ℕ) (first second : ℕ)
-    : Type 0 where
-  pub clauses : ds ≡ cs ++ kept_clause literals first second ∷ []
-  pub lists : vs ≡ both_listed ws (length cs) first second
 
 -- all is propagated; all literals except `asserted`, which is open, are false; `beside` is false on
 -- no lower level; and a unit clause is asserted before the first level

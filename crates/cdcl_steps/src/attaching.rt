@@ -1,8 +1,8 @@
 //! Attaching one more clause.
-ghost use Rattle.std.specs.Prelude.{◌≡◌, ℕ, ◌<◌, ◌^◌, List, OnOk, OnErr, length};
-ghost use Rattle.cdcl_clauses.specs.Clauses.{Clause};
+ghost use Rattle.std.specs.Prelude.{◌≡◌, ℕ, ◌<◌, ◌^◌, List, [], ◌∷◌, ◌++◌, OnOk, OnErr, length};
+ghost use Rattle.cdcl_clauses.specs.Clauses.{Clause, kept_clause};
 ghost use Rattle.cdcl_clauses.specs.declared.watches.Watch.{Watch};
-ghost use Rattle.cdcl_steps.specs.Attached.{WasAttached, both_listed};
+ghost use Rattle.cdcl_steps.specs.Attached.{both_listed};
 
 use cdcl_clauses::{Clauses, Watch, Watches};
 use cdcl_literals::{ClauseId, Literal};
@@ -19,7 +19,8 @@ pub fn attach(
     requires few { length clauses.old < 2 ^ 32 }
     requires first { first < length watches.old }
     requires second { second < length watches.old }
-    ensures ok { OnOk result (WasAttached clauses.old watches.old clauses.new watches.new literals.now first second) }
+    ensures ok_clauses { OnOk result (clauses.new ≡ clauses.old ++ kept_clause literals.now first second ∷ []) }
+    ensures ok_watches { OnOk result (watches.new ≡ both_listed watches.old (length clauses.old) first second) }
     ensures err_clauses { OnErr result (clauses.new ≡ clauses.old) }
     ensures err_watches { OnErr result (watches.new ≡ watches.old) }
 {
@@ -36,8 +37,10 @@ pub fn attach(
 pub fn detach(clauses: &mut Clauses, watches: &mut Watches, first: Literal, second: Literal)
     requires first { first < length watches.old }
     requires second { second < length watches.old }
-    ensures { (cs : List Clause) (ws : List (List Watch)) (literals : List ℕ)
-        → WasAttached cs ws clauses.old watches.old literals first second → (clauses.new ≡ cs) × (watches.new ≡ ws) }
+    ensures clauses { (cs : List Clause) (literals : List ℕ)
+        → clauses.old ≡ cs ++ kept_clause literals first second ∷ [] → clauses.new ≡ cs }
+    ensures watches { (ws : List (List Watch)) (k : ℕ)
+        → watches.old ≡ both_listed ws k first second → watches.new ≡ ws }
 {
     watches.pop(second);
     watches.pop(first);

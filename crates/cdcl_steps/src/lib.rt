@@ -1,7 +1,6 @@
 //! The steps of a search from one conflict to the next.
 #![tactic(auto)]
 
-mod asserting;
 mod attaching;
 mod backs;
 mod choice;
@@ -9,7 +8,6 @@ mod descent;
 mod forgetting;
 mod loading;
 
-pub use asserting::assert_clause;
 pub use attaching::{attach, detach};
 pub use backs::go_back;
 pub use choice::next_open;

@@ -162,9 +162,6 @@ pub record Opens (vs ws : List Value) (ls : List ℕ) (i k : ℕ) : Type 0 where
   pub others : (x : ℕ) → ((j : ℕ) → i ≤ j → j < k → get_or ls j 0 / 2 ≢ x / 2) → get_or ws x Open ≡ get_or vs x Open
   pub from_open : (x : ℕ) → get_or vs x Open ≡ Open → get_or ws x Open ≡ Open
 
-pub opens_none : (vs : List Value) (ls : List ℕ) (i : ℕ) → Opens vs vs ls i i
-opens_none vs ls i = record { length_same = refl; opened = λ x j h k e. absurd (omega arith); others = λ x h. refl; from_open = λ x e. e }
-
 -- setting a value to open
 set_open : (vs : List Value) (l x : ℕ) → ((x ≡ l) × (get_or (set vs l Open) x Open ≡ Open)) ⊎ ((x ≢ l) × (get_or (set vs l Open) x Open ≡ get_or vs x Open))
 set_open vs l x =

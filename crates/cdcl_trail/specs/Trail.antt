@@ -44,8 +44,12 @@ decided t l = record (pushed t l None) { starts = t.starts ++ length t.literals 
 -- the trail as it was when a level began
 abbrev pub cut_to : Trail → ℕ → Trail
 cut_to t level = let n = slice_index t.starts level in
-    record t
-    { literals = take n t.literals; reasons = take n t.reasons; starts = take level t.starts; propagated = n }
+    record t {
+      literals = take n t.literals;
+      reasons = take n t.reasons;
+      starts = take level t.starts;
+      propagated = n;
+    }
 
 -- the clause isn't the reason of any true literal
 abbrev pub IsNoReason : Trail → ℕ → Type 0

@@ -1,5 +1,5 @@
 -- From a certificate that was read to its end to the verdict on it.
-use Rattle.std.proofs.Common.{◌≡◌, ◌∙◌, ℕ, ◌+◌, ℤ, Bool, true, false, cond, ◌&&◌, List, [], ◌∷◌, length, Result, Ok, Err, inl, inr, refl, sym, ap, subst}
+use Rattle.std.proofs.Common.{◌≡◌, ◌∙◌, ℕ, ℤ, Bool, true, false, cond, ◌&&◌, List, [], ◌∷◌, Result, Ok, Err, inl, refl, sym, ap}
 use Rattle.std.specs.List.{fold}
 use Rattle.std.proofs.lemmas.Bool.{false≢true, and_parts}
 use Rattle.refute_check.specs.cnf_core.Clauses.{Formula}
@@ -20,15 +20,12 @@ use Rattle.certified_logs.specs.Places.{AllAreDone}
 use Rattle.certified_logs.proofs.Promised.{all_refuted, none_runs}
 use Rattle.certificate_input.specs.Checked.{IsChecked, IsOpen}
 use Rattle.certificate_input.specs.Checked.IsLineRefused.{ByLine, ByHeader}
-use Rattle.certificate_input.specs.Cuts.{Cut, HasHeader}
+use Rattle.certificate_input.specs.Cuts.{HasHeader}
 use Rattle.certificate_input.specs.Wrong.{IsWrong}
-use Rattle.certificate_input.specs.declared.checks.Checks.{Checks}
-use Rattle.certificate_input.specs.declared.incoming.Stage.{Stage}
-use Rattle.certificate_input.specs.declared.incoming.Stage.TheVariants.{Begins, Follows}
 use Rattle.certificate_input.specs.declared.verdict.Verdict.TheVariants as verdict
 use Rattle.certificate_input.specs.declared.wrong.Wrong.{Wrong}
 use Rattle.certificate_input.specs.declared.wrong.Wrong.TheVariants.{Refused, Form, Limit}
-use Rattle.certificate_input.specs.helpers.Incoming.{IsStage, IsUnrefuted, ended, judged}
+use Rattle.certificate_input.specs.helpers.Incoming.{IsUnrefuted, ended, judged}
 
 -- before any line nothing is closed
 starts_open : (cs : List (List ℤ)) (s : Checking) → verdict_on (fold keep s cs) ≡ verdict_on s
@@ -79,23 +76,3 @@ module _ (code : Code) (bytes : List ℕ) where
   ended_so n Refused is = ByLine is
   ended_so n Form is = inl is
   ended_so n (Limit which count limit) is = (n, is)
-
-  -- there is no whole line
-  pub begins_unended : (rest : List ℕ) (n : ℕ) (stage : Stage) → stage ≡ Begins → IsStage code bytes rest n stage
-      → IsChecked code bytes (verdict.Form n)
-  begins_unended rest n stage e was =
-      let is = subst (IsStage code bytes rest n) e was in
-      inr (record {
-        counted = is.1 ∙ ap (λ (c : Cut). length c.lines + 1) (sym is.0);
-        unended = λ none. ap (λ (c : Cut). c.lines) is.0;
-      })
-
-  -- the last line has no end
-  pub follows_unended : (rest : List ℕ) (n : ℕ) (stage : Stage) (c : Checks) → stage ≡ Follows c → (rest ≡ [] → ⊥)
-      → IsStage code bytes rest n stage → IsChecked code bytes (verdict.Form n)
-  follows_unended rest n stage c e some was =
-      let is = subst (IsStage code bytes rest n) e was in
-      inr (record {
-        counted = is.counted ∙ ap (λ (c : Cut). length c.lines + 1) (sym is.is_cut);
-        unended = λ none. absurd (some (sym (ap (λ (c : Cut). c.rest) is.is_cut) ∙ none));
-      })

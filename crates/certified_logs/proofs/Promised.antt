@@ -3,15 +3,10 @@ use Rattle.std.proofs.Common.{◌≡◌, Bool, true, false, ◌&&◌, List, inl,
 use Rattle.std.specs.Prelude.{◌⊎◌}
 use Rattle.std.specs.Bool.{MatchBool}
 use Rattle.memory_models.specs.declared.model.Model.{Model}
-use Rattle.memory_models.specs.declared.model.Model.TheVariants.{Sc, Tso, Pso}
 use Rattle.run_log.specs.Logs.{Log, is_log}
 use Rattle.tc_code.specs.Code.{Code}
 use Rattle.tc_code.specs.Lawful.{IsLawful}
 use Rattle.store_buffers.specs.Buffers.{BufferOf, buffer_of}
-use Rattle.store_buffers.specs.Laws.{Laws}
-use Rattle.store_buffers.specs.helpers.Partial.{pso_laws}
-use Rattle.store_buffers.specs.helpers.Sequential.{sc_laws}
-use Rattle.store_buffers.specs.helpers.Total.{tso_laws}
 use Rattle.walked_logs.specs.run_follows.Machine.{Machine}
 use Rattle.clap_system.specs.path_walk.declared.fault.WalkFault.{WalkFault}
 use Rattle.clap_system.specs.Faults.{IsBuildFault}
@@ -19,6 +14,7 @@ use Rattle.clap_system.specs.declared.fault.BuildFault.TheVariants as build
 use Rattle.clap_solve.specs.Clauses.{bound_of, model_clauses}
 use Rattle.clap_solve.specs.Solved.{IsImpossible, IsWithin}
 use Rattle.clap_solve.proofs.Meaning.{closed_is_impossible}
+use Rattle.clap_solve.proofs.Models.{model_laws}
 use Rattle.refute_check.specs.Refutations.{IsClosed}
 use Rattle.refute_check.specs.declared.line.Line.{Line}
 use Rattle.tc_code.specs.tc_limits.declared.limits.TheConstants.{THREADS}
@@ -32,12 +28,6 @@ use Rattle.find_failures.proofs.Runs.{none_if_whole, none_in_bounds}
 use Rattle.find_failures.proofs.Tried.{unfit_by}
 use Rattle.certified_logs.specs.Logs.{AreRefuted, AllAreRefuted, NoneRuns}
 use Rattle.certified_logs.specs.Places.{AreDone, AllAreDone}
-
--- each memory model obeys its laws
-pub model_laws : (m : Model) → Laws (buffer_of m) m (bound_of m)
-model_laws Sc = sc_laws
-model_laws Tso = tso_laws
-model_laws Pso = pso_laws
 
 -- the machine under a memory model
 abbrev pub machine : (m : Model) (code : Code) → IsLawful code → Machine (BufferOf m)

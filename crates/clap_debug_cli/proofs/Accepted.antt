@@ -12,7 +12,8 @@ use Rattle.migrate_command.specs.tc_limits.declared.limits.TheConstants.{SCHEDUL
 use Rattle.list_command.specs.command_inputs.Forms.{IsSchedule}
 use Rattle.cnf_command.specs.log_tasks.Tasks.{Reproduces, Task, model_of}
 use Rattle.check_command.proofs.path_log.Logs.{has_text}
-use Rattle.check_command.proofs.Excluded.{code_is_lawful, model_laws}
+use Rattle.check_command.proofs.clap_solve.Models.{model_laws}
+use Rattle.check_command.proofs.tc_compile.Lawful.{code_is_lawful}
 
 pub schedule_accepted : {program log : List ℕ} (task : Task program log) (asked : Option Model) (moves : List Move) (text : List ℕ)
     → Reproduces asked task.pair moves → IsSchedule text (record { model = model_of asked task.pair; moves = moves })

@@ -4,15 +4,13 @@ use Rattle.std.specs.Borrow.{Bor}
 use Rattle.std.specs.Option.{IsSomeAnd}
 use Rattle.std.proofs.lemmas.Option.{same_Some, none-some}
 use Rattle.tc_io.specs.Outside.{Files, ShelfTells, SinkTells, KeptPart, bytes_at}
-use Rattle.command_frame.specs.Answers.{Answer, Gives, ReadFault, TooLong, WriteFault, NoMemory, IsFaultStatus, Puts, SaysLine, SaysNoMemory}
+use Rattle.command_frame.specs.Answers.{Answer, Gives, ReadFault, TooLong, WriteFault, NoMemory, IsFaultStatus, Puts, SaysNoMemory}
 use Rattle.command_frame.specs.Causes.{Finds, HoldsSome, IsCause, LosesOne}
 use Rattle.command_frame.specs.Inputs.{Texts, texts_under}
 use Rattle.command_frame.specs.Keeps.{FailsToKeep, HoldsFirst, put_all}
 use Rattle.command_frame.specs.Meaning.{Meaning}
 use Rattle.command_frame.specs.Run.{Runs, RunsOver, kept_by}
-use Rattle.command_frame.specs.declared.status.Status.TheVariants.{Usage}
 use Rattle.command_frame.proofs.AllRuns.{left}
-use Rattle.clap_debug_show_cli.specs.Answers.{usage_text}
 use Rattle.clap_debug_show_cli.specs.Call.{Holds, Loses, LeavesPage, HasLost, Leaves, Does, CallAnswers, IfTold, PutsAnswer, ToldAnswers}
 use Rattle.clap_debug_show_cli.specs.Calls.{Asked, Help, Show, Shows, call_of}
 use Rattle.clap_debug_show_cli.specs.Causes.{ShowsOf}
@@ -30,9 +28,6 @@ some_and P o call taken p = subst (λ o. IsSomeAnd o P) (sym taken) p
 
 if_some : (P : Asked → Type 0) (o : Option Asked) (call : Asked) → o ≡ Some call → P call → IfSome o P
 if_some P o call taken p = subst (λ o. IfSome o P) (sym taken) p
-
-if_none : (P : Asked → Type 0) (o : Option Asked) → o ≡ None → IfSome o P
-if_none P o none = subst (λ o. IfSome o P) (sym none) tt
 
 if_any : (P : Asked → Type 0) (o : Option Asked) → ((call : Asked) → P call) → IfSome o P
 if_any P None p = tt
@@ -192,22 +187,6 @@ module _ (program : List ℕ) (old new : ShelfTells) where
     | inr lost ↦ absurd lost.2.1.4
   ]
 
--- an unchanged shelf
-module _ (old new : ShelfTells) (same : new ≡ old) where
-  same_held : new.held ≡ old.held
-  same_held = ap (λ (x : ShelfTells). x.held) same
-
-  -- an unchanged shelf is right for a status other than 0
-  same_left : (status : ℕ) → status ≢ 0 → (call : Asked) → Leaves call status old new
-  same_left status some (Help name) = same_held
-  same_left status some (Show call) = record {
-    text = λ none. same_held;
-    kept = λ name asked zero. absurd (some zero);
-    none = λ zero eight nine. same_held;
-    whole = λ name asked nine. inl same_held;
-    part = λ name asked eight. inl same_held;
-  }
-
 module _ (words : List (List ℕ)) (old new : ShelfTells) (status : ℕ) (j k : SinkTells) where
   pub shown_call : (call : Shows) → call_of words ≡ Some (Show call) → Runs (show_of call) old new status j k
       → CallAnswers words old new status j k
@@ -232,33 +211,6 @@ module _ (words : List (List ℕ)) (old new : ShelfTells) (status : ℕ) (j k : 
   unchanged : new ≡ old → new.faults ≢ old.faults → ⊥
   unchanged same rose = rose (ap (λ (x : ShelfTells). x.faults) same)
 
-  usage_status : SaysLine usage_text Usage status j k → (status ≡ 2) ⊎ (status ≡ 8) ⊎ (status ≡ 9)
-  usage_status (inl put) = inl put.0
-  usage_status (inr (inl part)) = inr (inl part.0)
-  usage_status (inr (inr none)) = inr (no_memory_status status j k none)
-
-  pub refused_words : call_of words ≡ None → new ≡ old → SaysLine usage_text Usage status j k → CallAnswers words old new status j k
-  refused_words none same says = record {
-    answer = inl (subst (λ o. Does o old new status j k) (sym none) (same, says));
-    only_usage = λ _. (same, usage_status says);
-    failed_keep = λ rose name last. absurd (unchanged same rose);
-    leaves = if_none (λ c. Leaves c status old new) (call_of words) none;
-  }
-
-  fault_not_zero : SaysNoMemory status j k → status ≢ 0
-  fault_not_zero says zero = elim (no_memory_status status j k says) [
-    | inl eight ↦ omega (arith, zero, eight)
-    | inr nine ↦ omega (arith, zero, nine)
-  ]
-
-  pub unheard_words : new ≡ old → SaysNoMemory status j k → CallAnswers words old new status j k
-  unheard_words same says = record {
-    answer = inr (same, says);
-    only_usage = λ _. (same, inr (no_memory_status status j k says));
-    failed_keep = λ rose name last. absurd (unchanged same rose);
-    leaves = if_any (λ c. Leaves c status old new) (call_of words) (same_left old new same status (fault_not_zero says));
-  }
-
 module _ (words : List (List ℕ)) (held : Option Files) (status : ℕ) (j k : SinkTells) where
   pub shown_told : (call : Shows) → call_of words ≡ Some (Show call)
       → IfSome held (λ files. RunsOver (show_of call) (texts_under files (show_of call).inputs) status j k)
@@ -277,9 +229,6 @@ module _ (words : List (List ℕ)) (held : Option Files) (status : ℕ) (j k : S
         answer = over.answer;
         exactly = λ a is. over.exactly a (only_help program (bytes_at files program) a is);
       }) told)
-
-  pub refused_told : call_of words ≡ None → IfTold words held (λ call files. ToldAnswers call files status j k)
-  refused_told none = if_none (λ c. IfSome held (λ files. ToldAnswers c files status j k)) (call_of words) none
 
   faulty : {A : Type 0} (m : Meaning A) (t : Texts) → IsFaultStatus status → PutsAnswer m t status j k
   faulty m t fault = record { answer = λ sound. absurd (sound fault); exactly = λ a is. inr fault }

@@ -22,3 +22,4 @@ pub mod Meaning
 pub mod Found
 pub mod Answered
 pub mod Posing
+pub mod Models

@@ -1,5 +1,5 @@
 -- The clauses made of the parts of a log's system, and what a derivation over them proves.
-use Rattle.std.proofs.Common.{◌≡◌, ◌≢◌, ◌∙◌, ◌≤◌, Bool, List, Result, Ok, Err, ap, sym, subst}
+use Rattle.std.proofs.Common.{◌≡◌, ◌≢◌, ◌∙◌, ◌≤◌, Bool, List, Result, Err, ap, sym, subst}
 use Rattle.std.specs.Prelude.{if◌then◌else◌}
 use Rattle.run_log.specs.Logs.{Log}
 use Rattle.schedule_file.specs.tc_limits.declared.limits.TheConstants.{EVENTS, OPERATORS}
@@ -8,12 +8,11 @@ use Rattle.store_buffers.specs.Pending.{Binding}
 use Rattle.path_walk.specs.Fits.{Fits}
 use Rattle.cnf_core.specs.Clauses.{Formula}
 use Rattle.bit_blast.specs.Blasted.{Blasted, impossible}
-use Rattle.refute_check.specs.Refutations.{IsClosed, check}
+use Rattle.refute_check.specs.Refutations.{check}
 use Rattle.refute_check.specs.declared.line.Line.{Line}
 use Rattle.refute_check.specs.declared.verdict.CheckFault.{CheckFault}
 use Rattle.refute_check.specs.declared.verdict.CheckFault.TheVariants as fault
 use Rattle.refute_check.specs.declared.verdict.Checked.{Checked}
-use Rattle.refute_check.specs.declared.verdict.Checked.TheVariants.{Closed}
 use Rattle.clap_system.specs.Faults.{IsShallow}
 use Rattle.clap_system.specs.Systems.{System, system_of}
 use Rattle.clap_solve.specs.Clauses.{blasted_by, clauses_of}
@@ -61,6 +60,3 @@ module _ (buffered : Bool) (bound : Binding) (code : Code) (log : Log) (lines : 
   check_cause (fault.Hint n) within is = (λ e. cc, within, told_here (Err (fault.Hint n)) is (λ e. cc))
   check_cause (fault.NoConflict n) within is = (λ e. cc, within, told_here (Err (fault.NoConflict n)) is (λ e. cc))
   check_cause fault.Memory within is = tt
-
-  pub closed_by : (checked : Checked) → told (Ok checked) → checked ≡ Closed → IsClosed (clauses_of buffered bound code log) lines
-  closed_by checked is closed = told_here (Ok checked) is (λ e. cc) ∙ ap (λ (x : Checked). Ok x) closed

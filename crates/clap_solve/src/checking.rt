@@ -1,16 +1,13 @@
 //! Checking derivations against the clauses of a log.
-ghost use Rattle.std.specs.Prelude.{◌≡◌, IfOk, IfErr, OnOk, Ok};
-ghost use Rattle.refute_check.specs.Refutations.{check, start};
-ghost use Rattle.refute_check.specs.declared.verdict.Checked.TheVariants.{Closed};
+ghost use Rattle.std.specs.Prelude.{◌≡◌, IfOk, IfErr, OnOk};
+ghost use Rattle.refute_check.specs.Refutations.{start};
 ghost use Rattle.clap_system.specs.Faults.{IsBuildFault};
 ghost use Rattle.clap_solve.specs.Clauses.{clauses_of};
-ghost use Rattle.clap_solve.specs.Faults.{IsCheckImpossibleFault};
-ghost use Rattle.clap_solve.specs.Solved.{IsImpossible, IsWithin};
+ghost use Rattle.clap_solve.specs.Solved.{IsWithin};
 
-use crate::CheckImpossibleFault;
 use crate::posed::pose;
 use clap_system::BuildFault;
-use refute_check::{Checked, Checker, Derivation, check};
+use refute_check::Checker;
 use run_log::Log;
 use std::alloc::Global;
 use store_buffers::MemoryModel;
@@ -31,20 +28,4 @@ pub fn check_start<M: MemoryModel>(
 {
     let clauses = pose::<M>(alloc, code, log)?.into_clauses();
     Ok(Checker::new(alloc, &clauses)?)
-}
-
-/// What a whole derivation proves over the clauses of a log. Any tool may have made it.
-pub fn check_impossible<M: MemoryModel>(
-    alloc: Global,
-    code: &Code,
-    log: &Log,
-    derivation: &Derivation,
-) -> Result<Checked, CheckImpossibleFault>
-    ensures ok { IfOk result (λ checked. check (clauses_of M.BUFFERED M.bound code.now log.now.log) derivation.now ≡ Ok checked) }
-    ensures within { OnOk result (IsWithin code.now log.now.log) }
-    ensures impossible { result ≡ Ok Closed → IsImpossible M.ops code.now log.now.log }
-    ensures err { IfErr result (IsCheckImpossibleFault M.BUFFERED M.bound code.now log.now.log derivation.now) }
-{
-    let clauses = pose::<M>(alloc, code, log)?.into_clauses();
-    Ok(check(alloc, &clauses, derivation)?)
 }

@@ -1,7 +1,6 @@
 //! From a program and a log to a schedule that reproduces the log, or to a proof that none does.
 #![tactic(auto)]
 
-mod answer;
 mod checking;
 mod fault;
 mod imported;
@@ -10,8 +9,8 @@ pub mod laws;
 mod posed;
 mod solving;
 
-pub use answer::Answer;
-pub use checking::{check_impossible, check_start};
+pub use cdcl_core::Answer;
+pub use checking::check_start;
 pub use fault::CheckImpossibleFault;
 pub use imported::Imported;
 pub use importing::take_answer;

@@ -2,14 +2,13 @@
 ghost use Rattle.std.specs.Prelude.{◌≡◌, ◌≤◌, length, IfOk, IfErr};
 ghost use Rattle.schedule_file.specs.tc_limits.declared.limits.TheConstants.{BUDGET, EVENTS};
 ghost use Rattle.first_run.specs.lawful_order.Events.{all_events};
-ghost use Rattle.cdcl_core.specs.Solving.{Solves};
+ghost use Rattle.cdcl_core.specs.Solving.{IsAnswerOn, Solves};
 ghost use Rattle.clap_system.specs.Faults.{IsBuildFault};
 ghost use Rattle.clap_solve.specs.Solved.{IsSolved};
-ghost use Rattle.clap_solve.specs.helpers.Searched.{IsAnsweredOn, IsFoundOn, IsPosed, IsSatisfied, IsSearched, ReproduceEach};
+ghost use Rattle.clap_solve.specs.helpers.Searched.{IsPosed, IsSatisfied, IsScheduled, ReproduceEach};
 
-use crate::Answer;
 use crate::posed::{Posed, pose};
-use cdcl_core::{Solved, solve_cnf};
+use cdcl_core::{Answer, solve_cnf};
 use clap_system::BuildFault;
 use cnf_core::Assignment;
 use first_run::first_world;
@@ -31,7 +30,7 @@ pub fn solve<M: MemoryModel>(
     code: &Code,
     log: &Log,
     budget: u32,
-) -> Result<Answer, BuildFault>
+) -> Result<Answer<Schedule>, BuildFault>
     requires some { 1 ≤ budget }
     requires room { budget ≤ BUDGET }
     ensures ok { IfOk result (IsSolved M.ops M.MODEL M.bound code.now log.now.log budget) }
@@ -43,20 +42,20 @@ pub fn solve<M: MemoryModel>(
     Ok(answer?)
 }
 
-/// Searches for a model of a log's clauses, and answers.
+/// Searches for a model of a log's clauses, and makes a schedule of it.
 fn searched<M: MemoryModel>(
     alloc: Global,
     code: &Code,
     posed: &Posed,
     budget: u32,
-) -> Result<Answer, AllocError>
+) -> Result<Answer<Schedule>, AllocError>
     requires some { 1 ≤ budget }
     requires room { budget ≤ BUDGET }
     requires posed { IsPosed M.BUFFERED M.bound code.now posed.now }
-    ensures { IfOk result (IsFoundOn M.ops code.now posed.now M.MODEL budget) }
+    ensures { IfOk result (IsAnswerOn posed.now.blasted.clauses budget (IsScheduled M.ops code.now posed.now M.MODEL)) }
 {
     let solved = search::<M>(alloc, code, posed, budget)?;
-    answer::<M>(alloc, code, posed, solved)
+    solved.try_map(|assignment| schedule::<M>(alloc, code, posed, &assignment))
 }
 
 /// A search of the clauses of a log that first tries the values of one run along its paths.
@@ -65,42 +64,15 @@ pub fn search<M: MemoryModel>(
     code: &Code,
     posed: &Posed,
     budget: u32,
-) -> Result<Solved, AllocError>
+) -> Result<Answer<Assignment>, AllocError>
     requires events { length (all_events posed.now.paths) ≤ EVENTS }
     requires some { 1 ≤ budget }
     requires room { budget ≤ BUDGET }
     ensures { IfOk result (Solves posed.now.blasted.clauses budget) }
 {
-    let execution = posed.execution();
-    let world = first_world::<M>(
-        alloc,
-        code,
-        &execution.paths,
-        &execution.symbolic,
-        &execution.terms,
-    )?;
+    let world = first_world::<M>(alloc, code, posed.execution())?;
     let values = posed.blasted().first_values(alloc, &world)?;
     solve_cnf(alloc, posed.clauses(), values.as_slice(), budget)
-}
-
-/// The answer from a search of a log's clauses.
-fn answer<M: MemoryModel>(
-    alloc: Global,
-    code: &Code,
-    posed: &Posed,
-    solved: Solved,
-) -> Result<Answer, AllocError>
-    requires { IsSearched M.BUFFERED M.bound code.now posed.now solved }
-    ensures { IfOk result (IsAnsweredOn M.ops code.now posed.now M.MODEL solved) }
-{
-    match solved {
-        Solved::Sat(assignment) => {
-            let schedule = schedule::<M>(alloc, code, posed, &assignment)?;
-            Ok(Answer::Found(schedule))
-        }
-        Solved::Unsat(derivation) => Ok(Answer::Impossible(derivation)),
-        Solved::Spent(derivation) => Ok(Answer::Spent(derivation)),
-    }
 }
 
 /// The schedule of the world of a model of a log's clauses.

@@ -26,7 +26,7 @@ use Rattle.order_formula.specs.Orders.{Order, AtomIsAsked, IsAsked, LiteralIsAsk
 use Rattle.order_formula.specs.Orders.{with_atom, with_case, with_body, with_conjunct, with_formula}
 use Rattle.order_formula.specs.Worlds.{World}
 use Rattle.order_formula.proofs.Asked.{formula_asked}
-use Rattle.order_events.specs.lawful_order.Events.{Of, all_events, all_sleeps, ender_of}
+use Rattle.order_events.specs.lawful_order.Events.{Placed, all_events, all_sleeps, ender_of}
 use Rattle.order_events.specs.lawful_order.Conditions.{IsSignal, IsBroadcast}
 use Rattle.order_events.specs.lawful_order.Lawful.{IsWorldOf}
 use Rattle.order_events.specs.Parts.{comes_before}
@@ -53,7 +53,7 @@ use Rattle.clap_system.proofs.Tests.{of_test}
 
 -- a sleep, and a signal or a broadcast on its condition
 pub record MayEnd (paths : Paths) (s g : ℕ) : Type 0 where
-  pub sleep : Of Sleep
+  pub sleep : Placed Sleep
   pub at : slice_get (all_sleeps paths) s ≡ Some sleep
   pub ender : Ender
   pub among : Contains (enders (all_events paths) sleep.it.condition) ender
@@ -108,10 +108,6 @@ module _ (paths : Paths) where
 
   formula_kept : (o : Order) (formula : List Conjunct) → HasEnders o → All (λ c. BodyAsks c.body) formula → HasEnders (with_formula o formula)
   formula_kept = all_kept with_conjunct (λ (c : Conjunct). BodyAsks c.body) (λ o c. body_kept o c.body)
-
-  -- the parts of the formula
-  before_asks : (t k u j : ℕ) → LiteralAsks (comes_before (all_events paths) t k u j)
-  before_asks t k u j = tt
 
   pub own_asks : (buffered : Bool) (bound : Binding) (symbolic : Symbolic) (nodes : List Node) (c : Conjunct)
       → Contains (own_formula buffered bound paths symbolic nodes) c → Has LiteralAsks c
@@ -220,7 +216,7 @@ module _ (paths : Paths) where
         (formula_kept o (rules_of buffered bound code paths symbolic nodes) has rules_ask) i
 
     -- each possible ender is asked about
-    begun_in : (s : ℕ) (x : Of Sleep) (e : Ender) → slice_get (all_sleeps paths) s ≡ Some x → Contains (enders (all_events paths) x.it.condition) e
+    begun_in : (s : ℕ) (x : Placed Sleep) (e : Ender) → slice_get (all_sleeps paths) s ≡ Some x → Contains (enders (all_events paths) x.it.condition) e
         → Contains (rules_of buffered bound code paths symbolic nodes) (begun (wait_of (all_events paths) (s, x)) e)
     begun_in s x e at among =
         let w = wait_of (all_events paths) (s, x) in
@@ -272,7 +268,7 @@ module _ (paths : Paths) (symbolic : Symbolic) (w : World) where
     enders = λ s g c x is ends.
         let m = may s g ends in
         let same : m.sleep ≡ x = same_Some m.sleep x (sym m.at ∙ is.is) in
-        let at : m.sleep.it.condition ≡ c = ap (λ (y : Of Sleep). y.it.condition) same ∙ is.condition in
+        let at : m.sleep.it.condition ≡ c = ap (λ (y : Placed Sleep). y.it.condition) same ∙ is.condition in
         let among : Contains (enders (all_events paths) c) m.ender = subst (λ d. Contains (enders (all_events paths) d) m.ender) at m.among in
         elim (ender_is paths w c m.ender among) [
           | inl signal ↦ inl (subst (λ e. IsSignal paths w e c) m.event signal.0)

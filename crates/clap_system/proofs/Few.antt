@@ -10,7 +10,7 @@ use Rattle.path_walk.specs.Events.{sleep_by, sleeps_of}
 use Rattle.path_walk.specs.Paths.{Walk, Paths, ArePaths, walk_of}
 use Rattle.path_walk.specs.declared.event.Event.{Event}
 use Rattle.path_walk.specs.declared.event.Sleep.{Sleep}
-use Rattle.order_events.specs.lawful_order.Events.{Of, all_events, all_from, all_sleeps}
+use Rattle.order_events.specs.lawful_order.Events.{Placed, all_events, all_from, all_sleeps}
 
 few_of : (es : List Event) → length (sleeps_of es) ≤ length es
 few_of [] = omega arith
@@ -25,8 +25,8 @@ few_from : (code : Code) (log : Log) (t : ℕ) (ts : List ThreadPath)
 few_from code log t [] = omega arith
 few_from code log t (u ∷ ts) =
     let q = walk_of code log u in
-    let of_sleep : Sleep → Of Sleep = λ x. record { thread = t; it = x } in
-    let of_event : Event → Of Event = λ x. record { thread = t; it = x } in
+    let of_sleep : Sleep → Placed Sleep = λ x. record { thread = t; it = x } in
+    let of_event : Event → Placed Event = λ x. record { thread = t; it = x } in
     let sleeps = all_from (λ (w : Walk). w.sleeps) (t + 1) (map (walk_of code log) ts) in
     let events = all_from (λ (w : Walk). w.events) (t + 1) (map (walk_of code log) ts) in
     omega (

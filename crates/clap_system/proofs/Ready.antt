@@ -35,7 +35,7 @@ use Rattle.order_formula.specs.declared.formula.Conjunct.{Conjunct}
 use Rattle.order_formula.specs.declared.literal.Literal.{Literal}
 use Rattle.order_formula.proofs.Asked.{formula_asked, grows_formula}
 use Rattle.order_events.specs.lawful_order.Cells.{value_at_start}
-use Rattle.order_events.specs.lawful_order.Events.{Of, all_events, all_sleeps}
+use Rattle.order_events.specs.lawful_order.Events.{Placed, all_events, all_sleeps}
 use Rattle.order_events.specs.lawful_order.Whole.{AreWhole, IsExecutedBy}
 use Rattle.memory_order.specs.order_cells.Same.{known_same, same_test}
 use Rattle.memory_order.specs.order_cells.Terms.{HaveTerms}
@@ -127,7 +127,7 @@ start_int : (code : Code) → IsLawful code → (c : Cell) → IsInt (value_at_s
 start_int code lawful (Fixed c) = get_or_all IsInt code.memory c (pos 0) lawful.ints (truth_int false)
 start_int code lawful (Element f m i) = truth_int false
 
-test_of_int : (nodes : List Node) (load b : Of Access) (n : Node) → test_of nodes load b ≡ Some n → HasInt n
+test_of_int : (nodes : List Node) (load b : Placed Access) (n : Node) → test_of nodes load b ≡ Some n → HasInt n
 test_of_int nodes load b n is = by (may_be_seen nodes load b) is
   where
     by : (m : Bool) → cond m (option_and_then (λ (v : ℕ). same_test nodes b.it.cell load.it.cell) b.it.writes) None ≡ Some n → HasInt n
@@ -135,7 +135,7 @@ test_of_int nodes load b n is = by (may_be_seen nodes load b) is
         (λ v at test. test_int nodes b.it.cell load.it.cell n test)
     by false is = absurd (none-some n is)
 
-load_ints : (code : Code) → IsLawful code → (accesses : List (Of Access)) (nodes : List Node) (load : Of Access) (o : Option ℕ)
+load_ints : (code : Code) → IsLawful code → (accesses : List (Placed Access)) (nodes : List Node) (load : Placed Access) (o : Option ℕ)
     → All HasInt (option_map_or (needs_of code accesses nodes load) o [])
 load_ints code lawful accesses nodes load None = All-nil HasInt
 load_ints code lawful accesses nodes load (Some number) =
@@ -147,7 +147,7 @@ load_ints code lawful accesses nodes load (Some number) =
 read_ints : (code : Code) → IsLawful code → (symbolic : Symbolic) (nodes : List Node) → All HasInt (read_needs code symbolic nodes)
 read_ints code lawful symbolic nodes = each_in HasInt (read_needs code symbolic nodes) (λ n i.
     let accesses = all_accesses symbolic in
-    let o = of_flat_map (λ (a : Of Access). option_map_or (needs_of code accesses nodes a) a.it.takes []) n accesses i in
+    let o = of_flat_map (λ (a : Placed Access). option_map_or (needs_of code accesses nodes a) a.it.takes []) n accesses i in
     All-contains HasInt (option_map_or (needs_of code accesses nodes o.0) o.0.it.takes []) n (load_ints code lawful accesses nodes o.0 o.0.it.takes) o.2)
 
 -- ---- the formula

@@ -1,8 +1,6 @@
 -- The reasons why a log has no system.
-use Rattle.std.specs.Prelude.{◌≡◌, ℕ, ◌<◌, ◌≤◌, List, length, map, nat_lt, Option, Some, None}
-use Rattle.std.specs.List.{find}
-use Rattle.run_log.specs.Logs.{Log}
-use Rattle.run_log.specs.tc_base.Paths.{ThreadPath}
+use Rattle.std.specs.Prelude.{◌≡◌, ℕ, ◌<◌, ◌≤◌, length, Some, None}
+use Rattle.run_log.specs.Logs.{Log, first_deeper}
 use Rattle.tc_limits.specs.declared.limits.TheConstants.{THREADS, DEPTH, EVENTS, OPERATORS}
 use Rattle.tc_code.specs.Code.{Code}
 use Rattle.path_walk.specs.Fits.{Fits, IsFirst}
@@ -20,19 +18,15 @@ limit_of Depth = DEPTH
 limit_of Events = EVENTS
 limit_of Operators = OPERATORS
 
--- the depth of the first thread whose name is too deep, if any
-abbrev pub first_deep : List ThreadPath → Option ℕ
-first_deep threads = find (nat_lt DEPTH) (map (λ t. length t.name) threads)
-
 -- a log's threads and the depth of their names are within the limits
 pub record IsShallow (log : Log) : Type 0 where
   pub threads : length log.threads ≤ THREADS
-  pub names : first_deep log.threads ≡ None
+  pub names : first_deeper DEPTH log.threads ≡ None
 
 -- n is the log's number of this, and the limits that are checked before are met
 abbrev pub IsOver : Code → Log → Which → ℕ → Type 0
 IsOver code log Threads n = n ≡ length log.threads
-IsOver code log Depth n = (length log.threads ≤ THREADS) × (first_deep log.threads ≡ Some n)
+IsOver code log Depth n = (length log.threads ≤ THREADS) × (first_deeper DEPTH log.threads ≡ Some n)
 IsOver code log Events n = IsShallow log × Fits code log × (n ≡ (paths_of code log).events)
 IsOver code log Operators n =
     IsShallow log × Fits code log × ((paths_of code log).events ≤ EVENTS)

@@ -27,8 +27,13 @@ pub record System : Type 0 where
 
 -- the system of an execution, and the execution of a system
 abbrev pub system_from : Execution → Order → List Conjunct → System
-system_from x order formula =
-    record { paths = x.paths; symbolic = x.symbolic; nodes = x.terms; order = order; formula = formula }
+system_from x order formula = record {
+  paths = x.paths;
+  symbolic = x.symbolic;
+  nodes = x.terms;
+  order = order;
+  formula = formula;
+}
 
 abbrev pub execution_of : System → Execution
 execution_of s = record { paths = s.paths; symbolic = s.symbolic; terms = s.nodes }

@@ -6,7 +6,7 @@ ghost use Rattle.tc_limits.specs.declared.limits.TheConstants.{EVENTS, OPERATORS
 ghost use Rattle.path_walk.specs.Fits.{Fits};
 ghost use Rattle.path_walk.specs.Paths.{ArePaths};
 ghost use Rattle.tc_code.specs.Code as spec;
-ghost use Rattle.clap_system.specs.Faults.{IsBuildFault, IsShallow, first_deep, limit_of};
+ghost use Rattle.clap_system.specs.Faults.{IsBuildFault, IsShallow, limit_of};
 ghost use Rattle.clap_system.specs.declared.fault.BuildFault.TheVariants.{Limit};
 ghost use Rattle.order_formula.specs.Orders.{order_without_questions, with_formula};
 ghost use Rattle.order_events.specs.lawful_order.Events.{all_events, all_sleeps};
@@ -22,7 +22,7 @@ use order_formula::{Formula, Order};
 use path_execution::Execution;
 use path_walk::{Paths, walk};
 use read_write::read_constraints;
-use run_log::{Log, ThreadPath};
+use run_log::Log;
 use std::alloc::{AllocError, Global};
 use store_buffers::MemoryModel;
 use sym_exec::{Symbolic, execute};
@@ -49,7 +49,6 @@ pub fn build<M: MemoryModel>(alloc: Global, code: &Code, log: &Log) -> Result<Sy
     if let Some(fault) = too_much(log) {
         return Err(fault);
     }
-    read_steps(log.threads());
     let paths = walk(alloc, code, log)?;
     if paths.events() > EVENTS {
         return Err(over(Which::Events, paths.events() as u64));
@@ -68,27 +67,8 @@ fn too_much(log: &Log) -> Option<BuildFault>
     if threads.len() > THREADS {
         return Some(over(Which::Threads, threads.len() as u64));
     }
-    let depth = too_deep(threads)?;
+    let depth = log.first_deeper(DEPTH)?;
     Some(over(Which::Depth, depth as u64))
-}
-
-/// The depth of the first thread whose name is too deep, if any.
-fn too_deep(threads: &[ThreadPath]) -> Option<usize>
-    ensures { result ≡ first_deep threads.now }
-{
-    threads
-        .iter()
-        .map(|thread| thread.name().children().len())
-        .find(|depth| *depth > DEPTH)
-}
-
-/// Reads the steps of each thread, which a log counts in 16 bits.
-fn read_steps(threads: &[ThreadPath])
-    ensures { All (λ t. t.path.steps ≤ STEPS) threads.now }
-{
-    for thread in threads {
-        let _steps = thread.steps();
-    }
 }
 
 /// The fault that there are more of something than the limit.

@@ -1,36 +1,16 @@
 -- From the clauses of a log to their meaning.
-use Rattle.std.proofs.Common.{sym, subst, ℕ, List, Option}
+use Rattle.std.proofs.Common.{ℕ, List, Option}
 use Rattle.std.specs.Prelude.{◌↔◌}
 use Rattle.clap_solve.proofs.Meaning.{run_is_said, said_is_run}
+use Rattle.clap_solve.proofs.Models.{model_laws}
 use Rattle.clap_solve.specs.Clauses.{bound_of}
 use Rattle.memory_models.specs.declared.model.Model.{Model}
-use Rattle.memory_models.specs.declared.model.Model.TheVariants.{Sc, Tso, Pso}
 use Rattle.store_buffers.specs.Buffers.{buffer_of}
-use Rattle.store_buffers.specs.Laws.{Laws}
-use Rattle.store_buffers.specs.helpers.Partial.{pso_laws}
-use Rattle.store_buffers.specs.helpers.Sequential.{sc_laws}
-use Rattle.store_buffers.specs.helpers.Total.{tso_laws}
 use Rattle.run_log.specs.tc_base.declared.moves.Move.{Move}
-use Rattle.tc_code.specs.Code.{Code}
-use Rattle.tc_code.specs.Lawful.{IsLawful}
-use Rattle.command_inputs.specs.tc_compile.Programs.{IsCodeOf, language}
-use Rattle.command_inputs.proofs.tc_lower.Ints.{program_ints}
-use Rattle.command_inputs.proofs.tc_lower.Programs.{program_is_lawful}
-use Rattle.command_inputs.proofs.tc_parser.Words.{has_ints}
 use Rattle.command_inputs.proofs.path_log.Logs.{has_text}
+use Rattle.command_inputs.proofs.tc_compile.Lawful.{code_is_lawful}
 use Rattle.log_tasks.specs.Tasks.{Reproduces, Task, clauses_of, model_of}
 use Rattle.cnf_command.specs.Answers.{IsSatisfiable}
-
--- the code of a program is lawful
-code_is_lawful : (program : List ℕ) (code : Code) → IsCodeOf program code → IsLawful code
-code_is_lawful program code f =
-    subst IsLawful (sym f.lowers) (program_is_lawful program f.program f.is.cells (program_ints f.program (has_ints language program f.program f.is)))
-
--- each memory model obeys its laws
-model_laws : (m : Model) → Laws (buffer_of m) m (bound_of m)
-model_laws Sc = sc_laws
-model_laws Tso = tso_laws
-model_laws Pso = pso_laws
 
 -- the clauses of a log can be satisfied exactly if some moves reproduce the log
 pub are_runs : {program log : List ℕ} (asked : Option Model) (t : Task program log)

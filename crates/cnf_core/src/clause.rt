@@ -65,13 +65,4 @@ impl Clause {
     {
         self.literals.as_slice()
     }
-
-    /// Its literals, without an allocation.
-    pub fn into_literals(self) -> Vec<Lit>
-        ensures literals { result.items ≡ self }
-        ensures rises { IsTrue (is_clause self) }
-    {
-        let Clause { literals } = self;
-        literals
-    }
 }

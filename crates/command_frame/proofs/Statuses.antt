@@ -8,7 +8,7 @@ use Rattle.command_frame.specs.Meaning.{Meaning}
 use Rattle.command_frame.specs.Answers.{Answer, Gives, ReadFault, TooLong, WriteFault, NoMemory, IsFaultStatus, Puts, number_of}
 use Rattle.command_frame.specs.Causes.{IsAnswerTo, IsOnlyAnswer, IsSaidAs}
 use Rattle.command_frame.specs.Run.{Runs, RunsOver, kept_by}
-use Rattle.command_frame.specs.ByStatus.{Decides, IsStatus, PutsLimit, PutsOutcome, RunsAsDecided}
+use Rattle.command_frame.specs.ByStatus.{Decides, IsStatus, PutsLimit, PutsOutcome}
 use Rattle.command_frame.proofs.AllRuns.{answers_to, same_fault}
 use Rattle.command_frame.specs.declared.status.Status.{Status}
 use Rattle.command_frame.specs.declared.status.Status.TheVariants as status
@@ -144,9 +144,6 @@ module _ {A : Type 0} (m : Meaning A) (t : Texts) (number : ℕ) (j k : SinkTell
     only (ReadFault name) is = is
     only (WriteFault name) is = is
     only NoMemory is = is
-
-    pub as_decided : RunsAsDecided m t number j k
-    as_decided = record { answer = over.answer; exactly = λ a is. over.exactly a (only a is) }
 
     -- what comes of the bytes was put, or the status is that of a fault
     pub status_is : (x : A) → AreWithin m.inputs t → m.ComesOf t x → IsStatus number (number_of (m.status_of x))

@@ -3,8 +3,8 @@ use Rattle.std.specs.Prelude.{◌≡◌, ◌⊎◌, ℕ, List}
 use Rattle.tc_io.specs.Outside.{SinkTells, Wrote}
 use Rattle.command_frame.specs.Inputs.{AreWithin, IsTooLong, Limit, Texts}
 use Rattle.command_frame.specs.Meaning.{Meaning}
-use Rattle.command_frame.specs.Answers.{Answer, IsFaultStatus, Puts, limit_line}
-use Rattle.command_frame.specs.Causes.{IsAnswerTo, IsSaidAs}
+use Rattle.command_frame.specs.Answers.{IsFaultStatus, limit_line}
+use Rattle.command_frame.specs.Causes.{IsSaidAs}
 use Rattle.command_frame.specs.declared.status.Status.{Status}
 
 -- the status, but for devices and memory
@@ -25,13 +25,3 @@ PutsLimit m t before after =
 -- all outcomes that come of the same bytes are said alike
 abbrev pub Decides : {A : Type 0} → Meaning A → Texts → Type 0
 Decides {A} m t = (one other : A) → m.ComesOf t one → m.ComesOf t other → IsSaidAs m one other
-
--- a run over inputs that decide what is said
-pub record RunsAsDecided {A : Type 0} (m : Meaning A) (t : Texts) (status : ℕ)
-    (before after : SinkTells) : Type 0 where
-  -- but for devices and memory, an answer to these bytes was put
-  pub answer : (IsFaultStatus status → ⊥)
-      → (a : Answer A) × IsAnswerTo m t a × Puts m a status before after
-  -- and each answer to them is what was put
-  pub exactly : (a : Answer A) → IsAnswerTo m t a
-      → Puts m a status before after ⊎ IsFaultStatus status

@@ -12,7 +12,7 @@ use Rattle.path_walk.specs.declared.event.EventKind.TheVariants as kind
 use Rattle.path_walk.specs.declared.event.Sleep.{Sleep}
 use Rattle.order_formula.specs.Worlds.{World}
 use Rattle.order_events.specs.sym_exec.Executed.{Symbolic}
-use Rattle.order_events.specs.lawful_order.Events.{Of, all_events, all_sleeps, ender_of}
+use Rattle.order_events.specs.lawful_order.Events.{Placed, all_events, all_sleeps, ender_of}
 use Rattle.order_events.specs.lawful_order.Conditions.{is_signal, is_broadcast, IsSleep, IsSignal, IsBroadcast}
 use Rattle.order_events.specs.lawful_order.Lawful.{IsWorldOf}
 use Rattle.condition_order.specs.declared.wait.Wait.{Wait}
@@ -63,28 +63,28 @@ module _ (paths : Paths) (w : World) where
       let o = of_filter_map (ender_by c) e (enumerate_from 0 (all_events paths)) i in
       by o.0.0 o.0.1 (of_enumerated o.0 (all_events paths) o.1) (is_signal c o.0.1.it.kind) (is_broadcast c o.0.1.it.kind) refl refl o.2
     where
-      by : (g : ℕ) (x : Of Event) → slice_get (all_events paths) g ≡ Some x → (a b : Bool) → is_signal c x.it.kind ≡ a → is_broadcast c x.it.kind ≡ b
+      by : (g : ℕ) (x : Placed Event) → slice_get (all_events paths) g ≡ Some x → (a b : Bool) → is_signal c x.it.kind ≡ a → is_broadcast c x.it.kind ≡ b
           → cond a (Some (record { event = g; all = false })) (cond b (Some (record { event = g; all = true })) None) ≡ Some e → IsEnder c e
       by g x at true b s t is = subst (IsEnder c) (same_Some (record { event = g; all = false }) e is) (inl (record { event = x; is = at; signals = s }, refl))
       by g x at false true s t is = subst (IsEnder c) (same_Some (record { event = g; all = true }) e is) (inr (record { event = x; is = at; broadcasts = t }, refl))
       by g x at false false s t is = absurd (none-some e is)
 
   -- the waits are those of the sleeps
-  pub wait_among : (s : ℕ) (x : Of Sleep) → slice_get (all_sleeps paths) s ≡ Some x → Contains (all_waits paths) (wait_of (all_events paths) (s, x))
+  pub wait_among : (s : ℕ) (x : Placed Sleep) → slice_get (all_sleeps paths) s ≡ Some x → Contains (all_waits paths) (wait_of (all_events paths) (s, x))
   wait_among s x is = in_map (wait_of (all_events paths)) (s, x) (enumerate_from 0 (all_sleeps paths)) (in_enumerated s x (all_sleeps paths) is)
 
-  pub wait_is : (y : Wait) → Contains (all_waits paths) y → (e : ℕ × Of Sleep) × (slice_get (all_sleeps paths) e.0 ≡ Some e.1) × (wait_of (all_events paths) e ≡ y)
+  pub wait_is : (y : Wait) → Contains (all_waits paths) y → (e : ℕ × Placed Sleep) × (slice_get (all_sleeps paths) e.0 ≡ Some e.1) × (wait_of (all_events paths) e ≡ y)
   wait_is y i =
       let o = of_map (wait_of (all_events paths)) y (enumerate_from 0 (all_sleeps paths)) i in
       (o.0, of_enumerated o.0 (all_sleeps paths) o.1, o.2)
 
-  pub sleep_among : (s c : ℕ) (x : Of Sleep) → IsSleep paths w s x c → Contains (sleeps_on (all_waits paths) c) s
+  pub sleep_among : (s c : ℕ) (x : Placed Sleep) → IsSleep paths w s x c → Contains (sleeps_on (all_waits paths) c) s
   sleep_among s c x i =
       let on = λ (y : Wait). y.condition == c in
       in_map (λ (y : Wait). y.sleep) (wait_of (all_events paths) (s, x)) (filter on (all_waits paths))
       (in_filter on (wait_of (all_events paths) (s, x)) (all_waits paths) (wait_among s x i.is) (eq-eqb x.it.condition c i.condition))
 
-  pub sleep_is : (s c : ℕ) → Contains (sleeps_on (all_waits paths) c) s → (x : Of Sleep) × IsSleep paths w s x c
+  pub sleep_is : (s c : ℕ) → Contains (sleeps_on (all_waits paths) c) s → (x : Placed Sleep) × IsSleep paths w s x c
   sleep_is s c i =
       let on = λ (y : Wait). y.condition == c in
       let o = of_map (λ (y : Wait). y.sleep) s (filter on (all_waits paths)) i in
@@ -100,21 +100,21 @@ module _ (paths : Paths) (w : World) where
 -- the ender of a sleep is among those of its condition, and a signal ends a sleep on its own
 -- condition
 module _ (paths : Paths) (symbolic : Symbolic) (w : World) (of : IsWorldOf paths symbolic w) where
-  pub ender_among : (s g c : ℕ) (x : Of Sleep) → IsSleep paths w s x c → ender_of w s ≡ Some g
+  pub ender_among : (s g c : ℕ) (x : Placed Sleep) → IsSleep paths w s x c → ender_of w s ≡ Some g
       → (e : Ender) × Contains (enders (all_events paths) c) e × (e.event ≡ g)
   ender_among s g c x i ends = elim (of.enders s g c x i ends) [
     | inl signal ↦ (record { event = g; all = false }, signal_among paths w g c signal, refl)
     | inr broadcast ↦ (record { event = g; all = true }, broadcast_among paths w g c broadcast, refl)
   ]
 
-  pub sleep_at : (s g : ℕ) → ender_of w s ≡ Some g → (x : Of Sleep) × (slice_get (all_sleeps paths) s ≡ Some x)
+  pub sleep_at : (s g : ℕ) → ender_of w s ≡ Some g → (x : Placed Sleep) × (slice_get (all_sleeps paths) s ≡ Some x)
   sleep_at s g ends = by (slice_get (all_sleeps paths) s) refl
     where
-      by : (o : Option (Of Sleep)) → slice_get (all_sleeps paths) s ≡ o → (x : Of Sleep) × (slice_get (all_sleeps paths) s ≡ Some x)
+      by : (o : Option (Placed Sleep)) → slice_get (all_sleeps paths) s ≡ o → (x : Placed Sleep) × (slice_get (all_sleeps paths) s ≡ Some x)
       by (Some x) is = (x, is)
       by None is = absurd (none-some g (sym (get_or_past w.enders s None (omega (arith, of.sleeps, past (all_sleeps paths) s is))) ∙ ends))
 
-  pub sleep_of : (s g c : ℕ) → IsSignal paths w g c → ender_of w s ≡ Some g → (x : Of Sleep) × IsSleep paths w s x c
+  pub sleep_of : (s g c : ℕ) → IsSignal paths w g c → ender_of w s ≡ Some g → (x : Placed Sleep) × IsSleep paths w s x c
   sleep_of s g c signal ends =
       let x = sleep_at s g ends in
       let d = x.0.it.condition in (
@@ -123,9 +123,9 @@ module _ (paths : Paths) (symbolic : Symbolic) (w : World) (of : IsWorldOf paths
           is = x.1;
           condition = elim (of.enders s g d x.0 (record { is = x.1; condition = refl }) ends) [
             | inl other ↦ same_signal d c signal.event.it.kind
-                (subst (λ (e : Of Event). is_signal d e.it.kind ≡ true) (same_Some other.event signal.event (sym other.is ∙ signal.is)) other.signals) signal.signals
+                (subst (λ (e : Placed Event). is_signal d e.it.kind ≡ true) (same_Some other.event signal.event (sym other.is ∙ signal.is)) other.signals) signal.signals
             | inr other ↦ absurd (no_broadcast c d signal.event.it.kind signal.signals
-                (subst (λ (e : Of Event). is_broadcast d e.it.kind ≡ true) (same_Some other.event signal.event (sym other.is ∙ signal.is)) other.broadcasts))
+                (subst (λ (e : Placed Event). is_broadcast d e.it.kind ≡ true) (same_Some other.event signal.event (sym other.is ∙ signal.is)) other.broadcasts))
           ];
         },
       )

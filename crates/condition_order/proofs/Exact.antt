@@ -12,7 +12,7 @@ use Rattle.order_events.specs.sym_exec.Executed.{Symbolic}
 use Rattle.order_formula.specs.declared.group.Group.TheVariants.{Condition}
 use Rattle.order_formula.specs.Groups.{HoldsIn, IsExactly}
 use Rattle.order_formula.specs.Worlds.{World, position}
-use Rattle.order_events.specs.lawful_order.Events.{Of, all_events, all_sleeps, number_of, ender_of}
+use Rattle.order_events.specs.lawful_order.Events.{Placed, all_events, all_sleeps, number_of, ender_of}
 use Rattle.order_events.specs.lawful_order.Conditions.{IsSleep, IsSignal, IsBroadcast, Waits, ConditionRule}
 use Rattle.order_events.specs.lawful_order.Lawful.{IsWorldOf}
 use Rattle.condition_order.specs.declared.wait.Wait.{Wait}
@@ -30,14 +30,14 @@ mapped f (Some x) y e = (x, refl, same_Some (f x) y e)
 
 module _ (paths : Paths) (symbolic : Symbolic) (nodes : List Node) (w : World) (of : IsWorldOf paths symbolic w) where
   -- what the conjuncts of a sleep say
-  abbrev Says : ℕ → Of Sleep → Type 0
+  abbrev Says : ℕ → Placed Sleep → Type 0
   Says s x = Meets nodes w (wait_of (all_events paths) (s, x)) (enders (all_events paths) x.it.condition) (sleeps_on (all_waits paths) x.it.condition)
 
-  itself : (s : ℕ) (x : Of Sleep) → slice_get (all_sleeps paths) s ≡ Some x → IsSleep paths w s x x.it.condition
+  itself : (s : ℕ) (x : Placed Sleep) → slice_get (all_sleeps paths) s ≡ Some x → IsSleep paths w s x x.it.condition
   itself s x is = record { is = is; condition = refl }
 
   module _ (c : ℕ) (all : HoldsIn nodes w (condition_formula paths) (Condition c)) where
-    says : (s : ℕ) (x : Of Sleep) → IsSleep paths w s x c → Says s x
+    says : (s : ℕ) (x : Placed Sleep) → IsSleep paths w s x c → Says s x
     says s x i =
         let y = wait_of (all_events paths) (s, x) in
         meets_to nodes w y (enders (all_events paths) x.it.condition) (sleeps_on (all_waits paths) x.it.condition) (λ z j.
@@ -84,7 +84,7 @@ module _ (paths : Paths) (symbolic : Symbolic) (nodes : List Node) (w : World) (
           subst (λ r. ender_of w r ≡ Some g) (sym (of_one e.sleep s e.there)) e.ends;
     }
 
-  module _ (s : ℕ) (x : Of Sleep) (is : slice_get (all_sleeps paths) s ≡ Some x) (rule : ConditionRule paths w x.it.condition) where
+  module _ (s : ℕ) (x : Placed Sleep) (is : slice_get (all_sleeps paths) s ≡ Some x) (rule : ConditionRule paths w x.it.condition) where
     abbrev the_enders : List Ender
     the_enders = enders (all_events paths) x.it.condition
 

@@ -10,7 +10,7 @@ use Rattle.order_formula.specs.declared.formula.Body.{Body}
 use Rattle.order_formula.specs.declared.formula.Body.TheVariants as body
 use Rattle.order_formula.specs.Orders.{Order, AtomIsIn, BodyIsIn, ConjunctIsIn}
 use Rattle.order_formula.specs.Worlds.{World}
-use Rattle.order_events.specs.lawful_order.Events.{Of, Has, all_events, all_sleeps, number_of}
+use Rattle.order_events.specs.lawful_order.Events.{Placed, Has, all_events, all_sleeps, number_of}
 use Rattle.order_events.specs.lawful_order.Whole.{AreWhole}
 use Rattle.order_events.proofs.Parts.{each_in}
 use Rattle.order_events.proofs.Lists.{at_in, of_flat_map}
@@ -36,7 +36,7 @@ module _ (paths : Paths) where
   sleep_within c r i = let s = sleep_is paths nowhere r c i in slice_get_within (all_sleeps paths) r s.0 s.1.is
 
   -- the sleep with a number belongs to its thread
-  has_sleep : (s : ℕ) (x : Of Sleep) → slice_get (all_sleeps paths) s ≡ Some x → Has paths x.thread (λ q. q.sleeps) x.it
+  has_sleep : (s : ℕ) (x : Placed Sleep) → slice_get (all_sleeps paths) s ≡ Some x → Has paths x.thread (λ q. q.sleeps) x.it
   has_sleep s x at =
       let o = of_all_from (λ (q : Walk). q.sleeps) 0 paths.threads x (at_in (all_sleeps paths) s x at) in
       let same : o.place ≡ x.thread = omega (arith, o.thread) in
@@ -47,7 +47,7 @@ module _ (paths : Paths) where
     begins : x.begins < length (all_events paths)
     wakes : (k : ℕ) → x.wakes ≡ Some k → k < length (all_events paths)
 
-  wake_within : (whole : AreWhole paths) (s : ℕ) (x : Of Sleep) → slice_get (all_sleeps paths) s ≡ Some x → (o : Option ℕ) → x.it.wake ≡ o
+  wake_within : (whole : AreWhole paths) (s : ℕ) (x : Placed Sleep) → slice_get (all_sleeps paths) s ≡ Some x → (o : Option ℕ) → x.it.wake ≡ o
       → (k : ℕ) → option_map (number_of paths x.thread) o ≡ Some k → k < length (all_events paths)
   wake_within whole s x at None is k e = absurd (none-some k e)
   wake_within whole s x at (Some j) is k e =

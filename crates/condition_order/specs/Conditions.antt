@@ -11,24 +11,24 @@ use Rattle.order_formula.specs.declared.literal.Literal.{Literal}
 use Rattle.order_formula.specs.declared.formula.Body.TheVariants.{Any}
 use Rattle.order_formula.specs.declared.formula.Conjunct.{Conjunct}
 use Rattle.order_formula.specs.declared.group.Group.TheVariants.{Condition}
-use Rattle.order_events.specs.lawful_order.Events.{Of, all_events, all_sleeps}
+use Rattle.order_events.specs.lawful_order.Events.{Placed, all_events, all_sleeps}
 use Rattle.order_events.specs.lawful_order.Conditions.{is_signal, is_broadcast}
 use Rattle.order_events.specs.Parts.{number_in, one_of}
 use Rattle.condition_order.specs.declared.wait.Wait.{Wait}
 use Rattle.condition_order.specs.declared.wait.Ender.{Ender}
 
 -- an event as an ender: a signal or a broadcast of the condition c
-abbrev pub ender_by : ℕ → ℕ × Of Event → Option Ender
+abbrev pub ender_by : ℕ → ℕ × Placed Event → Option Ender
 ender_by c e =
     if is_signal c e.1.it.kind then Some (record { event = e.0; all = false })
     else if is_broadcast c e.1.it.kind then Some (record { event = e.0; all = true }) else None
 
 -- the enders of a condition among events
-abbrev pub enders : List (Of Event) → ℕ → List Ender
+abbrev pub enders : List (Placed Event) → ℕ → List Ender
 enders events c = filter_map (ender_by c) (enumerate_from 0 events)
 
 -- a sleep with its number and the numbers of its events
-abbrev pub wait_of : List (Of Event) → ℕ × Of Sleep → Wait
+abbrev pub wait_of : List (Placed Event) → ℕ × Placed Sleep → Wait
 wait_of events e = record {
   sleep = e.0;
   condition = e.1.it.condition;
@@ -37,7 +37,7 @@ wait_of events e = record {
 }
 
 -- all sleeps, with their numbers and those of their events
-abbrev pub waits : List (Of Event) → List (Of Sleep) → List Wait
+abbrev pub waits : List (Placed Event) → List (Placed Sleep) → List Wait
 waits events sleeps = map (wait_of events) (enumerate_from 0 sleeps)
 
 -- the numbers of the sleeps on a condition
@@ -107,11 +107,11 @@ module _ (x : Wait) where
       map begun es ++ (woken es ++ (flat_map (ends_no_later rs) es ++ map (not_lost es rs) es))
 
 -- the conjuncts of one wait
-abbrev pub formula_of : List (Of Event) → List Wait → Wait → List Conjunct
+abbrev pub formula_of : List (Placed Event) → List Wait → Wait → List Conjunct
 formula_of events all x = wait_formula x (enders events x.condition) (sleeps_on all x.condition)
 
 -- the conjuncts of all waits, one after another
-abbrev pub formula_among : List (Of Event) → List Wait → List Conjunct
+abbrev pub formula_among : List (Placed Event) → List Wait → List Conjunct
 formula_among events all = flat_map (formula_of events all) all
 
 -- all waits of the paths, and all conjuncts about conditions

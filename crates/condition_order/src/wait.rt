@@ -2,8 +2,8 @@
 ghost use Rattle.std.specs.Prelude.{◌≡◌, ◌<◌, ◌^◌, length, IfOk};
 ghost use Rattle.condition_order.specs.Conditions.{ender_by, enders, sleeps_on, wait_of, waits};
 
-use order_events::{Events, Placed, PlacedSleep, Sleeps};
-use path_walk::EventKind;
+use order_events::{Events, Placed, Sleeps};
+use path_walk::{Event, EventKind, Sleep};
 use std::alloc::{AllocError, Global};
 
 /// A thread's wait on a condition, with the number of its sleep.
@@ -30,17 +30,17 @@ pub struct Ender {
 
 impl Wait {
     /// The wait of a numbered sleep.
-    fn of(events: &Events, number: u32, placed: &PlacedSleep) -> Wait
+    fn of(events: &Events, number: u32, placed: &Placed<Sleep>) -> Wait
         ensures { result ≡ wait_of events.now (number, placed.now) }
     {
-        let wakes = match placed.sleep.wake {
+        let wakes = match placed.it.wake {
             Some(step) => Some(events.number(placed.thread, step)),
             None => None,
         };
         Wait {
             sleep: number,
-            condition: placed.sleep.condition,
-            begins: events.number(placed.thread, placed.sleep.step),
+            condition: placed.it.condition,
+            begins: events.number(placed.thread, placed.it.step),
             wakes,
         }
     }
@@ -48,10 +48,10 @@ impl Wait {
 
 impl Ender {
     /// A numbered event as an ender, if it is a signal or a broadcast of the condition.
-    fn by(condition: u32, number: u32, placed: &Placed) -> Option<Ender>
+    fn by(condition: u32, number: u32, placed: &Placed<Event>) -> Option<Ender>
         ensures { result ≡ ender_by condition (number, placed.now) }
     {
-        match placed.event.kind {
+        match placed.it.kind {
             EventKind::Signal(of) if of == condition => Some(Ender {
                 event: number,
                 all: false,

@@ -74,17 +74,6 @@ module _ (code : Code) (f : ℕ) (fails : Bool) (places : List ℕ) where
         ∙ ap (λ last. cond (excludes are.marks step.instr (fails && last)) (Some (here last))
         (find is_impossible (marked_from fails (k + 1) (marks_after_instr are.marks step.instr) (rest (k + 1))))) is_last
 
-    -- a possible step is followed
-    pub followed_more : (new : Own) → excludes are.marks step.instr (fails && (k + 1 == length places)) ≡ false
-        → new ≡ own_of (marks_after_instr are.marks step.instr) → IsFollowed (k + 1) new
-    followed_more new can is = record {
-      marks = marks_after_instr are.marks step.instr;
-      is = is;
-      same = are.same ∙ turn
-          ∙ ap (λ e. cond e (Some (here (k + 1 == length places)))
-          (find is_impossible (marked_from fails (k + 1) (marks_after_instr are.marks step.instr) (rest (k + 1))))) can;
-    }
-
 -- another state of a thread variable
 pub changed : (o : Own) (t : Marks) (h : ℕ) (x : Handle) (b : Bool) → o ≡ own_of t → can_be_joined x ≡ b
     → (let new : Own = record o { joinable = slice_set o.joinable h b } in new) ≡ own_of (record t { handles = slice_set t.handles h x })

@@ -108,7 +108,7 @@ fn line_in(
             continue;
         };
         if own.excludes(instr, fails && step + 1 == places.len()) {
-            return Ok(Some(code.line(function, place).unwrap_or(0)));
+            return Ok(code.line(function, place));
         }
         own.apply(instr);
     }
@@ -121,8 +121,11 @@ fn exit_line(code: &Code) -> u32
 {
     let functions = code.functions();
     let Some(main) = functions.last() else {
-        return 0;
+        unreachable!()
     };
     let last = main.instrs.as_slice().len().saturating_sub(1);
-    code.line(functions.len() - 1, last).unwrap_or(0)
+    let Some(line) = code.line(functions.len() - 1, last) else {
+        unreachable!()
+    };
+    line
 }

@@ -1,5 +1,5 @@
 -- The first false clause of a list.
-use Rattle.std.proofs.Common.{◌≡◌, ◌<◌, ℕ, zero, suc, ℤ, true, false, List, [], ◌∷◌, take, IsTrue, refl, ap, sym, ◌∙◌, arith}
+use Rattle.std.proofs.Common.{◌≡◌, ℕ, zero, suc, ℤ, true, false, List, [], ◌∷◌, take, IsTrue, refl, sym, ◌∙◌, arith}
 use Rattle.std.specs.Prelude.{slice_get, Some}
 use Rattle.std.proofs.lemmas.Bool.{and_parts, false≢true}
 use Rattle.cnf_core.specs.Clauses.{Valuation, clause_true, satisfies}
@@ -25,18 +25,3 @@ unsatisfied v (d ∷ cs) (suc k) f =
 
 pub false_or_satisfied : (v : Valuation) (cs : List (List ℤ)) (k : ℕ) → IsFirstFalse v cs k → IsTrue (satisfies v cs) → ⊥
 false_or_satisfied v cs k f satisfied = false≢true (sym (unsatisfied v cs k f) ∙ satisfied)
-
--- there is at most one first false clause
-pub one_first_false : (v : Valuation) (cs : List (List ℤ)) (j k : ℕ) → IsFirstFalse v cs j → IsFirstFalse v cs k → j ≡ k
-one_first_false v [] j k f g = absurd (omega (arith, f.there))
-one_first_false v (d ∷ cs) zero zero f g = refl
-one_first_false v (d ∷ cs) zero (suc k) f g =
-    let own = and_parts (clause_true v d) (satisfies v (take k cs)) g.before in absurd (false≢true (sym f.not_true ∙ own.0))
-one_first_false v (d ∷ cs) (suc j) zero f g =
-    let own = and_parts (clause_true v d) (satisfies v (take j cs)) f.before in absurd (false≢true (sym g.not_true ∙ own.0))
-one_first_false v (d ∷ cs) (suc j) (suc k) f g =
-    let mine = and_parts (clause_true v d) (satisfies v (take j cs)) f.before in
-    let own = and_parts (clause_true v d) (satisfies v (take k cs)) g.before in
-    ap suc (one_first_false v cs j k
-    (record { there = omega (arith, f.there); before = mine.1; not_true = f.not_true })
-    (record { there = omega (arith, g.there); before = own.1; not_true = g.not_true }))

@@ -13,7 +13,7 @@ use Rattle.log_walk.specs.declared.bounds.LeftOut.{LeftOut as LeftOutBy}
 use Rattle.refute_check.specs.Refutations.{IsClosed}
 use Rattle.refute_check.specs.declared.line.Line.{Line}
 use Rattle.clap_solve.specs.cdcl_core.Solving.{Solves}
-use Rattle.clap_solve.specs.cdcl_core.declared.progress.Solved.TheVariants as solved
+use Rattle.clap_solve.specs.cdcl_core.declared.answer.Answer.TheVariants as answer
 use Rattle.clap_system.specs.Faults.{IsBuildFault}
 use Rattle.clap_system.specs.declared.fault.BuildFault.TheVariants as build
 use Rattle.clap_solve.specs.Clauses.{clauses_of}
@@ -55,7 +55,7 @@ module _ {B : Type 0} (ops : BufferOps B) (bound : Binding) (code : Code) where
   abbrev pub IsReason : ℕ → Log → Reason → Type 0
   IsReason budget log Spent =
       (lines : List Line)
-      × Solves (clauses_of ops.buffered bound code log) budget (solved.Spent lines)
+      × Solves (clauses_of ops.buffered bound code log) budget (answer.Spent lines)
   IsReason budget log (Limit which n limit) = IsBuildFault code log (build.Limit which n limit)
 
   module _ (model : Model) (asked : Asked) where

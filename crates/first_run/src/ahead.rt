@@ -1,19 +1,13 @@
 //! A thread that runs ahead alone.
+ghost use Rattle.std.specs.Prelude.{◌<◌};
+ghost use Rattle.first_run.specs.declared.tuned.TheConstants.{EVENTS_AHEAD};
 
-use crate::machine::Machine;
-use crate::thread::{Place, Thread, wants_drained};
-use crate::values::Values;
-use crate::written::Written;
+use crate::tuned::{EVENTS_AHEAD, TERMS_AHEAD, TESTS_AHEAD};
 use path_walk::EventKind;
-use std::alloc::{AllocError, Global};
+use run_simulation::{Arrival, Machine, Place, ThreadNumber, Values};
+use std::alloc::AllocError;
 use store_buffers::MemoryModel;
 use sym_exec::Access;
-
-/// The greatest number of events that a thread runs ahead.
-pub(crate) const AHEAD: u32 = 10;
-
-/// The greatest number of tests that a thread passes between two events ahead.
-const TESTS: usize = 40;
 
 /// The outcome of an event of a thread that runs ahead.
 #[derive(Clone, Copy, PartialEq, Eq)]
@@ -36,25 +30,36 @@ pub(crate) enum Reads {
     /// The current value, or unknown if another thread may still write to the cell; the first event
     /// ahead always takes the current value.
     Sure,
-    /// The current value, except that the read with this number, from 1, takes this value.
-    Instead { read: u32, value: i32 },
+    /// The current value, except that the event with this number ahead, from 0, takes this value.
+    Instead { event: usize, value: i32 },
 }
 
-/// A thread that runs ahead alone, while the other threads don't move.
-#[derive(Drop)]
-pub(crate) struct Ahead<'m, 'a> {
-    machine: &'m Machine<'a>,
-    number: usize,
-    thread: &'m Thread<'a>,
-    taken: Reads,
-    pub at: Place,
-    /// The number of events done ahead, and how many of them read.
-    pub events: u32,
-    pub reads: u32,
-    /// The cell of the last read.
-    pub last: Option<u32>,
-    /// Its writes that weren't in memory before, including its pending stores.
-    pub written: Written,
+/// A read ahead: the number of its event, from 0, and its cell.
+#[derive(Clone, Copy)]
+pub(crate) struct Read {
+    pub event: usize,
+    pub cell: u32,
+}
+
+/// A write ahead, with its value if that is known.
+#[derive(Clone, Copy)]
+pub(crate) struct Write {
+    pub cell: u32,
+    pub value: Option<i32>,
+}
+
+/// A thread that runs ahead alone in a machine whose other threads don't move.
+#[derive(Clone, Copy)]
+pub(crate) struct Ahead {
+    pub thread: ThreadNumber,
+    reads: Reads,
+    at: Place,
+    /// Its last read, if the cell of that is known.
+    pub last: Option<Read>,
+    /// What each event ahead wrote, if it wrote.
+    pub writes: [Option<Write>; EVENTS_AHEAD],
+    /// The event ahead after which it left its path, if it has.
+    pub left: Option<usize>,
     has_mutex: bool,
     has_pending: bool,
     /// Whether it wrote something that other threads see now or will see.
@@ -63,77 +68,85 @@ pub(crate) struct Ahead<'m, 'a> {
     pub is_seen: bool,
 }
 
-impl<'m, 'a> Ahead<'m, 'a> {
-    /// A thread that has done nothing ahead yet; `None` if it hasn't begun.
-    pub fn new(
-        alloc: Global,
-        machine: &'m Machine<'a>,
-        number: usize,
-        taken: Reads,
-    ) -> Result<Option<Ahead<'m, 'a>>, AllocError> {
-        let Some(thread) = machine.threads.get(number) else {
-            return Ok(None);
-        };
-        if !thread.has_begun {
-            return Ok(None);
-        }
-        Ok(Some(Ahead {
-            machine,
-            number,
+impl Ahead {
+    /// A thread that has done nothing ahead yet.
+    pub fn new(machine: &Machine, thread: ThreadNumber, reads: Reads) -> Ahead {
+        Ahead {
             thread,
-            taken,
-            at: thread.at,
-            events: 0,
-            reads: 0,
+            reads,
+            at: machine.thread(thread).at,
             last: None,
-            written: Written::pending(alloc, &thread.pending)?,
-            has_mutex: machine.has_mutex(number),
-            has_pending: !thread.pending.is_empty(),
+            writes: [None; EVENTS_AHEAD],
+            left: None,
+            has_mutex: machine.has_mutex(thread),
+            has_pending: machine.has_pending(thread),
             changes: false,
             is_seen: false,
-        }))
+        }
     }
 
-    /// Goes on as far as it can, for at most `AHEAD` events.
-    pub fn run<M: MemoryModel>(&mut self, values: &mut Values) -> Result<Pace, AllocError> {
-        for _ in 0..AHEAD {
-            let pace = self.go::<M>(values)?;
-            if pace != Pace::On {
-                return Ok(pace);
+    /// A thread that has gone on as far as it can, for at most `EVENTS_AHEAD` events.
+    pub fn run<M: MemoryModel>(
+        machine: &Machine,
+        values: &mut Values,
+        thread: ThreadNumber,
+        reads: Reads,
+    ) -> Ahead {
+        let mut ahead = Ahead::new(machine, thread, reads);
+        for event in 0..EVENTS_AHEAD {
+            if ahead.go::<M>(machine, values, event) != Pace::On {
+                break;
             }
         }
-        Ok(Pace::On)
+        ahead
     }
 
-    /// Does the next event.
-    pub fn go<M: MemoryModel>(&mut self, values: &mut Values) -> Result<Pace, AllocError> {
-        let Some(event) = self.thread.event(self.at) else {
-            return Ok(Pace::End);
+    /// Does the next event, which has this number ahead. Nothing wakes the thread from a sleep that
+    /// it begins ahead.
+    pub fn go<M: MemoryModel>(
+        &mut self,
+        machine: &Machine,
+        values: &mut Values,
+        event: usize,
+    ) -> Pace
+        requires { event < EVENTS_AHEAD }
+    {
+        let path = machine.path(self.thread);
+        let Some(next) = path.event(self.at) else {
+            return Pace::End;
         };
-        if matches!(event.kind, EventKind::Fail) {
-            return Ok(Pace::End);
+        match next.kind {
+            EventKind::Fail => return Pace::End,
+            EventKind::Wake { .. } if event > 0 => return Pace::Wait,
+            kind if !machine.allows(self.thread, kind) => return Pace::Wait,
+            _ => {}
         }
-        if self.waits(event.kind) {
-            return Ok(Pace::Wait);
+        match path.access(self.at) {
+            Some(access) => self.accesses::<M>(machine, values, event, access),
+            None => self.asks(next.kind),
         }
-        self.does::<M>(values, event.kind)?;
-        let arrival = self.thread.past(self.at, values, TESTS);
+        let arrival = path.past(self.at, values, TESTS_AHEAD);
+        self.arrive(event, arrival)
+    }
+
+    /// Takes the thread to its next event.
+    fn arrive(&mut self, event: usize, arrival: Arrival) -> Pace {
         self.at = arrival.place;
-        self.events = self.events.saturating_add(1);
-        Ok(match (arrival.is_on_path, arrival.is_there) {
-            (false, _) => Pace::Leave,
-            (true, true) => Pace::On,
-            (true, false) => Pace::End,
-        })
+        if !arrival.is_on_path {
+            self.left = Some(event);
+            Pace::Leave
+        } else if arrival.is_there {
+            Pace::On
+        } else {
+            Pace::End
+        }
     }
 
     /// Drains its stores, if there are any and the next event needs an empty buffer.
-    pub fn drain(&mut self) {
-        if let Some(event) = self.thread.event(self.at) {
-            if self.has_pending && wants_drained(event.kind) {
-                self.has_pending = false;
-                self.show();
-            }
+    pub fn drain(&mut self, machine: &Machine) {
+        if self.has_pending && machine.path(self.thread).needs_empty_buffer(self.at) {
+            self.has_pending = false;
+            self.show();
         }
     }
 
@@ -143,26 +156,9 @@ impl<'m, 'a> Ahead<'m, 'a> {
         self.is_seen |= !self.has_mutex;
     }
 
-    /// Whether it has to wait at an event. Nothing wakes it from a sleep that it begins ahead.
-    fn waits(&self, kind: EventKind) -> bool {
+    /// Does an event that isn't an access.
+    fn asks(&mut self, kind: EventKind) {
         match kind {
-            EventKind::Lock(mutex) => !self.machine.is_free(mutex),
-            EventKind::Wake { mutex, .. } => {
-                self.events > 0 || self.thread.waits_on.is_some() || !self.machine.is_free(mutex)
-            }
-            EventKind::Join(child) => !self.machine.is_child_done(self.thread.walk, child),
-            _ => false,
-        }
-    }
-
-    /// Does an event.
-    fn does<M: MemoryModel>(
-        &mut self,
-        values: &mut Values,
-        kind: EventKind,
-    ) -> Result<(), AllocError> {
-        match kind {
-            EventKind::Load | EventKind::Store | EventKind::Exchange => self.access::<M>(values)?,
             EventKind::Lock(_) | EventKind::Wake { .. } => self.has_mutex = true,
             EventKind::Unlock(_) | EventKind::Sleep { .. } => {
                 self.has_mutex = false;
@@ -171,81 +167,110 @@ impl<'m, 'a> Ahead<'m, 'a> {
             EventKind::Signal(_) | EventKind::Broadcast(_) => self.show(),
             _ => {}
         }
-        Ok(())
     }
 
-    /// Does an access, if its cell is known.
-    fn access<M: MemoryModel>(&mut self, values: &mut Values) -> Result<(), AllocError> {
-        if let Some(access) = self.thread.access(self.at) {
-            match values.cell(access.cell) {
-                Some(cell) => self.access_cell::<M>(values, access, cell)?,
-                None => {
-                    if let Some(load) = access.takes {
-                        values.suppose(load, None);
-                    }
-                }
-            }
-        }
-        Ok(())
-    }
-
-    fn access_cell<M: MemoryModel>(
+    /// Does an access. If its cell isn't known, it takes an unknown value and writes nothing.
+    fn accesses<M: MemoryModel>(
         &mut self,
+        machine: &Machine,
         values: &mut Values,
+        event: usize,
         access: Access,
-        cell: u32,
-    ) -> Result<(), AllocError> {
-        let found = self.found(cell);
+    )
+        requires { event < EVENTS_AHEAD }
+    {
+        let cell = values.cell(access.cell);
+        let found = self.found(machine, event, cell);
         if let Some(load) = access.takes {
-            let taken = self.take(cell, found);
-            values.suppose(load, taken);
+            self.last = cell.map(|cell| Read { event, cell });
+            values.set(load, self.taken(event, found), TERMS_AHEAD);
         }
-        if let Some(term) = access.writes {
+        if let (Some(cell), Some(term)) = (cell, access.writes) {
             let value = values.of(term);
-            self.written.push(cell, value)?;
+            self.writes[event] = Some(Write { cell, value });
             if M::BUFFERED && access.takes.is_none() {
                 self.has_pending = true;
             } else if value != found {
                 self.show();
             }
         }
-        Ok(())
     }
 
-    /// The value that it finds in a cell, if that is known.
-    fn found(&self, cell: u32) -> Option<i32> {
-        if self.events > 0
-            && matches!(self.taken, Reads::Sure)
-            && self.machine.others_may_write(self.number, cell)
+    /// The value that it finds in a cell, if both are known.
+    fn found(&self, machine: &Machine, event: usize, cell: Option<u32>) -> Option<i32> {
+        let cell = cell?;
+        if event > 0
+            && matches!(self.reads, Reads::Sure)
+            && machine.others_may_write(self.thread, cell)
         {
             return None;
         }
-        match self.written.last(cell) {
-            Some(value) => value,
-            None => Some(self.machine.cell(cell)),
+        for write in self.writes.iter().rev() {
+            if let Some(write) = write {
+                if write.cell == cell {
+                    return write.value;
+                }
+            }
+        }
+        machine.found(self.thread, cell)
+    }
+
+    /// The value that a read takes where it finds this one.
+    fn taken(&self, event: usize, found: Option<i32>) -> Option<i32> {
+        match self.reads {
+            Reads::Instead {
+                event: other,
+                value,
+            } if other == event => Some(value),
+            _ => found,
         }
     }
 
-    /// The value that a read takes from a cell with this value.
-    fn take(&mut self, cell: u32, found: Option<i32>) -> Option<i32> {
-        self.reads = self.reads.saturating_add(1);
-        self.last = Some(cell);
-        match self.taken {
-            Reads::Instead { read, value } if read == self.reads => Some(value),
-            _ => found,
+    /// The machine once the thread has come here, with all its stores in memory if `is_seen`.
+    pub fn done_in<'a>(
+        &self,
+        machine: &Machine<'a>,
+        is_seen: bool,
+    ) -> Result<Machine<'a>, AllocError> {
+        let mut after = machine.clone()?;
+        after.move_ahead(self.thread, self.at);
+        if is_seen {
+            for store in machine.stores() {
+                if store.is_of(self.thread) {
+                    after.drain(store);
+                }
+            }
+            self.write_to(&mut after);
+        }
+        Ok(after)
+    }
+
+    /// Does its writes of known values in a machine.
+    fn write_to(&self, machine: &mut Machine) {
+        for write in self.writes.iter() {
+            if let Some(write) = write {
+                if let Some(value) = write.value {
+                    machine.write(write.cell, value);
+                }
+            }
         }
     }
 }
 
 /// Whether a thread leaves its path if it does its next event now, whatever the others do later.
 pub(crate) fn leaves<M: MemoryModel>(
-    alloc: Global,
     machine: &Machine,
     values: &mut Values,
-    number: usize,
-) -> Result<bool, AllocError> {
-    Ok(match Ahead::new(alloc, machine, number, Reads::Sure)? {
-        Some(mut ahead) => ahead.run::<M>(values)? == Pace::Leave,
-        None => false,
-    })
+    thread: ThreadNumber,
+) -> bool {
+    let ahead = Ahead::run::<M>(machine, values, thread, Reads::Sure);
+    ahead.left.is_some()
+}
+
+/// Whether a thread leaves its path later than a first one, or never.
+pub(crate) fn is_later(left: Option<usize>, first: Option<usize>) -> bool {
+    match (left, first) {
+        (Some(left), Some(first)) => left > first,
+        (left, _) => left.is_none(),
+    }
 }

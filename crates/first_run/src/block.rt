@@ -1,11 +1,9 @@
 //! Blocks of threads.
+ghost use Rattle.std.specs.Prelude.{◌<◌, ◌≤◌};
+ghost use Rattle.first_run.specs.declared.tuned.TheConstants.{EVENTS_AHEAD};
 
 use crate::ahead::{Ahead, Pace, Reads};
-use crate::machine::Machine;
-use crate::thread::Place;
-use crate::values::Values;
-use crate::written::Written;
-use std::alloc::{AllocError, Global};
+use run_simulation::{Machine, ThreadNumber, Values};
 use store_buffers::MemoryModel;
 
 /// The end of a thread's block.
@@ -19,52 +17,44 @@ pub(crate) enum Fate {
     Writes,
 }
 
-/// How a block ends, where its thread is then, and what it has written.
-#[derive(Drop)]
-pub(crate) struct Block {
-    pub fate: Fate,
-    pub at: Place,
-    pub written: Written,
-}
-
 /// The *block* of a thread: what it does, if it goes on alone, up to the first event that others
 /// can see, or, if it holds a mutex, up to where it releases that. A block has at most `events`
-/// events.
+/// events. Returns how it ends, with the thread at its end.
 pub(crate) fn block_of<M: MemoryModel>(
-    alloc: Global,
     machine: &Machine,
     values: &mut Values,
-    number: usize,
-    events: u32,
-) -> Result<Option<Block>, AllocError> {
-    let Some(mut ahead) = Ahead::new(alloc, machine, number, Reads::Now)? else {
-        return Ok(None);
-    };
-    let mut fate = None;
-    for _ in 0..events {
-        if fate.is_none() {
-            fate = go::<M>(&mut ahead, values)?;
+    thread: ThreadNumber,
+    events: usize,
+) -> (Fate, Ahead)
+    requires { events ≤ EVENTS_AHEAD }
+{
+    let mut ahead = Ahead::new(machine, thread, Reads::Now);
+    for event in 0..events {
+        if let Some(fate) = go::<M>(machine, values, &mut ahead, event) {
+            return (fate, ahead);
         }
     }
-    Ok(Some(Block {
-        fate: fate.unwrap_or(end(&ahead)),
-        at: ahead.at,
-        written: ahead.written,
-    }))
+    (end(&ahead), ahead)
 }
 
 /// Does an event of a block. Returns the block's end if the block ends with it.
-fn go<M: MemoryModel>(ahead: &mut Ahead, values: &mut Values) -> Result<Option<Fate>, AllocError> {
-    ahead.drain();
+fn go<M: MemoryModel>(
+    machine: &Machine,
+    values: &mut Values,
+    ahead: &mut Ahead,
+    event: usize,
+) -> Option<Fate>
+    requires { event < EVENTS_AHEAD }
+{
+    ahead.drain(machine);
     if ahead.is_seen {
-        return Ok(Some(Fate::Writes));
+        return Some(Fate::Writes);
     }
-    Ok(match ahead.go::<M>(values)? {
-        Pace::On if ahead.is_seen => Some(end(ahead)),
-        Pace::On => None,
-        Pace::End => Some(end(ahead)),
+    match ahead.go::<M>(machine, values, event) {
+        Pace::On if !ahead.is_seen => None,
+        Pace::On | Pace::End => Some(end(ahead)),
         Pace::Wait | Pace::Leave => Some(Fate::Stops),
-    })
+    }
 }
 
 /// How a block ends if it ends where its thread is now.

@@ -1,14 +1,15 @@
 //! The choice of what is done next.
+ghost use Rattle.std.specs.Prelude.{◌≤◌};
+ghost use Rattle.first_run.specs.declared.tuned.TheConstants.{EVENTS_AHEAD};
 
-use crate::ahead::{AHEAD, leaves};
+use crate::ahead::{Ahead, leaves};
 use crate::block::{Fate, block_of};
-use crate::machine::drainable;
 use crate::run::Run;
 use crate::stuck::count_stuck;
-use crate::thread::{Pending, Place};
-use crate::written::Written;
+use crate::tuned::EVENTS_AHEAD;
 use path_walk::EventKind;
-use std::alloc::{AllocError, Global};
+use run_simulation::{Machine, Pending, Simulation, ThreadNumber, Values};
+use std::alloc::AllocError;
 use store_buffers::MemoryModel;
 
 /// The priority of a choice.
@@ -28,9 +29,10 @@ pub(crate) struct Choice {
     pub rank: Rank,
     /// The number of threads that are stuck afterwards.
     stuck: usize,
+    /// The share of its path that its thread has done.
     share: usize,
-    pub thread: usize,
-    pub store: Option<usize>,
+    pub thread: ThreadNumber,
+    pub store: Option<Pending>,
 }
 
 impl Choice {
@@ -47,164 +49,142 @@ impl Choice {
 
 /// The choice that comes first, of the best so far and another.
 fn first(found: Option<Choice>, other: Option<Choice>) -> Option<Choice> {
-    match (found, other) {
-        (Some(choice), Some(other)) if other.is_before(&choice) => Some(other),
-        (None, other) => other,
-        (found, _) => found,
-    }
+    let (Some(choice), Some(another)) = (found, other) else {
+        return found.or(other);
+    };
+    Some(if another.is_before(&choice) {
+        another
+    } else {
+        choice
+    })
 }
 
 /// The greatest length of a block that begins with an event of this kind. Only a load or a mutex
 /// taken begins a longer one.
-fn block_length(kind: EventKind) -> u32 {
+fn block_length(kind: EventKind) -> usize
+    ensures { result ≤ EVENTS_AHEAD }
+{
     match kind {
-        EventKind::Load | EventKind::Lock(_) | EventKind::Wake { .. } => AHEAD,
+        EventKind::Load | EventKind::Lock(_) | EventKind::Wake { .. } => EVENTS_AHEAD,
         _ => 1,
+    }
+}
+
+/// The priority of an event, by how its block ends. A mutex isn't taken if its block can't end.
+fn rank_of(kind: EventKind, fate: Fate, is_eager: bool) -> Option<Rank> {
+    match (kind, fate) {
+        (EventKind::Lock(_) | EventKind::Wake { .. }, Fate::Stops) => None,
+        (EventKind::Load, Fate::Stops) | (_, Fate::Reads) => Some(Rank::Read),
+        (EventKind::Load, _) if is_eager => Some(Rank::Read),
+        _ => Some(Rank::Write),
     }
 }
 
 impl Run<'_> {
     /// The next choice, if some thread can do something without leaving its path.
-    pub fn choice<M: MemoryModel>(&mut self, alloc: Global) -> Result<Option<Choice>, AllocError> {
+    pub fn choice<M: MemoryModel>(&mut self) -> Result<Option<Choice>, AllocError> {
         let mut found = None;
-        for thread in 0..self.machine.threads.len() {
-            found = first(found, self.event_choice::<M>(alloc, thread)?);
-            found = first(found, self.stores_choice::<M>(alloc, thread)?);
+        for thread in ThreadNumber::all() {
+            found = first(found, self.event_choice::<M>(thread)?);
+            found = first(found, self.stores_choice::<M>(thread)?);
         }
         Ok(found)
     }
 
     /// Whether a thread can do its next event now and stay on its path.
-    pub fn can_go<M: MemoryModel>(
-        &mut self,
-        alloc: Global,
-        number: usize,
-    ) -> Result<bool, AllocError> {
-        if self.machine.drains_first(number) || !self.machine.lets(number) {
-            return Ok(false);
-        }
-        Ok(!leaves::<M>(alloc, &self.machine, &mut self.values, number)?)
+    pub fn can_go<M: MemoryModel>(&mut self, thread: ThreadNumber) -> bool {
+        let Simulation {
+            machine,
+            values,
+            ..
+        } = &mut self.simulation;
+        !machine.drains_first(thread)
+            && machine.lets(thread)
+            && !leaves::<M>(machine, values, thread)
     }
 
     /// The choice of a thread's next event, if that can be done now.
     fn event_choice<M: MemoryModel>(
         &mut self,
-        alloc: Global,
-        number: usize,
+        thread: ThreadNumber,
     ) -> Result<Option<Choice>, AllocError> {
-        if !self.can_go::<M>(alloc, number)? {
+        if !self.can_go::<M>(thread) {
             return Ok(None);
         }
-        let Some(event) = self.machine.next(number) else {
+        let Simulation {
+            machine,
+            values,
+            ..
+        } = &mut self.simulation;
+        let Some((rank, block)) = next_block::<M>(machine, values, thread, self.is_eager) else {
             return Ok(None);
         };
-        let events = block_length(event.kind);
-        let Some(block) = block_of::<M>(alloc, &self.machine, &mut self.values, number, events)?
-        else {
-            return Ok(None);
-        };
-        let Some(rank) = self.rank(event.kind, block.fate) else {
-            return Ok(None);
-        };
-        let stuck = if rank == Rank::Read {
-            self.stuck_after_read::<M>(alloc, number)?
-        } else {
-            self.stuck_then::<M>(alloc, number, block.at, Vec::new(alloc), &block.written)?
-        };
-        Ok(Some(Choice {
-            rank,
-            stuck,
-            share: self.machine.share(number),
-            thread: number,
-            store: None,
-        }))
-    }
-
-    /// The number of stuck threads after a thread's next event, which writes nothing.
-    fn stuck_after_read<M: MemoryModel>(
-        &mut self,
-        alloc: Global,
-        number: usize,
-    ) -> Result<usize, AllocError> {
-        match block_of::<M>(alloc, &self.machine, &mut self.values, number, 1)? {
-            Some(read) => {
-                let pending = self.machine.pending(number).to_vec(alloc)?;
-                self.stuck_then::<M>(alloc, number, read.at, pending, &Written::new(alloc))
-            }
-            None => Ok(0),
-        }
-    }
-
-    /// The priority of an event, by how its block ends. A mutex isn't taken if its block can't end.
-    fn rank(&self, kind: EventKind, fate: Fate) -> Option<Rank> {
-        match (kind, fate) {
-            (EventKind::Lock(_) | EventKind::Wake { .. }, Fate::Stops) => None,
-            (EventKind::Load, _) if self.is_eager => Some(Rank::Read),
-            (EventKind::Load, Fate::Stops) => Some(Rank::Read),
-            (_, Fate::Reads) => Some(Rank::Read),
-            _ => Some(Rank::Write),
-        }
+        let after = block.done_in(machine, rank == Rank::Write)?;
+        Ok(Some(self.weighed::<M>(rank, thread, None, &after)))
     }
 
     /// The best drain of a thread's pending stores; of equal ones the newest.
     fn stores_choice<M: MemoryModel>(
         &mut self,
-        alloc: Global,
-        number: usize,
+        thread: ThreadNumber,
     ) -> Result<Option<Choice>, AllocError> {
         let mut found = None;
-        for store in (0..self.machine.pending(number).len()).rev() {
-            found = first(found, self.store_choice::<M>(alloc, number, store)?);
+        for number in (0..self.simulation.machine.stores().len()).rev() {
+            if let Some(store) = self.simulation.machine.drainable::<M>(thread, number) {
+                found = first(found, Some(self.store_choice::<M>(thread, store)?));
+            }
         }
         Ok(found)
     }
 
-    /// The choice to drain a pending store of a thread, if it may drain.
+    /// The choice to drain a pending store of a thread.
     fn store_choice<M: MemoryModel>(
         &mut self,
-        alloc: Global,
-        number: usize,
-        store: usize,
-    ) -> Result<Option<Choice>, AllocError> {
-        let mut pending = self.machine.pending(number).to_vec(alloc)?;
-        let (Some(drained), Some(at)) = (
-            drainable::<M>(&pending, store),
-            self.machine.place(number),
-        ) else {
-            return Ok(None);
+        thread: ThreadNumber,
+        store: Pending,
+    ) -> Result<Choice, AllocError> {
+        let machine = &self.simulation.machine;
+        let rank = if machine.drains_first(thread) {
+            Rank::Write
+        } else {
+            Rank::Spare
         };
-        if store < pending.len() {
-            pending.remove(store);
-        }
-        let mut written = Written::new(alloc);
-        written.push(drained.cell, Some(drained.value))?;
-        Ok(Some(Choice {
-            rank: if self.machine.drains_first(number) {
-                Rank::Write
-            } else {
-                Rank::Spare
-            },
-            stuck: self.stuck_then::<M>(alloc, number, at, pending, &written)?,
-            share: self.machine.share(number),
-            thread: number,
-            store: Some(store),
-        }))
+        let mut after = machine.clone()?;
+        after.drain(&store);
+        Ok(self.weighed::<M>(rank, thread, Some(store), &after))
     }
 
-    /// The number of stuck threads once a thread is at this place, with these pending stores and
-    /// writes.
-    fn stuck_then<M: MemoryModel>(
+    /// A choice, after which the machine is this one.
+    fn weighed<M: MemoryModel>(
         &mut self,
-        alloc: Global,
-        number: usize,
-        at: Place,
-        pending: Vec<Pending>,
-        written: &Written,
-    ) -> Result<usize, AllocError> {
-        let before = self.machine.go_ahead(alloc, number, at, pending, written)?;
+        rank: Rank,
+        thread: ThreadNumber,
+        store: Option<Pending>,
+        after: &Machine,
+    ) -> Choice {
         let near = self.near();
-        let stuck = count_stuck::<M>(alloc, &self.machine, &mut self.values, near)?;
-        self.machine.go_back(before);
-        Ok(stuck)
+        Choice {
+            rank,
+            stuck: count_stuck::<M>(after, &mut self.simulation.values, near),
+            share: self.simulation.machine.share(thread),
+            thread,
+            store,
+        }
+    }
+}
+
+/// What a thread does next, with its priority, if it does anything: its block, or the first event
+/// of that if it only reads.
+fn next_block<M: MemoryModel>(
+    machine: &Machine,
+    values: &mut Values,
+    thread: ThreadNumber,
+    is_eager: bool,
+) -> Option<(Rank, Ahead)> {
+    let kind = machine.next(thread)?.kind;
+    let (fate, block) = block_of::<M>(machine, values, thread, block_length(kind));
+    match rank_of(kind, fate, is_eager)? {
+        Rank::Read => Some((Rank::Read, block_of::<M>(machine, values, thread, 1).1)),
+        rank => Some((rank, block)),
     }
 }

@@ -4,18 +4,16 @@
 //! went on alone, and no step is taken back. If no thread can go on along its path, one leaves it:
 //! its path goes on as logged, and its loads take the values that are there. So the run proves
 //! nothing: if it isn't a run of the log, it only costs the search time.
+//!
+//! This crate decides; `run_simulation` does what it decides.
 #![tactic(auto)]
 
 mod ahead;
 mod block;
 mod choice;
-mod machine;
 mod run;
 mod stuck;
-mod thread;
-mod told;
-mod values;
+mod tuned;
 mod world;
-mod written;
 
 pub use world::first_world;

@@ -1,124 +1,101 @@
 //! Which threads are stuck.
 
-use crate::ahead::{Ahead, Pace, Reads};
-use crate::machine::Machine;
-use crate::values::Values;
-use crate::written::Written;
-use std::alloc::{AllocError, Global};
+use crate::ahead::{Ahead, Reads, is_later};
+use run_simulation::{Machine, ThreadNumber, Values};
 use store_buffers::MemoryModel;
-
-/// What a thread does if it goes on alone.
-#[derive(Drop)]
-struct Trip {
-    /// The number of events after which it leaves its path, if it does.
-    leaves: Option<u32>,
-    /// The number of its reads up to there, and the cell of the last.
-    reads: u32,
-    last: Option<u32>,
-    written: Written,
-}
+use tc_limits::limits::THREADS;
 
 /// How many threads are stuck. A thread is stuck under three conditions: the machine lets it go on;
 /// it leaves its path within `near` events if it goes on alone; and no value that another thread is
 /// about to write to the cell that it read last keeps it on its path there.
 pub(crate) fn count_stuck<M: MemoryModel>(
-    alloc: Global,
     machine: &Machine,
     values: &mut Values,
-    near: u32,
-) -> Result<usize, AllocError> {
-    let mut trips = Vec::new(alloc);
-    for number in 0..machine.threads.len() {
-        trips.push(trip_of::<M>(alloc, machine, values, number, Reads::Now)?)?;
+    near: usize,
+) -> usize {
+    let all = all_ahead::<M>(machine, values);
+    let mut stuck = [false; THREADS];
+    for thread in ThreadNumber::all() {
+        let own = &all[thread.index()];
+        stuck[thread.index()] = leaves_soon(machine, own, near)
+            && !is_kept::<M>(machine, values, &all, own);
     }
-    let mut count: usize = 0;
-    for number in 0..machine.threads.len() {
-        if is_stuck::<M>(alloc, machine, values, &trips, number, near)? {
-            count = count.saturating_add(1);
-        }
-    }
-    Ok(count)
+    stuck.iter().filter(|found| **found).count()
 }
 
-/// What a thread does if it goes on alone, if it has begun.
-fn trip_of<M: MemoryModel>(
-    alloc: Global,
-    machine: &Machine,
-    values: &mut Values,
-    number: usize,
-    taken: Reads,
-) -> Result<Option<Trip>, AllocError> {
-    let Some(mut ahead) = Ahead::new(alloc, machine, number, taken)? else {
-        return Ok(None);
-    };
-    let pace = ahead.run::<M>(values)?;
-    Ok(Some(Trip {
-        leaves: if pace == Pace::Leave {
-            Some(ahead.events)
-        } else {
-            None
-        },
-        reads: ahead.reads,
-        last: ahead.last,
-        written: ahead.written,
-    }))
+/// Runs ahead with each thread.
+fn all_ahead<M: MemoryModel>(machine: &Machine, values: &mut Values) -> [Ahead; THREADS] {
+    let mut all = [Ahead::new(machine, ThreadNumber::new(0), Reads::Now); THREADS];
+    for thread in ThreadNumber::all() {
+        all[thread.index()] = Ahead::run::<M>(machine, values, thread, Reads::Now);
+    }
+    all
 }
 
-/// Whether a thread is stuck.
-fn is_stuck<M: MemoryModel>(
-    alloc: Global,
-    machine: &Machine,
-    values: &mut Values,
-    trips: &[Option<Trip>],
-    number: usize,
-    near: u32,
-) -> Result<bool, AllocError> {
-    let Some(Some(own)) = trips.get(number) else {
-        return Ok(false);
-    };
-    if !machine.lets(number) || !own.leaves.is_some_and(|events| events <= near) {
-        return Ok(false);
+/// Whether a thread can go on and leaves its path within `near` events, one of which reads.
+fn leaves_soon(machine: &Machine, own: &Ahead, near: usize) -> bool {
+    match own.left {
+        Some(event) => event < near && own.last.is_some() && machine.lets(own.thread),
+        None => false,
     }
-    for (other, trip) in trips.iter().enumerate() {
-        if let Some(trip) = trip {
-            if other != number && is_kept::<M>(alloc, machine, values, number, own, trip)? {
-                return Ok(false);
-            }
-        }
-    }
-    Ok(own.last.is_some())
 }
 
-/// Whether a thread stays on its path for longer if its last read takes a value that another thread
-/// is about to write there.
+/// Whether a pending store of another thread, or a write ahead of it, keeps a thread on its path
+/// for longer.
 fn is_kept<M: MemoryModel>(
-    alloc: Global,
     machine: &Machine,
     values: &mut Values,
-    number: usize,
-    own: &Trip,
-    other: &Trip,
-) -> Result<bool, AllocError> {
-    for (cell, value) in other.written.as_slice() {
-        if let (true, Some(value)) = (own.last == Some(*cell), value) {
-            let taken = Reads::Instead {
-                read: own.reads,
-                value: *value,
-            };
-            if let Some(trip) = trip_of::<M>(alloc, machine, values, number, taken)? {
-                if is_later(trip.leaves, own.leaves) {
-                    return Ok(true);
-                }
+    all: &[Ahead],
+    own: &Ahead,
+) -> bool {
+    for store in machine.stores() {
+        if !store.is_of(own.thread)
+            && stays_with::<M>(machine, values, own, store.cell, Some(store.value))
+        {
+            return true;
+        }
+    }
+    for other in all {
+        if other.thread != own.thread && is_kept_by::<M>(machine, values, other, own) {
+            return true;
+        }
+    }
+    false
+}
+
+/// Whether a write ahead of another thread keeps a thread on its path for longer.
+fn is_kept_by<M: MemoryModel>(
+    machine: &Machine,
+    values: &mut Values,
+    other: &Ahead,
+    own: &Ahead,
+) -> bool {
+    for write in other.writes.iter() {
+        if let Some(write) = write {
+            if stays_with::<M>(machine, values, own, write.cell, write.value) {
+                return true;
             }
         }
     }
-    Ok(false)
+    false
 }
 
-/// Whether a thread leaves its path after more events than these, or not at all.
-fn is_later(leaves: Option<u32>, events: Option<u32>) -> bool {
-    match (leaves, events) {
-        (Some(leaves), Some(events)) => leaves > events,
-        (leaves, _) => leaves.is_none(),
+/// Whether a thread stays on its path for longer if its last read finds this value in this cell.
+fn stays_with<M: MemoryModel>(
+    machine: &Machine,
+    values: &mut Values,
+    own: &Ahead,
+    cell: u32,
+    value: Option<i32>,
+) -> bool {
+    let (Some(last), Some(value)) = (own.last, value) else {
+        return false;
+    };
+    if cell != last.cell {
+        return false;
     }
+    let event = last.event;
+    let reads = Reads::Instead { event, value };
+    let ahead = Ahead::run::<M>(machine, values, own.thread, reads);
+    is_later(ahead.left, own.left)
 }

@@ -3,18 +3,16 @@ ghost use Rattle.std.specs.Prelude.{◌≡◌, ◌≤◌, length, IfOk};
 ghost use Rattle.tc_code.specs.tc_limits.declared.limits.TheConstants.{EVENTS};
 ghost use Rattle.order_events.specs.lawful_order.Events.{all_events, all_sleeps};
 
-use crate::machine::Machine;
 use crate::run::Run;
-use crate::told::Told;
-use crate::values::Values;
 use bit_ranks::ranks;
+use lawful_order::Placed;
 use order_events::{Events, Sleeps};
 use order_formula::World;
-use path_walk::Paths;
+use path_execution::Execution;
+use path_walk::{Event, Sleep};
+use run_simulation::{Deed, Simulation};
 use std::alloc::{AllocError, Global};
 use store_buffers::MemoryModel;
-use sym_exec::Symbolic;
-use sym_terms::Terms;
 use tc_code::Code;
 
 /// The world of one run along the paths of a log: positions, values and enders for a search for a
@@ -26,40 +24,43 @@ use tc_code::Code;
 pub fn first_world<M: MemoryModel>(
     alloc: Global,
     code: &Code,
-    paths: &Paths,
-    symbolic: &Symbolic,
-    terms: &Terms,
+    execution: &Execution,
 ) -> Result<World, AllocError>
-    requires { length (all_events paths.now) ≤ EVENTS }
-    ensures positions { IfOk result (λ world. length world.positions ≡ length (all_events paths.now)) }
-    ensures loads { IfOk result (λ world. length world.loads ≡ symbolic.now.loads) }
-    ensures enders { IfOk result (λ world. length world.enders ≡ length (all_sleeps paths.now)) }
+    requires { length (all_events execution.now.paths) ≤ EVENTS }
+    ensures positions { IfOk result (λ world. length world.positions ≡ length (all_events execution.now.paths)) }
+    ensures loads { IfOk result (λ world. length world.loads ≡ execution.now.symbolic.loads) }
+    ensures enders { IfOk result (λ world. length world.enders ≡ length (all_sleeps execution.now.paths)) }
 {
-    let events = Events::of(alloc, paths)?;
-    let sleeps = Sleeps::of(alloc, paths)?;
-    let sleeps = sleeps.all().len();
-    let run = further::<M>(alloc, code, paths, symbolic, terms, sleeps)?;
-    world_of(alloc, &run, events.all().len(), symbolic.loads(), sleeps)
+    let events = Events::of(alloc, &execution.paths)?;
+    let sleeps = Sleeps::of(alloc, &execution.paths)?;
+    let run = further::<M>(alloc, code, execution)?;
+    world_of(
+        alloc,
+        &run.simulation,
+        &events,
+        &sleeps,
+        execution.symbolic.loads(),
+    )
 }
 
-/// The world of a run, with this number of events, loads and sleeps.
+/// The world of what was done, with values of this number of loads.
 fn world_of(
     alloc: Global,
-    run: &Run,
-    events: usize,
+    done: &Simulation,
+    events: &Events,
+    sleeps: &Sleeps,
     loads: u32,
-    sleeps: usize,
 ) -> Result<World, AllocError>
-    requires { events ≤ EVENTS }
-    ensures positions { IfOk result (λ world. length world.positions ≡ events) }
+    requires { length events.now ≤ EVENTS }
+    ensures positions { IfOk result (λ world. length world.positions ≡ length events.now) }
     ensures loads { IfOk result (λ world. length world.loads ≡ loads) }
-    ensures enders { IfOk result (λ world. length world.enders ≡ sleeps) }
+    ensures enders { IfOk result (λ world. length world.enders ≡ length sleeps.now) }
 {
-    let times = times(alloc, &run.told, events)?;
+    let times = times(alloc, done, events)?;
     Ok(World::new(
         ranks(alloc, &times)?,
-        values_of(alloc, &run.values, loads)?,
-        enders(alloc, &run.told, sleeps)?,
+        values_of(alloc, done, loads)?,
+        enders(alloc, done, events, sleeps)?,
     ))
 }
 
@@ -68,16 +69,13 @@ fn world_of(
 fn further<'a, M: MemoryModel>(
     alloc: Global,
     code: &Code,
-    paths: &'a Paths,
-    symbolic: &'a Symbolic,
-    terms: &'a Terms,
-    sleeps: usize,
+    execution: &'a Execution,
 ) -> Result<Run<'a>, AllocError> {
-    let careful = run::<M>(alloc, code, paths, symbolic, terms, sleeps, false)?;
+    let careful = Run::new::<M>(alloc, code, execution, false)?;
     if careful.is_whole() {
         return Ok(careful);
     }
-    let eager = run::<M>(alloc, code, paths, symbolic, terms, sleeps, true)?;
+    let eager = Run::new::<M>(alloc, code, execution, true)?;
     Ok(if eager.is_further(&careful) {
         eager
     } else {
@@ -85,47 +83,55 @@ fn further<'a, M: MemoryModel>(
     })
 }
 
-/// A run from beginning to end.
-fn run<'a, M: MemoryModel>(
-    alloc: Global,
-    code: &Code,
-    paths: &'a Paths,
-    symbolic: &'a Symbolic,
-    terms: &'a Terms,
-    sleeps: usize,
-    is_eager: bool,
-) -> Result<Run<'a>, AllocError> {
-    let events = paths.events();
-    let mut run = Run::new(
-        Machine::new(alloc, code, paths, symbolic)?,
-        Values::new(alloc, terms, symbolic.loads())?,
-        Told::new(alloc, events, sleeps)?,
-        is_eager,
-    );
-    // Each step does an event, or a store that was issued before reaches memory.
-    run.go_on::<M>(alloc, events.saturating_mul(2))?;
-    Ok(run)
-}
-
 /// The time of each event.
-fn times(alloc: Global, told: &Told, events: usize) -> Result<Vec<u8>, AllocError>
-    ensures { IfOk result (λ v. length v.items ≡ events) }
+fn times(alloc: Global, done: &Simulation, events: &Events) -> Result<Vec<u8>, AllocError>
+    ensures { IfOk result (λ v. length v.items ≡ length events.now) }
 {
-    (0..events).map(|event| told.time(event)).collect(alloc)
+    events
+        .all()
+        .iter()
+        .map(|placed| time(done, placed))
+        .collect(alloc)
 }
 
-/// The value that each load took.
-fn values_of(alloc: Global, values: &Values, loads: u32) -> Result<Vec<i32>, AllocError>
+/// The time of an event.
+fn time(done: &Simulation, placed: &Placed<Event>) -> u8 {
+    done.time(Deed {
+        thread: placed.thread,
+        step: placed.it.step,
+    })
+}
+
+/// The value that each load took; 0 if it took none.
+fn values_of(alloc: Global, done: &Simulation, loads: u32) -> Result<Vec<i32>, AllocError>
     ensures { IfOk result (λ v. length v.items ≡ loads) }
 {
     (0..loads)
-        .map(|load| values.load(load as usize).unwrap_or(0))
+        .map(|load| done.values.load(load).unwrap_or(0))
         .collect(alloc)
 }
 
 /// The event that ended each sleep.
-fn enders(alloc: Global, told: &Told, sleeps: usize) -> Result<Vec<Option<u32>>, AllocError>
-    ensures { IfOk result (λ v. length v.items ≡ sleeps) }
+fn enders(
+    alloc: Global,
+    done: &Simulation,
+    events: &Events,
+    sleeps: &Sleeps,
+) -> Result<Vec<Option<u32>>, AllocError>
+    ensures { IfOk result (λ v. length v.items ≡ length sleeps.now) }
 {
-    (0..sleeps).map(|sleep| told.ender(sleep)).collect(alloc)
+    sleeps
+        .all()
+        .iter()
+        .map(|placed| ender(done, events, placed))
+        .collect(alloc)
+}
+
+/// The number of the event that ended a sleep, if one did.
+fn ender(done: &Simulation, events: &Events, placed: &Placed<Sleep>) -> Option<u32> {
+    let by = done.ender(Deed {
+        thread: placed.thread,
+        step: placed.it.step,
+    })?;
+    Some(events.number(by.thread, by.step))
 }

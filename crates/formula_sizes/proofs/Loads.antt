@@ -13,7 +13,7 @@ use Rattle.clap_system.specs.sym_exec.Executed.{Symbolic}
 use Rattle.clap_system.specs.sym_exec.declared.symbolic.Access.{Access}
 use Rattle.bit_blast.specs.order_formula.declared.formula.Conjunct.{Conjunct}
 use Rattle.clap_system.specs.lawful_order.Cells.{value_at_start}
-use Rattle.clap_system.specs.lawful_order.Events.{Of, all_events}
+use Rattle.clap_system.specs.lawful_order.Events.{Placed, all_events}
 use Rattle.clap_system.specs.order_cells.Same.{same_test}
 use Rattle.clap_system.specs.read_write.Accesses.{all_accesses}
 use Rattle.clap_system.specs.read_write.Reading.{may_be_seen, test_of, needs_of, read_needs, candidate_of, conjunct_of, read_formula}
@@ -30,8 +30,8 @@ filter_map_few {Y} f (x ∷ xs) = by (f x) (filter_map_few f xs)
     by None rest = omega (arith, rest)
     by (Some y) rest = omega (arith, rest)
 
-module _ (nodes : List Node) (load : Of Access) where
-  seen_size : (b : Of Access) → terms_size (option_to_list (test_of nodes load b)) ≤ 224
+module _ (nodes : List Node) (load : Placed Access) where
+  seen_size : (b : Placed Access) → terms_size (option_to_list (test_of nodes load b)) ≤ 224
   seen_size b = by (may_be_seen nodes load b) b.it.writes
     where
       by : (s : Bool) (o : Option ℕ) → terms_size (option_to_list (if s then option_and_then (λ _. same_test nodes b.it.cell load.it.cell) o else None)) ≤ 224
@@ -39,10 +39,10 @@ module _ (nodes : List Node) (load : Of Access) where
       by true None = omega arith
       by false o = omega arith
 
-  test_is : (b : Of Access) (n : Node) → test_of nodes load b ≡ Some n → node_size n ≤ 224
+  test_is : (b : Placed Access) (n : Node) → test_of nodes load b ≡ Some n → node_size n ≤ 224
   test_is b n e = let h = subst (λ o. terms_size (option_to_list o) ≤ 224) e (seen_size b) in omega (arith, h, sum_by-cons node_size n [])
 
-  module _ (code : Code) (accesses : List (Of Access)) where
+  module _ (code : Code) (accesses : List (Placed Access)) where
     load_needs_size : (number : ℕ) → terms_size (needs_of code accesses nodes load number) ≤ length accesses * 224
     load_needs_size number =
         let first : Node = Constant (value_at_start code load.it.cell) in
@@ -66,21 +66,21 @@ pub read_needs_size : (code : Code) (symbolic : Symbolic) (nodes : List Node)
 read_needs_size code symbolic nodes =
     let accesses = all_accesses symbolic in
     let n : ℕ = length accesses in
-    let h = of_flat node_size (λ (a : Of Access). option_map_or (needs_of code accesses nodes a) a.it.takes []) (n * 224) accesses
+    let h = of_flat node_size (λ (a : Placed Access). option_map_or (needs_of code accesses nodes a) a.it.takes []) (n * 224) accesses
     (λ a. access_needs_size nodes a code accesses) in
     omega (arith, h, regroup n n 224)
 
 pub read_more : (c n : ℕ) → c ≤ n → read_size c ≤ read_size n
 read_more c n few = times_le (c + 1) (c + 170) (n + 1) (n + 170) (omega (arith, few)) (omega (arith, few))
 
-module _ (code : Code) (events : List (Of Event)) (accesses : List (Of Access)) (nodes : List Node) where
-  load_size : (load : Of Access) (number : ℕ) → conjunct_size (conjunct_of code events accesses nodes load number) ≤ read_size (length accesses) + 1
+module _ (code : Code) (events : List (Placed Event)) (accesses : List (Placed Access)) (nodes : List Node) where
+  load_size : (load : Placed Access) (number : ℕ) → conjunct_size (conjunct_of code events accesses nodes load number) ≤ read_size (length accesses) + 1
   load_size load number =
       let candidates = filter_map (candidate_of events nodes load) accesses in
       let h = read_more (length candidates) (length accesses) (filter_map_few (candidate_of events nodes load) accesses) in
       omega (arith, h)
 
-  one_size : (load : Of Access) (c : Conjunct) → option_map (conjunct_of code events accesses nodes load) load.it.takes ≡ Some c
+  one_size : (load : Placed Access) (c : Conjunct) → option_map (conjunct_of code events accesses nodes load) load.it.takes ≡ Some c
       → conjunct_size c ≤ read_size (length accesses) + 1
   one_size load c e = by load.it.takes e
     where
@@ -94,5 +94,5 @@ pub read_formula_size : (code : Code) (paths : Paths) (symbolic : Symbolic) (nod
     → size_of (read_formula code paths symbolic nodes) ≤ length (all_accesses symbolic) * (read_size (length (all_accesses symbolic)) + 1)
 read_formula_size code paths symbolic nodes =
     let accesses = all_accesses symbolic in
-    of_filter_map conjunct_size (λ (a : Of Access). option_map (conjunct_of code (all_events paths) accesses nodes a) a.it.takes)
+    of_filter_map conjunct_size (λ (a : Placed Access). option_map (conjunct_of code (all_events paths) accesses nodes a) a.it.takes)
     (read_size (length accesses) + 1) accesses (one_size code (all_events paths) accesses nodes)

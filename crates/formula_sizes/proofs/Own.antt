@@ -15,7 +15,7 @@ use Rattle.clap_system.specs.sym_exec.declared.symbolic.Cell.{Cell}
 use Rattle.clap_system.specs.sym_exec.declared.symbolic.Cell.TheVariants.{Fixed, Element}
 use Rattle.bit_blast.specs.order_formula.declared.formula.Conjunct.{Conjunct}
 use Rattle.bit_blast.specs.order_formula.declared.group.Group.TheVariants.{Own}
-use Rattle.clap_system.specs.lawful_order.Events.{Of, all_events}
+use Rattle.clap_system.specs.lawful_order.Events.{Placed, all_events}
 use Rattle.clap_system.specs.order_cells.Same.{known_same, same_test}
 use Rattle.clap_system.specs.order_events.Parts.{of_each, one_of}
 use Rattle.clap_system.specs.memory_order.Own.{keeps, cells_of, is_kept_next, kept_test, two_tests, thread_tests, own_needs, fails, in_order}
@@ -69,7 +69,7 @@ module _ (buffered : Bool) (bound : Binding) (symbolic : Symbolic) (nodes : List
       by None = omega arith
       by (Some x) = omega arith
 
-  module _ (events : List (Of Event)) where
+  module _ (events : List (Placed Event)) where
     next_size : (p : Two Event) → size_of (next_formula buffered bound events symbolic nodes t p) ≤ 7
     next_size p = by (is_kept_next buffered bound symbolic nodes t p)
       where
@@ -102,14 +102,14 @@ module _ (buffered : Bool) (bound : Binding) (symbolic : Symbolic) (nodes : List
       let h = of_flat node_size (two_tests buffered bound symbolic nodes t) 224 (twos q.events) tests_size in
       omega (arith, h, twos_few q.events)
 
-failing_size : (buffered : Bool) (events : List (Of Event)) → size_of (failing_formula buffered events) ≤ length events * length events * 7
+failing_size : (buffered : Bool) (events : List (Placed Event)) → size_of (failing_formula buffered events) ≤ length events * length events * 7
 failing_size buffered events =
     let n : ℕ = length events in
-    let ends = filter (λ (f : Of Event). is_failing f.it.kind) events in
+    let ends = filter (λ (f : Placed Event). is_failing f.it.kind) events in
     let others = filter (is_before_failing buffered) events in
-    let each : (x : Of Event) → size_of (map (before_failing events x) ends) ≤ n * 7 =
+    let each : (x : Placed Event) → size_of (map (before_failing events x) ends) ≤ n * 7 =
     λ x. let h = of_map conjunct_size (before_failing events x) 7 ends (λ f. omega arith) in
-    omega (arith, h, filter_few (λ (f : Of Event). is_failing f.it.kind) events) in
+    omega (arith, h, filter_few (λ (f : Placed Event). is_failing f.it.kind) events) in
     let h = of_flat conjunct_size (λ x. map (before_failing events x) ends) (n * 7) others each in
     let m = times_le (length others) n n n (filter_few (is_before_failing buffered) events) (omega arith) in
     omega (arith, h, regroup (length others) n 7, m)

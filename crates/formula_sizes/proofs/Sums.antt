@@ -6,7 +6,7 @@ use Rattle.std.proofs.Math.Nat.{add-mul, mul_assoc, mul-le-mul}
 use Rattle.std.proofs.lemmas.List.{length-append, length-map}
 use Rattle.std.proofs.lemmas.List.Elements.{All-cons, All-head, All-nil, All-tail, All-weaker}
 use Rattle.std.proofs.lemmas.List.Sums.{sum_by-append, sum_by-cons}
-use Rattle.clap_system.specs.lawful_order.Events.{all_from}
+use Rattle.clap_system.specs.lawful_order.Events.{placed_in, all_from}
 use Rattle.clap_system.specs.order_events.Parts.{of_each}
 
 pub times_le : (a b c d : ℕ) → a ≤ c → b ≤ d → a * b ≤ c * d
@@ -117,6 +117,6 @@ module _ {X : Type 0} where
 pub length_all : {W X : Type 0} (has : W → List X) (t : ℕ) (ws : List W) → length (all_from has t ws) ≡ sum_by (λ w. length (has w)) ws
 length_all has t [] = refl
 length_all has t (w ∷ ws) =
-    length-append (map (λ x. record { thread = t; it = x }) (has w)) (all_from has (t + 1) ws)
+    length-append (placed_in t (has w)) (all_from has (t + 1) ws)
     ∙ ap (λ n. n + length (all_from has (t + 1) ws)) (length-map (has w) (λ x. record { thread = t; it = x }))
     ∙ ap (λ n. length (has w) + n) (length_all has (t + 1) ws) ∙ sym (sum_by-cons (λ v. length (has v)) w ws)

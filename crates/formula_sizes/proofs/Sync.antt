@@ -10,7 +10,7 @@ use Rattle.clap_system.specs.path_walk.declared.event.Link.{Link}
 use Rattle.clap_system.specs.path_walk.declared.event.Region.{Region}
 use Rattle.bit_blast.specs.order_formula.declared.formula.Conjunct.{Conjunct}
 use Rattle.bit_blast.specs.order_formula.declared.literal.Literal.{Literal}
-use Rattle.clap_system.specs.lawful_order.Events.{Of, all_events, all_sleeps}
+use Rattle.clap_system.specs.lawful_order.Events.{Placed, all_events, all_sleeps}
 use Rattle.clap_system.specs.sync_order.Children.{is_child, is_exit, created_before, exit_before, exited_before, create_conjuncts, join_conjuncts, links_formula, children_formula}
 use Rattle.clap_system.specs.sync_order.Mutexes.{of_pairs, exclude, release_literal, excludes, exclusive, all_regions, mutexes_formula}
 use Rattle.bit_blast.specs.Sizes.{literal_size, case_size, size_of}
@@ -109,7 +109,7 @@ module _ (paths : Paths) (few : All HasFew paths.threads) where
       let both = sum_by-append conjunct_size (flat_map (f x) xs) (of_pairs f xs) in
       omega (arith, here, pairs_size f m xs small, both, pairs_more (length xs) m)
 
-  exclusive_size : (r s : Of Region) → size_of (exclusive (all_events paths) r s) ≤ 13
+  exclusive_size : (r s : Placed Region) → size_of (exclusive (all_events paths) r s) ≤ 13
   exclusive_size r s = by (exclude r s)
     where
       literals : (o p : Option ℕ)

@@ -2,7 +2,6 @@
 use Rattle.std.proofs.Common.{◌≡◌, ℕ, ◌+◌, ◌*◌, ◌≤◌, ℤ, pos, List, [], ◌∷◌, ◌++◌, fold, length, map, Bool, true, false, cond, Option, Some, None, refl, ap, arith, sum_by}
 use Rattle.std.specs.Prelude.{sum, unwrap_or}
 use Rattle.std.specs.List.{list_any}
-use Rattle.std.specs.Option.{option_map_or}
 use Rattle.std.proofs.lemmas.List.{length_push}
 use Rattle.std.proofs.lemmas.List.Sums.{sum_by-append, sum_by-cons}
 use Rattle.switch_order.specs.int_ops.declared.arith.UnOp.{UnOp}
@@ -21,10 +20,11 @@ use Rattle.bit_blast.specs.sym_terms.Terms.{same_node, with_node}
 use Rattle.bit_blast.specs.sym_terms.declared.node.Node.{Node}
 use Rattle.bit_blast.specs.sym_terms.declared.node.Node.TheVariants.{Constant, Symbol, Unary, Binary}
 use Rattle.clap_system.specs.sym_exec.Making.{Made, AllMade, term_of_node, expr_term, with_expr, range_test, last_index, replaced_term}
-use Rattle.clap_system.specs.sym_exec.Thread.{Doing, term_in, with_term, symbol_in, after_instr, wanted_of, after_step, after_all}
+use Rattle.clap_system.specs.sym_exec.Thread.{Doing, term_in, with_term, symbol_in, after_instr, wanted_of, after_step, after_all, Route, route_of}
 use Rattle.clap_system.specs.sym_exec.Executed.{Course, Executed, fails_at, thread_started, thread_done, with_thread, nothing, executed}
 use Rattle.clap_system.specs.sym_exec.declared.symbolic.Test.{Test}
 use Rattle.clap_system.specs.sym_exec.declared.symbolic.Access.{Access}
+use Rattle.clap_system.proofs.sym_exec.Sound.{stepped_by}
 use Rattle.bit_blast.specs.bit_ops.Sizes.{unary_size, binary_size}
 use Rattle.bit_blast.specs.bit_terms.Sizes.{node_size, terms_size}
 
@@ -222,28 +222,27 @@ operators_at code f places = sum (map (λ s. operators_of s.instr) (steps_at cod
 abbrev pub cells_at : Code → ℕ → List ℕ → ℕ
 cells_at code f places = sum_by (λ s. cells_of s.instr) (steps_at code f places)
 
-module _ (code : Code) (f : ℕ) (outcomes : List Bool) (fails : Option ℕ) where
-  step_adds : (d : Doing) (place : ℕ) → IsLarger (operators_of (step_at code f place).instr) 1 (cells_of (step_at code f place).instr) d (after_step code f outcomes fails d place)
-  step_adds d place = by (instr_at code f place)
+module _ (r : Route) where
+  step_adds : (d : Doing) (place : ℕ) → IsLarger (operators_of (step_at r.code r.function place).instr) 1 (cells_of (step_at r.code r.function place).instr) d (after_step r d place)
+  step_adds d place = by (instr_at r.code r.function place)
     where
-      by : (o : Option Instr) → IsLarger (operators_of (unwrap_or o Exit)) 1 (cells_of (unwrap_or o Exit)) d (option_map_or (λ i.
-          record (after_instr (unwrap_or (line_at code f place) 0) (wanted_of outcomes fails d i) d i) { steps = d.steps + 1 }) o d)
+      by : (o : Option Instr) → IsLarger (operators_of (unwrap_or o Exit)) 1 (cells_of (unwrap_or o Exit)) d (stepped_by r d place o)
       by None = making_adds 0 d d (omega arith) refl refl refl
       by (Some i) =
-          let h = instr_adds (unwrap_or (line_at code f place) 0) (wanted_of outcomes fails d i) d i in
+          let h = instr_adds (unwrap_or (line_at r.code r.function place) 0) (wanted_of r.outcomes r.fails d i) d i in
           record { nodes = h.nodes; tests = h.tests; loads = h.loads; accesses = h.accesses }
 
   pub steps_add : (places : List ℕ) (d : Doing)
-      → IsLarger (operators_at code f places) (length places) (cells_at code f places) d (after_all code f outcomes fails d places)
+      → IsLarger (operators_at r.code r.function places) (length places) (cells_at r.code r.function places) d (after_all r d places)
   steps_add [] d = record { nodes = omega arith; tests = omega arith; loads = omega arith; accesses = omega arith }
   steps_add (place ∷ places) d =
-      let here : ℕ = operators_of (step_at code f place).instr in
-      let cell : ℕ = cells_of (step_at code f place).instr in
-      let next : Doing = after_step code f outcomes fails d place in
-      let h = larger_both here (operators_at code f places) 1 (length places) cell (cells_at code f places) d next
-      (after_all code f outcomes fails next places) (step_adds d place) (steps_add places next) in
-      let all = sum_by-cons (λ n. n) here (map (λ s. operators_of s.instr) (steps_at code f places)) in
-      let taken = sum_by-cons (λ s. cells_of s.instr) (step_at code f place) (steps_at code f places) in
+      let here : ℕ = operators_of (step_at r.code r.function place).instr in
+      let cell : ℕ = cells_of (step_at r.code r.function place).instr in
+      let next : Doing = after_step r d place in
+      let h = larger_both here (operators_at r.code r.function places) 1 (length places) cell (cells_at r.code r.function places) d next
+      (after_all r next places) (step_adds d place) (steps_add places next) in
+      let all = sum_by-cons (λ n. n) here (map (λ s. operators_of s.instr) (steps_at r.code r.function places)) in
+      let taken = sum_by-cons (λ s. cells_of s.instr) (step_at r.code r.function place) (steps_at r.code r.function places) in
       record {
         nodes = omega (arith, h.nodes, all);
         tests = omega (arith, h.tests);
@@ -280,7 +279,7 @@ module _ (code : Code) (paths : Paths) where
   thread_adds x w =
       let first : Doing = thread_started code x w in
       let last : Doing = thread_done code paths x w in
-      let h = steps_add code w.function w.outcomes (fails_at paths (length x.symbolic.threads) w) w.places first in
+      let h = steps_add (route_of code w (fails_at paths (length x.symbolic.threads) w)) w.places first in
       let zero = with_size x.nodes (Constant (pos 0)) in
       let own : Course = record { name = w.name; tests = last.tests; accesses = last.accesses; creates = last.creates } in
       let tests = sum_by-append (λ (c : Course). length c.tests) x.symbolic.threads (own ∷ []) in

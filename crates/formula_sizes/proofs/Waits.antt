@@ -12,7 +12,7 @@ use Rattle.clap_system.specs.path_walk.declared.event.Blocked.TheVariants.{Lock,
 use Rattle.clap_system.specs.path_walk.declared.event.Event.{Event}
 use Rattle.clap_system.specs.path_walk.declared.event.Sleep.{Sleep}
 use Rattle.bit_blast.specs.order_formula.declared.literal.Atom.TheVariants.{Before, Ends}
-use Rattle.clap_system.specs.lawful_order.Events.{Of, all_events, all_sleeps}
+use Rattle.clap_system.specs.lawful_order.Events.{Placed, all_events, all_sleeps}
 use Rattle.clap_system.specs.condition_order.declared.wait.Ender.{Ender}
 use Rattle.clap_system.specs.condition_order.Conditions.{ender_by, enders, sleeps_on, cases_one, begun, ended, ended_before, holds, fails, woken, not_both, ends_no_later, cases_before}
 use Rattle.clap_system.specs.condition_order.Conditions.{not_lost, wait_formula, formula_of, wait_of, condition_formula, all_waits}
@@ -24,7 +24,7 @@ use Rattle.formula_sizes.proofs.Loads.{filter_map_few}
 use Rattle.formula_sizes.proofs.Sums.{all_equal, regroup, times_le, of_map, of_flat, of_flat_made, of_all, chosen_few, filter_few}
 
 -- the enders of a condition, and the sleeps on it
-pub enders_few : (events : List (Of Event)) (c : ℕ) → length (enders events c) ≤ length events
+pub enders_few : (events : List (Placed Event)) (c : ℕ) → length (enders events c) ≤ length events
 enders_few events c = omega (arith, filter_map_few (ender_by c) (enumerate_from 0 events), length-enumerate_from 0 events)
 
 sleeps_few : (paths : Paths) (c : ℕ) → length (sleeps_on (all_waits paths) c) ≤ length (all_sleeps paths)
@@ -38,7 +38,7 @@ sleeps_few paths c =
     )
 
 -- the conjuncts of a sleep's wait
-module _ (events : List (Of Event)) (s : ℕ × Of Sleep) (es : List Ender) (rs : List ℕ) where
+module _ (events : List (Placed Event)) (s : ℕ × Placed Sleep) (es : List Ender) (rs : List ℕ) where
   woken_size : size_of (woken (wait_of events s) es) ≤ length es * 19 + 1
   woken_size = by (wait_of events s).wakes
     where
@@ -133,7 +133,7 @@ module _ (paths : Paths) (few : length (all_sleeps paths) ≤ length (all_events
       let up = times_le (length (all_sleeps paths)) n n n few (omega arith) in
       omega (arith, h, all, regroup (length (all_sleeps paths)) n 3, up)
     where
-      here : (s : ℕ) (x : Of Sleep) (b : Bool) → sum_by literal_size (if b then unended (all_events paths) s x.it.condition else []) ≤ length (all_events paths) * 3
+      here : (s : ℕ) (x : Placed Sleep) (b : Bool) → sum_by literal_size (if b then unended (all_events paths) s x.it.condition else []) ≤ length (all_events paths) * 3
       here s x true = unended_size s x.it.condition
       here s x false = omega arith
 

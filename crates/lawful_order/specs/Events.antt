@@ -8,23 +8,26 @@ use Rattle.sym_exec.specs.path_walk.declared.event.Region.{Region}
 use Rattle.sym_exec.specs.path_walk.declared.event.Sleep.{Sleep}
 use Rattle.sym_exec.specs.path_walk.declared.event.Link.{Link}
 use Rattle.order_formula.specs.Worlds.{World, position}
+use Rattle.lawful_order.specs.declared.placed.Placed as item
 
--- an item of a thread, with the thread's index in the paths
-pub record Of (X : Type 0) : Type 0 where
-  pub thread : ℕ
-  pub it : X
+-- an item with its thread
+abbrev pub Placed : Type 0 → Type 0
+Placed X = item.Placed X
+
+-- the items of a thread
+abbrev pub placed_in : {X : Type 0} → ℕ → List X → List (Placed X)
+placed_in t xs = map (λ x. record { thread = t; it = x }) xs
 
 -- the items of all threads, one thread after another
-abbrev pub all_from : {W X : Type 0} → (W → List X) → ℕ → List W → List (Of X)
+abbrev pub all_from : {W X : Type 0} → (W → List X) → ℕ → List W → List (Placed X)
 all_from has t [] = []
-all_from has t (w ∷ ws) =
-    map (λ x. record { thread = t; it = x }) (has w) ++ all_from has (t + 1) ws
+all_from has t (w ∷ ws) = placed_in t (has w) ++ all_from has (t + 1) ws
 
 -- all events, and all sleeps; the index of an event or sleep is its number
-abbrev pub all_events : Paths → List (Of Event)
+abbrev pub all_events : Paths → List (Placed Event)
 all_events paths = all_from (λ w. w.events) 0 paths.threads
 
-abbrev pub all_sleeps : Paths → List (Of Sleep)
+abbrev pub all_sleeps : Paths → List (Placed Sleep)
 all_sleeps paths = all_from (λ w. w.sleeps) 0 paths.threads
 
 -- the number of the event that is the step `step` of a thread

@@ -9,7 +9,7 @@ use Rattle.sym_exec.specs.Executed.{Symbolic}
 use Rattle.order_formula.specs.Worlds.{World}
 use Rattle.order_formula.specs.declared.group.Group.{Group}
 use Rattle.order_formula.specs.declared.group.Group.TheVariants.{Own, Child, Read, Mutex, Condition, Test, Stuck}
-use Rattle.lawful_order.specs.Events.{Of, all_events, all_sleeps, ender_of}
+use Rattle.lawful_order.specs.Events.{Placed, all_events, all_sleeps, ender_of}
 use Rattle.lawful_order.specs.Memory.{OwnRule}
 use Rattle.lawful_order.specs.Reads.{ReadRule}
 use Rattle.lawful_order.specs.Children.{ChildRule}
@@ -23,7 +23,7 @@ pub record IsWorldOf (paths : Paths) (symbolic : Symbolic) (w : World) : Type 0 
   pub events : length w.positions ≡ length (all_events paths)
   pub loads : length w.loads ≡ symbolic.loads
   pub sleeps : length w.enders ≡ length (all_sleeps paths)
-  pub enders : (s g c : ℕ) (x : Of Sleep) → IsSleep paths w s x c → ender_of w s ≡ Some g
+  pub enders : (s g c : ℕ) (x : Placed Sleep) → IsSleep paths w s x c → ender_of w s ≡ Some g
       → IsSignal paths w g c ⊎ IsBroadcast paths w g c
 
 module _ (buffered : Bool) (bound : Binding) (code : Code) (paths : Paths) (symbolic : Symbolic)

@@ -8,7 +8,7 @@ use Rattle.sym_exec.specs.path_walk.declared.event.EventKind.TheVariants as kind
 use Rattle.sym_exec.specs.path_walk.declared.event.Region.{Region}
 use Rattle.sym_exec.specs.path_walk.declared.event.Sleep.{Sleep}
 use Rattle.order_formula.specs.Worlds.{World}
-use Rattle.lawful_order.specs.Events.{Of, HasEvent, HasRegion, IsChild, all_sleeps, ender_of}
+use Rattle.lawful_order.specs.Events.{Placed, HasEvent, HasRegion, IsChild, all_sleeps, ender_of}
 
 module _ (paths : Paths) (w : World) where
   -- a thread, which may have exited, holds the mutex at the end: its region is open
@@ -22,7 +22,7 @@ module _ (paths : Paths) (w : World) where
   -- no event ends the sleep that a thread's step begins
   abbrev pub SleepsOn : (t step : ℕ) → Type 0
   SleepsOn t k =
-      (s : ℕ) (x : Of Sleep) → slice_get (all_sleeps paths) s ≡ Some x → x.thread ≡ t
+      (s : ℕ) (x : Placed Sleep) → slice_get (all_sleeps paths) s ≡ Some x → x.thread ≡ t
       → x.it.step ≡ k → ender_of w s ≡ None
 
   -- the child `child` of the thread t doesn't exit

@@ -1,9 +1,10 @@
 -- What `solve --least` means.
+use Rattle.schedule_file.specs.declared.schedule.Schedule.{Schedule}
 use Rattle.std.specs.Prelude.{ℕ, ◌-◌, List, ◌++◌, length, codes, Option, Some, None, option_map, Result}
 use Rattle.std.specs.Fmt.{decimal}
 use Rattle.least_switch.specs.clap_solve.Clauses.{bound_of}
-use Rattle.least_switch.specs.clap_solve.declared.answer.Answer.{Answer}
-use Rattle.least_switch.specs.clap_solve.declared.answer.Answer.TheVariants as answer
+use Rattle.least_switch.specs.cdcl_core.declared.answer.Answer.{Answer}
+use Rattle.least_switch.specs.cdcl_core.declared.answer.Answer.TheVariants as answer
 use Rattle.least_switch.specs.Least.{IsLeastAnswer}
 use Rattle.least_switch.specs.declared.answer.Least.{Least as Minimum}
 use Rattle.least_switch.specs.declared.answer.Least.TheVariants.{Found, Impossible, Spent, SpentAt}
@@ -40,7 +41,7 @@ least_said budget (SpentAt _ count _) = (
 )
 
 -- what is found, as `solve` without `--least` gives it
-abbrev pub answer_in : Minimum → Answer
+abbrev pub answer_in : Minimum → Answer Schedule
 answer_in (Found schedule _ _) = answer.Found schedule
 answer_in (Impossible lines) = answer.Impossible lines
 answer_in (Spent lines) = answer.Spent lines

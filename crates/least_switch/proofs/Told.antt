@@ -20,13 +20,12 @@ use Rattle.schedule_decode.specs.path_laws.Setting.{setting_of}
 use Rattle.schedule_decode.specs.world_plan.Plan.{plan}
 use Rattle.refute_check.specs.Refutations.{IsClosed}
 use Rattle.refute_check.specs.declared.line.Line.{Line}
-use Rattle.cnf_core.specs.Clauses.{Formula}
+use Rattle.cdcl_core.specs.Searches.{IsSolution}
 use Rattle.cdcl_core.specs.Solving.{Solves}
-use Rattle.cdcl_core.specs.declared.progress.Solved.{Solved}
-use Rattle.cdcl_core.specs.declared.progress.Solved.TheVariants as solved
+use Rattle.cdcl_core.specs.declared.answer.Answer.TheVariants as answer
 use Rattle.schedule_decode.specs.Decodable.{IsDecodable}
 use Rattle.clap_solve.specs.Clauses.{clauses_of}
-use Rattle.clap_solve.specs.Posed.{IsGiven, Posed, posed_of}
+use Rattle.clap_solve.specs.Posed.{IsGiven, Posed}
 use Rattle.clap_solve.proofs.Meaning.{closed_is_impossible}
 use Rattle.switch_clauses.specs.switch_runs.Switches.{switches}
 use Rattle.switch_clauses.specs.switch_runs.Worlds.{world_switches}
@@ -35,12 +34,9 @@ use Rattle.switch_clauses.specs.Clauses.{switch_clauses}
 use Rattle.switch_clauses.proofs.Meaning.{closed_is_more}
 use Rattle.least_switch.specs.Least.{HasSwitches, IsLeast}
 use Rattle.least_switch.specs.declared.answer.Least.TheVariants.{Found, Impossible, Spent, SpentAt}
-use Rattle.least_switch.specs.declared.best.Best.{Best}
 use Rattle.least_switch.specs.declared.bounded.Bounded.{Bounded}
-use Rattle.least_switch.specs.declared.stages.Found.{Found as Outcome}
-use Rattle.least_switch.specs.declared.stages.Found.TheVariants as found
 use Rattle.least_switch.specs.helpers.Bounded.{IsBounded}
-use Rattle.least_switch.specs.helpers.Found.{IfSat, IsFirst, IsFoundBy, IsFoundOn, IsOfWorld, IsSaid}
+use Rattle.least_switch.specs.helpers.Found.{IsFirst, IsOfWorld, IsPosedFor, IsSaid}
 
 module _ {B : Type 0} (ops : BufferOps B) (model : Model) (bound : Binding) (code : Code) (y : Execution) (w : World)
     (d : IsDecodable ops model bound code y w) (small : All (λ p. p < 256) w.positions) where
@@ -68,14 +64,14 @@ module _ {B : Type 0} (ops : BufferOps B) (model : Model) (bound : Binding) (cod
 module _ {B : Type 0} (ops : BufferOps B) (model : Model) (bound : Binding) (code : Code) (log : Log) (laws : Laws ops model bound)
     (given : IsGiven code log) (budget : ℕ) where
   -- the search found no schedule
-  pub none_found : (lines : List Line) → Solves (clauses_of ops.buffered bound code log) budget (solved.Unsat lines)
+  pub none_found : (lines : List Line) → Solves (clauses_of ops.buffered bound code log) budget (answer.Impossible lines)
       → IsLeast ops model bound code log budget (Impossible lines)
   none_found lines closed = record {
     within = given.within;
     is = (closed.0, closed_is_impossible ops model bound code log laws given.lawful given.is_log given.within lines closed.0);
   }
 
-  pub all_spent : (lines : List Line) → Solves (clauses_of ops.buffered bound code log) budget (solved.Spent lines)
+  pub all_spent : (lines : List Line) → Solves (clauses_of ops.buffered bound code log) budget (answer.Spent lines)
       → IsLeast ops model bound code log budget (Spent lines)
   all_spent lines spent = record { within = given.within; is = spent }
 
@@ -87,7 +83,7 @@ module _ {B : Type 0} (ops : BufferOps B) (model : Model) (bound : Binding) (cod
 
   -- no schedule has fewer switches than the one found
   pub fewest_found : (s : Schedule) (count fewer : ℕ) (lines : List Line) → 0 < count → fewer ≡ count - 1 → HasSwitches ops model code log s count
-      → Solves (switch_clauses ops.buffered bound code log fewer) budget (solved.Unsat lines)
+      → Solves (switch_clauses ops.buffered bound code log fewer) budget (answer.Impossible lines)
       → IsLeast ops model bound code log budget (Found s count (Some lines))
   fewest_found s zero fewer lines some is has closed = absurd (omega (arith, some))
   fewest_found s (suc k) fewer lines some is has closed =
@@ -105,39 +101,28 @@ module _ {B : Type 0} (ops : BufferOps B) (model : Model) (bound : Binding) (cod
       }
 
   pub fewer_spent : (s : Schedule) (count fewer : ℕ) (lines : List Line) → 0 < count → fewer ≡ count - 1 → HasSwitches ops model code log s count
-      → Solves (switch_clauses ops.buffered bound code log fewer) budget (solved.Spent lines)
+      → Solves (switch_clauses ops.buffered bound code log fewer) budget (answer.Spent lines)
       → IsLeast ops model bound code log budget (SpentAt s count lines)
   fewer_spent s zero fewer lines some is has spent = absurd (omega (arith, some))
   fewer_spent s (suc k) fewer lines some is has spent =
       let same : fewer ≡ k = omega (arith, is) in
       record {
         within = given.within;
-        is = (has, subst (λ n. Solves (switch_clauses ops.buffered bound code log n) budget (solved.Spent lines)) same spent);
+        is = (has, subst (λ n. Solves (switch_clauses ops.buffered bound code log n) budget (answer.Spent lines)) same spent);
       }
 
--- the result of a search over some clauses
-pub found_on : (f : Formula) (Is : Best → Type 0) (budget : ℕ) (s : Solved) (x : Outcome) → Solves f budget s → IsFoundBy Is s x → IsFoundOn f Is budget x
-found_on f Is budget (solved.Sat values) (found.Best b) solves by = by
-found_on f Is budget (solved.Unsat lines) (found.Impossible own) solves by = subst (λ (ls : List Line). Solves f budget (solved.Unsat ls)) (sym by) solves
-found_on f Is budget (solved.Spent lines) (found.Spent own) solves by = subst (λ (ls : List Line). Solves f budget (solved.Spent ls)) (sym by) solves
-found_on f Is budget (solved.Sat values) (found.Impossible own) solves by = absurd by
-found_on f Is budget (solved.Sat values) (found.Spent own) solves by = absurd by
-found_on f Is budget (solved.Unsat lines) (found.Best b) solves by = absurd by
-found_on f Is budget (solved.Unsat lines) (found.Spent own) solves by = absurd by
-found_on f Is budget (solved.Spent lines) (found.Best b) solves by = absurd by
-found_on f Is budget (solved.Spent lines) (found.Impossible own) solves by = absurd by
+module _ (buffered : Bool) (bound : Binding) (code : Code) (log : Log) (values : List Bool) where
+  -- values that a search found satisfy the clauses
+  pub is_first : (p : Posed) → IsPosedFor buffered bound code log p → IsSolution p.blasted.clauses values → IsFirst buffered bound code log p values
+  is_first p posed solution = record {
+    given = posed.given;
+    posed = posed.is;
+    variables = posed.variables;
+    satisfies = solution.satisfies;
+    all = omega (arith, solution.all);
+  }
 
-module _ (buffered : Bool) (bound : Binding) (code : Code) (log : Log) (given : IsGiven code log) where
-  pub if_first : (p : Posed) (budget : ℕ) (s : Solved) → p ≡ posed_of buffered bound code log → (p.paths.dead ≡ false → 0 < p.blasted.clauses.vars)
-      → Solves p.blasted.clauses budget s → IfSat (IsFirst buffered bound code log p) s
-  if_first p budget (solved.Sat values) posed some solves =
-      record { given = given; posed = posed; variables = some; satisfies = solves.satisfies; all = omega (arith, solves.all) }
-  if_first p budget (solved.Unsat lines) posed some solves = tt
-  if_first p budget (solved.Spent lines) posed some solves = tt
-
-  pub if_said : (most : ℕ) (b : Bounded) (budget : ℕ) (s : Solved) → IsBounded buffered bound code log most b → Solves b.clauses budget s
-      → IfSat (IsSaid buffered bound code log most b) s
-  if_said most b budget (solved.Sat values) bounded solves =
-      record { given = given; bounded = bounded; satisfies = solves.satisfies; all = omega (arith, solves.all) }
-  if_said most b budget (solved.Unsat lines) bounded solves = tt
-  if_said most b budget (solved.Spent lines) bounded solves = tt
+  pub is_said : (most : ℕ) (b : Bounded) → IsGiven code log → IsBounded buffered bound code log most b → IsSolution b.clauses values
+      → IsSaid buffered bound code log most b values
+  is_said most b given bounded solution =
+      record { given = given; bounded = bounded; satisfies = solution.satisfies; all = omega (arith, solution.all) }

@@ -11,9 +11,8 @@ use Rattle.schedule_file.specs.declared.schedule.Schedule.{Schedule}
 use Rattle.refute_check.specs.Refutations.{IsClosed}
 use Rattle.refute_check.specs.declared.line.Line.{Line}
 use Rattle.cdcl_core.specs.Solving.{Solves}
-use Rattle.cdcl_core.specs.declared.progress.Solved.TheVariants as solved
+use Rattle.cdcl_core.specs.declared.answer.Answer.TheVariants as answer
 use Rattle.clap_solve.specs.Solved.{IsAnswer, IsWithin}
-use Rattle.clap_solve.specs.declared.answer.Answer.TheVariants as answer
 use Rattle.switch_clauses.specs.switch_runs.Switches.{switches}
 use Rattle.switch_clauses.specs.Clauses.{switch_clauses}
 use Rattle.least_switch.specs.declared.answer.Least.{Least}
@@ -47,7 +46,7 @@ module _ {B : Type 0} (ops : BufferOps B) (model : Model) (bound : Binding) (cod
     abbrev pub IsSpentBelow : ℕ → List Line → Type 0
     IsSpentBelow zero lines = ⊥
     IsSpentBelow (suc fewer) lines =
-        Solves (switch_clauses ops.buffered bound code log fewer) budget (solved.Spent lines)
+        Solves (switch_clauses ops.buffered bound code log fewer) budget (answer.Spent lines)
 
     -- a schedule reproduces the log with the fewest switches, which is proved; or the search for
     -- any schedule found none; or the search for one with fewer switches than this schedule was

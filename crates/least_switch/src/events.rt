@@ -9,7 +9,7 @@ ghost use Rattle.switch_clauses.specs.switch_runs.Worlds.{failing_of, threads_of
 use order_events::{Events, Placed};
 use order_formula::World;
 use order_switches::switches;
-use path_walk::{EventKind, Paths};
+use path_walk::{Event, EventKind, Paths};
 use std::alloc::{AllocError, Global};
 
 /// The number of context switches in a world of paths: less than the number of events.
@@ -38,7 +38,7 @@ pub(crate) fn threads_of(
 }
 
 /// The thread of an event.
-fn thread_of(placed: &Placed) -> usize
+fn thread_of(placed: &Placed<Event>) -> usize
     ensures { result ≡ placed.now.thread }
 {
     placed.thread
@@ -50,17 +50,17 @@ fn failing(events: &Events) -> Option<u32>
         (find (λ e. is_failure e.it.kind) events.now) }
 {
     let failing = failing_event(events)?;
-    Some(events.number(failing.thread, failing.event.step))
+    Some(events.number(failing.thread, failing.it.step))
 }
 
 /// The failing event, if there is one.
-fn failing_event(events: &Events) -> Option<&Placed>
+fn failing_event(events: &Events) -> Option<&Placed<Event>>
     ensures { option_map (λ e. e.now) result ≡ find (λ e. is_failure e.it.kind) events.now }
 {
     events
         .all()
         .iter()
-        .find(|placed| is_failure(placed.event.kind))
+        .find(|placed| is_failure(placed.it.kind))
 }
 
 /// Whether events of this kind fail.

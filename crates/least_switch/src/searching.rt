@@ -8,7 +8,8 @@ ghost use Rattle.least_switch.specs.helpers.Found.{IsBest};
 
 use crate::Least;
 use crate::best::Best;
-use crate::stages::{Found, fewer, first};
+use crate::stages::{fewer, first};
+use cdcl_core::Answer;
 use clap_system::BuildFault;
 use run_log::Log;
 use std::alloc::Global;
@@ -32,9 +33,9 @@ pub fn least<M: MemoryModel>(
     ensures err { IfErr result (IsBuildFault code.now log.now.log) }
 {
     match first::<M>(alloc, code, log, budget)? {
-        Found::Best(best) => fewest::<M>(alloc, code, log, best, budget),
-        Found::Impossible(derivation) => Ok(Least::Impossible(derivation)),
-        Found::Spent(derivation) => Ok(Least::Spent(derivation)),
+        Answer::Found(best) => fewest::<M>(alloc, code, log, best, budget),
+        Answer::Impossible(derivation) => Ok(Least::Impossible(derivation)),
+        Answer::Spent(derivation) => Ok(Least::Spent(derivation)),
     }
 }
 
@@ -56,11 +57,11 @@ fn fewest<M: MemoryModel>(
     let mut best = first;
     while best.switches > 0 {
         match fewer::<M>(alloc, code, log, best.switches - 1, &best.world, budget)? {
-            Found::Best(next) => best = next,
-            Found::Impossible(derivation) => {
+            Answer::Found(next) => best = next,
+            Answer::Impossible(derivation) => {
                 return Ok(Least::Found(best.schedule, best.switches, Some(derivation)));
             }
-            Found::Spent(derivation) => {
+            Answer::Spent(derivation) => {
                 return Ok(Least::SpentAt(best.schedule, best.switches, derivation));
             }
         }

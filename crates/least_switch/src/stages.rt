@@ -1,36 +1,25 @@
 //! One search: for any schedule of a log, or for one with a bound on context switches.
 ghost use Rattle.std.specs.Prelude.{◌≤◌, IfOk, IfErr};
 ghost use Rattle.schedule_file.specs.tc_limits.declared.limits.TheConstants.{BUDGET};
+ghost use Rattle.cdcl_core.specs.Solving.{IsAnswerOn};
 ghost use Rattle.clap_system.specs.Faults.{IsBuildFault};
 ghost use Rattle.clap_solve.specs.Posed.{IsGiven};
 ghost use Rattle.switch_clauses.specs.Clauses.{switch_clauses};
 ghost use Rattle.least_switch.specs.helpers.Bounded.{IsBounded};
-ghost use Rattle.least_switch.specs.helpers.Found.{IfSat, IsBest, IsBestUpTo, IsFirst, IsFirstFound, IsFoundBy, IsFoundOn, IsPosedFor, IsSaid};
+ghost use Rattle.least_switch.specs.helpers.Found.{IsBest, IsBestUpTo, IsFirst, IsFirstFound, IsPosedFor, IsSaid};
 
 use crate::best::{Best, best_of};
 use crate::bounded::{Bounded, pose_bounded};
-use cdcl_core::{Solved, solve_cnf};
+use cdcl_core::{Answer, solve_cnf};
 use clap_solve::{Posed, pose, search};
 use clap_system::BuildFault;
 use cnf_core::Assignment;
 use order_formula::World;
-use refute_check::Derivation;
 use run_log::Log;
 use std::alloc::{AllocError, Global};
 use std::mem::drop;
 use store_buffers::MemoryModel;
 use tc_code::Code;
-
-/// The result of a search.
-#[derive(Debug, Drop)]
-pub(crate) enum Found {
-    /// A schedule.
-    Best(Best),
-    /// There is no schedule: the derivation is closed on the clauses.
-    Impossible(Derivation),
-    /// The search learnt as many clauses as the budget allows, and found neither.
-    Spent(Derivation),
-}
 
 /// Searches for a schedule of a log.
 pub(crate) fn first<M: MemoryModel>(
@@ -38,7 +27,7 @@ pub(crate) fn first<M: MemoryModel>(
     code: &Code,
     log: &Log,
     budget: u32,
-) -> Result<Found, BuildFault>
+) -> Result<Answer<Best>, BuildFault>
     requires some { 1 ≤ budget }
     requires room { budget ≤ BUDGET }
     ensures found { IfOk result (IsFirstFound M.ops M.MODEL M.BUFFERED M.bound code.now log.now.log budget) }
@@ -65,35 +54,14 @@ fn searched<M: MemoryModel>(
     log: &Log,
     posed: &Posed,
     budget: u32,
-) -> Result<Found, AllocError>
+) -> Result<Answer<Best>, AllocError>
     requires some { 1 ≤ budget }
     requires room { budget ≤ BUDGET }
     requires posed { IsPosedFor M.BUFFERED M.bound code.now log.now.log posed.now }
-    ensures { IfOk result (IsFirstFound M.ops M.MODEL M.BUFFERED M.bound code.now log.now.log budget) }
+    ensures { IfOk result (IsAnswerOn posed.now.blasted.clauses budget (IsBest M.ops M.MODEL code.now log.now.log)) }
 {
     let solved = search::<M>(alloc, code, posed, budget)?;
-    first_found::<M>(alloc, code, log, posed, solved)
-}
-
-/// The result of the search for a schedule of a log.
-fn first_found<M: MemoryModel>(
-    alloc: Global,
-    code: &Code,
-    log: &Log,
-    posed: &Posed,
-    solved: Solved,
-) -> Result<Found, AllocError>
-    requires { IfSat (IsFirst M.BUFFERED M.bound code.now log.now.log posed.now) solved }
-    ensures { IfOk result (IsFoundBy (IsBest M.ops M.MODEL code.now log.now.log) solved) }
-{
-    match solved {
-        Solved::Sat(assignment) => {
-            let best = first_best::<M>(alloc, code, log, posed, &assignment)?;
-            Ok(Found::Best(best))
-        }
-        Solved::Unsat(derivation) => Ok(Found::Impossible(derivation)),
-        Solved::Spent(derivation) => Ok(Found::Spent(derivation)),
-    }
+    solved.try_map(|assignment| first_best::<M>(alloc, code, log, posed, &assignment))
 }
 
 /// The schedule of the world of a model of the clauses of a log.
@@ -119,13 +87,13 @@ pub(crate) fn fewer<M: MemoryModel>(
     most: u32,
     world: &World,
     budget: u32,
-) -> Result<Found, BuildFault>
+) -> Result<Answer<Best>, BuildFault>
     requires given { IsGiven code.now log.now.log }
     requires most { most ≤ 255 }
     requires some { 1 ≤ budget }
     requires room { budget ≤ BUDGET }
-    ensures found { IfOk result (IsFoundOn (switch_clauses M.BUFFERED M.bound code.now log.now.log most)
-        (IsBestUpTo M.ops M.MODEL code.now log.now.log most) budget) }
+    ensures found { IfOk result (IsAnswerOn (switch_clauses M.BUFFERED M.bound code.now log.now.log most) budget
+        (IsBestUpTo M.ops M.MODEL code.now log.now.log most)) }
     ensures err { IfErr result (IsBuildFault code.now log.now.log) }
 {
     let bounded = pose_bounded::<M>(alloc, code, log, most)?;
@@ -143,39 +111,16 @@ fn searched_near<M: MemoryModel>(
     bounded: &Bounded,
     world: &World,
     budget: u32,
-) -> Result<Found, AllocError>
+) -> Result<Answer<Best>, AllocError>
     requires given { IsGiven code.now log.now.log }
     requires bounded { IsBounded M.BUFFERED M.bound code.now log.now.log most bounded.now }
     requires some { 1 ≤ budget }
     requires room { budget ≤ BUDGET }
-    ensures { IfOk result (IsFoundOn (switch_clauses M.BUFFERED M.bound code.now log.now.log most)
-        (IsBestUpTo M.ops M.MODEL code.now log.now.log most) budget) }
+    ensures { IfOk result (IsAnswerOn bounded.now.clauses budget (IsBestUpTo M.ops M.MODEL code.now log.now.log most)) }
 {
     let values = bounded.first_values(alloc, world)?;
     let solved = solve_cnf(alloc, &bounded.clauses, values.as_slice(), budget)?;
-    next_found::<M>(alloc, code, log, most, bounded, solved)
-}
-
-/// The result of the search with a bound on context switches.
-fn next_found<M: MemoryModel>(
-    alloc: Global,
-    code: &Code,
-    log: &Log,
-    most: u32,
-    bounded: &Bounded,
-    solved: Solved,
-) -> Result<Found, AllocError>
-    requires { IfSat (IsSaid M.BUFFERED M.bound code.now log.now.log most bounded.now) solved }
-    ensures { IfOk result (IsFoundBy (IsBestUpTo M.ops M.MODEL code.now log.now.log most) solved) }
-{
-    match solved {
-        Solved::Sat(assignment) => {
-            let best = next_best::<M>(alloc, code, log, most, bounded, &assignment)?;
-            Ok(Found::Best(best))
-        }
-        Solved::Unsat(derivation) => Ok(Found::Impossible(derivation)),
-        Solved::Spent(derivation) => Ok(Found::Spent(derivation)),
-    }
+    solved.try_map(|assignment| next_best::<M>(alloc, code, log, most, bounded, &assignment))
 }
 
 /// The schedule of the world of a model of the clauses with a bound on switches.

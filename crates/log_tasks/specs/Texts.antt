@@ -1,7 +1,8 @@
 -- The texts of what a search finds.
 use Rattle.std.specs.Prelude.{◌≡◌, ℕ, List, None}
-use Rattle.clap_solve.specs.declared.answer.Answer.{Answer}
-use Rattle.clap_solve.specs.declared.answer.Answer.TheVariants.{Found, Impossible, Spent}
+use Rattle.schedule_file.specs.declared.schedule.Schedule.{Schedule}
+use Rattle.clap_solve.specs.cdcl_core.declared.answer.Answer.{Answer}
+use Rattle.clap_solve.specs.cdcl_core.declared.answer.Answer.TheVariants.{Found, Impossible, Spent}
 use Rattle.run_log.specs.memory_models.declared.model.Model.{Model}
 use Rattle.refute_check.specs.Laws.{IsWhole}
 use Rattle.refute_check.specs.Texts.{refutation_text}
@@ -19,7 +20,7 @@ pub record IsRefutation (bytes : List ℕ) (head : Head) (lines : List Line) : T
   pub text : bytes ≡ refutation_text head lines
 
 -- the bytes are the text of what a search under this model found: a schedule, or a refutation
-abbrev pub IsTextOf : Model → Answer → List ℕ → Type 0
+abbrev pub IsTextOf : Model → Answer Schedule → List ℕ → Type 0
 IsTextOf model (Found schedule) bytes =
     IsSchedule bytes (record { model = schedule.model; moves = schedule.moves.items })
 IsTextOf model (Impossible lines) bytes = IsRefutation bytes (head_of model) lines

@@ -37,10 +37,6 @@ or_last : (a b : Bool) → b ≡ true → (a || b) ≡ true
 or_last true b is = refl
 or_last false b is = is
 
-or_parts : (a b : Bool) → (a || b) ≡ true → (a ≡ true) ⊎ (b ≡ true)
-or_parts true b is = inl refl
-or_parts false b is = inr is
-
 not_false : (a : Bool) → a ≡ false → not a ≡ true
 not_false true is = absurd cc
 not_false false is = refl
@@ -90,9 +86,6 @@ kept_cut out cut = record {
   depth = λ is. is;
   threads = λ is. is;
 }
-
-pub kept_same : (out : LeftOut) → IsKept out out
-kept_same out = record { outcomes = λ is. is; steps = λ is. is; depth = λ is. is; threads = λ is. is }
 
 pub kept_on : (a b c : LeftOut) → IsKept a b → IsKept b c → IsKept a c
 kept_on a b c one two = record {

@@ -119,10 +119,6 @@ rank_below (suc n) [] = let below = rank_below n [] in let more = pow-suc 3 n in
 rank_below (suc n) (true ∷ o) = let below = rank_below n o in let more = pow-suc 3 n in omega arith
 rank_below (suc n) (false ∷ o) = let below = rank_below n o in let more = pow-suc 3 n in omega arith
 
-rank_none : (n : ℕ) → rank n [] ≡ 0
-rank_none zero = refl
-rank_none (suc n) = refl
-
 -- later outcomes have a greater rank, or the same with more steps
 pub rank_later : (n : ℕ) (a : List Bool) (s : ℕ) (b : List Bool) (t : ℕ) → is_from a s b t ≡ true → length a ≤ n → length b ≤ n
     → (rank n a < rank n b) ⊎ ((rank n a ≡ rank n b) × (s ≤ t))

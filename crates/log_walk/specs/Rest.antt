@@ -100,8 +100,12 @@ module _ (code : Code) (kind : Kind) where
   -- only main is awaited
   abbrev pub all : Rest
   all = record {
-    awaited =
-        record { name = main; function = length code.functions - 1; end = open_end kind; waited = false } ∷ [];
+    awaited = record {
+      name = main;
+      function = length code.functions - 1;
+      end = open_end kind;
+      waited = false;
+    } ∷ [];
     ends = false;
     held = replicate code.mutexes false;
     waited = replicate code.mutexes false;

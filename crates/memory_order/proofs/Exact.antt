@@ -20,7 +20,7 @@ use Rattle.order_formula.specs.Worlds.{World}
 use Rattle.order_formula.specs.declared.formula.Conjunct.{Conjunct}
 use Rattle.order_formula.specs.declared.group.Group.TheVariants.{Own}
 use Rattle.order_formula.specs.declared.literal.Literal.{Literal}
-use Rattle.order_cells.specs.lawful_order.Events.{Of, HasEvent, IsBefore, all_events, place_of}
+use Rattle.order_cells.specs.lawful_order.Events.{Placed, HasEvent, IsBefore, all_events, place_of}
 use Rattle.order_cells.specs.lawful_order.Memory.{OwnRule, is_kept, is_pending}
 use Rattle.order_cells.specs.lawful_order.Whole.{AreWhole, IsExecutedBy}
 use Rattle.order_events.proofs.Lists.{in_front, in_back, of_cons, in_map, of_map, in_flat_map, of_flat_map, in_filter, of_filter, in_at, at_in}
@@ -40,7 +40,7 @@ only_failing kind.Fail h = refl
 only_failing _ h = absurd (false≢true h)
 
 module _ (buffered : Bool) (bound : Binding) (paths : Paths) (symbolic : Symbolic) (nodes : List Node) where
-  abbrev pub events : List (Of Event)
+  abbrev pub events : List (Placed Event)
   events = all_events paths
 
   abbrev pub formula : List Conjunct
@@ -59,8 +59,8 @@ module _ (buffered : Bool) (bound : Binding) (paths : Paths) (symbolic : Symboli
   abbrev pub of_two : ℕ → Two Event → List Conjunct
   of_two t p = two_formula buffered bound events symbolic nodes t p
 
-  abbrev pub of_failing : Of Event → List Conjunct
-  of_failing x = map (before_failing events x) (filter (λ (f : Of Event). is_failing f.it.kind) events)
+  abbrev pub of_failing : Placed Event → List Conjunct
+  of_failing x = map (before_failing events x) (filter (λ (f : Placed Event). is_failing f.it.kind) events)
 
   -- these conjuncts are in the formula
   in_two : (t : ℕ) (q : Walk) (p : Two Event) (c : Conjunct) → slice_get paths.threads t ≡ Some q → Contains (twos q.events) p → Contains (of_two t p) c
@@ -85,14 +85,14 @@ module _ (buffered : Bool) (bound : Binding) (paths : Paths) (symbolic : Symboli
       (Contains-append_right (if is_kept_next buffered bound symbolic nodes t p then always_of t p ∷ [] else []) (map (tested_of t p) (option_to_list kept))
       (tested_of t p test) (in_map (tested_of t p) test (option_to_list kept) (in_option kept test is)))
 
-  in_failing : (x f : Of Event) → Contains events x → Contains events f → is_before_failing buffered x ≡ true → is_failing f.it.kind ≡ true
+  in_failing : (x f : Placed Event) → Contains events x → Contains events f → is_before_failing buffered x ≡ true → is_failing f.it.kind ≡ true
       → Contains formula (before_failing events x f)
   in_failing x f first second before fails =
       let c = before_failing events x f in
       Contains-append_right (of_each of_thread paths.threads) (failing_formula buffered events) c
       (in_flat_map of_failing x c (filter (is_before_failing buffered) events) (in_filter (is_before_failing buffered) x events first before)
-      (in_map (before_failing events x) f (filter (λ (g : Of Event). is_failing g.it.kind) events)
-      (in_filter (λ (g : Of Event). is_failing g.it.kind) f events second fails)))
+      (in_map (before_failing events x) f (filter (λ (g : Placed Event). is_failing g.it.kind) events)
+      (in_filter (λ (g : Placed Event). is_failing g.it.kind) f events second fails)))
 
   -- no other conjuncts are in the formula
   pub data IsOwn (c : Conjunct) : Type 0 where
@@ -100,7 +100,7 @@ module _ (buffered : Bool) (bound : Binding) (paths : Paths) (symbolic : Symboli
         → is_kept_next buffered bound symbolic nodes t p ≡ true → always_of t p ≡ c → IsOwn c
     Tested : (t : ℕ) (q : Walk) (p : Two Event) (test : Node) → slice_get paths.threads t ≡ Some q → Contains (twos q.events) p
         → kept_test buffered bound symbolic nodes t p ≡ Some test → tested_of t p test ≡ c → IsOwn c
-    Failing : (x f : Of Event) → Contains events x → Contains events f → is_before_failing buffered x ≡ true → is_failing f.it.kind ≡ true
+    Failing : (x f : Placed Event) → Contains events x → Contains events f → is_before_failing buffered x ≡ true → is_failing f.it.kind ≡ true
         → before_failing events x f ≡ c → IsOwn c
 
   of_two_formula : (t : ℕ) (q : Walk) (p : Two Event) (c : Conjunct) → slice_get paths.threads t ≡ Some q → Contains (twos q.events) p
@@ -121,8 +121,8 @@ module _ (buffered : Bool) (bound : Binding) (paths : Paths) (symbolic : Symboli
   of_failing_formula c there =
       let o = of_flat_map of_failing c (filter (is_before_failing buffered) events) there in
       let x = of_filter (is_before_failing buffered) o.0 events o.1 in
-      let m = of_map (before_failing events o.0) c (filter (λ (g : Of Event). is_failing g.it.kind) events) o.2 in
-      let f = of_filter (λ (g : Of Event). is_failing g.it.kind) m.0 events m.1 in
+      let m = of_map (before_failing events o.0) c (filter (λ (g : Placed Event). is_failing g.it.kind) events) o.2 in
+      let f = of_filter (λ (g : Placed Event). is_failing g.it.kind) m.0 events m.1 in
       Failing o.0 m.0 x.0 f.0 x.1 f.1 m.2
 
   pub of_formula : (c : Conjunct) → Contains formula c → IsOwn c
@@ -148,7 +148,7 @@ module _ (buffered : Bool) (bound : Binding) (paths : Paths) (symbolic : Symboli
       (in_flat_map (two_tests buffered bound symbolic nodes t) p test (twos q.events) two (in_option (kept_test buffered bound symbolic nodes t p) test is))
 
   -- each event belongs to its thread
-  pub event_of : (x : Of Event) → Contains events x → HasEvent paths x.thread x.it
+  pub event_of : (x : Placed Event) → Contains events x → HasEvent paths x.thread x.it
   event_of x there =
       let o = of_all_from (λ (q : Walk). q.events) 0 paths.threads x there in
       let place : o.place ≡ x.thread = omega (arith, o.thread) in
@@ -200,7 +200,7 @@ module _ (buffered : Bool) (bound : Binding) (paths : Paths) (symbolic : Symboli
           | inr rest ↦ step_before nodes w paths t p.first.step t p.second.step (ap (literal_at nodes w) (of_one o.0 (in_order events t p) rest) ∙ o.2)
         ]
 
-    failing_says : (x f : Of Event) → body_at nodes w (before_failing events x f).body ≡ true → IsBefore paths w x.thread x.it.step f.thread f.it.step
+    failing_says : (x f : Placed Event) → body_at nodes w (before_failing events x f).body ≡ true → IsBefore paths w x.thread x.it.step f.thread f.it.step
     failing_says x f holds =
         let l = comes_before events x.thread x.it.step f.thread f.it.step in
         let o = some_holds nodes w (Own x.thread) (l ∷ []) holds in
@@ -251,8 +251,8 @@ module _ (buffered : Bool) (bound : Binding) (paths : Paths) (symbolic : Symboli
         before_last : (u : ℕ) (x f : Event) → HasEvent paths t x → HasEvent paths u f → f.kind ≡ kind.Fail → x.kind ≢ kind.Fail
             → is_pending buffered bound paths symbolic nodes w x.kind ≡ false → IsBefore paths w t x.step u f.step
         before_last u x f first second failing other settled =
-            let a : Of Event = record { thread = t; it = x } in
-            let b : Of Event = record { thread = u; it = f } in
+            let a : Placed Event = record { thread = t; it = x } in
+            let b : Placed Event = record { thread = u; it = f } in
             let apart : is_failing x.kind ≡ false = false_from_ne_true (is_failing x.kind) (λ hit. other (only_failing x.kind hit)) in
             failing_says a b (h (before_failing events a b) (in_failing a b (among_all t x first) (among_all u f second)
             (and_from (is_settled buffered x.kind) (not (is_failing x.kind)) (ap not settled) (ap not apart)) (ap is_failing failing)) refl)
@@ -299,7 +299,7 @@ module _ (buffered : Bool) (bound : Binding) (paths : Paths) (symbolic : Symboli
             ∙ one_holds nodes w (Own x.thread) l (l ∷ []) (in_front l []) (before_holds nodes w paths x.thread x.it.step f.thread f.it.step
             (last x f first second before failing (ap (λ (d : Conjunct). d.group) is ∙ group)))
           where
-            last : (x f : Of Event) → Contains events x → Contains events f → is_before_failing buffered x ≡ true → is_failing f.it.kind ≡ true
+            last : (x f : Placed Event) → Contains events x → Contains events f → is_before_failing buffered x ≡ true → is_failing f.it.kind ≡ true
                 → Own x.thread ≡ Own t → IsBefore paths w x.thread x.it.step f.thread f.it.step
             last x f first second before failing group =
                 let same : x.thread ≡ t = cc in

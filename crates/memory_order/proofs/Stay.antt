@@ -18,7 +18,7 @@ use Rattle.sym_exec.specs.declared.symbolic.Access.{Access}
 use Rattle.sym_exec.specs.declared.symbolic.Cell.{Cell}
 use Rattle.order_formula.specs.declared.formula.Conjunct.{Conjunct}
 use Rattle.order_formula.specs.declared.group.Group.TheVariants.{Own}
-use Rattle.order_cells.specs.lawful_order.Events.{Of, all_events}
+use Rattle.order_cells.specs.lawful_order.Events.{Placed, all_events}
 use Rattle.order_cells.specs.lawful_order.Memory.{cell_of}
 use Rattle.order_cells.specs.lawful_order.Reads.{HasAccess}
 use Rattle.order_cells.specs.Same.{known_same, same_test}
@@ -114,7 +114,7 @@ module _ (symbolic : Symbolic) (nodes : List Node) (have : HaveTerms nodes symbo
           ap (λ o. cond (keeps buffered bound true p.first p.second && not (keeps buffered bound false p.first p.second)) o None)
           (same_later t p.first p.second (cells_of symbolic t p.first p.second) refl)
 
-      pub two_later : (events : List (Of Event)) (t : ℕ) (p : Two Event)
+      pub two_later : (events : List (Placed Event)) (t : ℕ) (p : Two Event)
           → ((test : Node) → kept_test buffered bound symbolic nodes t p ≡ Some test → Contains nodes test)
           → two_formula buffered bound events symbolic later t p ≡ two_formula buffered bound events symbolic nodes t p
       two_later events t p there =

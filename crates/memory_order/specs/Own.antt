@@ -15,7 +15,7 @@ use Rattle.order_formula.specs.declared.formula.Conjunct.{Conjunct}
 use Rattle.order_formula.specs.declared.group.Group.TheVariants.{Own}
 use Rattle.order_formula.specs.declared.literal.Atom.TheVariants.{Test}
 use Rattle.order_formula.specs.declared.literal.Literal.{Literal}
-use Rattle.order_cells.specs.lawful_order.Events.{Of, all_events}
+use Rattle.order_cells.specs.lawful_order.Events.{Placed, all_events}
 use Rattle.order_cells.specs.lawful_order.Memory.{cell_of, is_store, may_overtake}
 use Rattle.order_cells.specs.Same.{known_same, same_test}
 use Rattle.order_events.specs.Parts.{of_each, comes_before, one_of}
@@ -80,10 +80,10 @@ abbrev pub fails : ℕ → Literal
 fails term = record { atom = Test term; wanted = false }
 
 -- the literal that an event comes before a later one of its thread
-abbrev pub in_order : List (Of Event) → (t : ℕ) → Two Event → Literal
+abbrev pub in_order : List (Placed Event) → (t : ℕ) → Two Event → Literal
 in_order events t p = comes_before events t p.first.step t p.second.step
 
-module _ (buffered : Bool) (bound : Binding) (events : List (Of Event)) (symbolic : Symbolic)
+module _ (buffered : Bool) (bound : Binding) (events : List (Placed Event)) (symbolic : Symbolic)
     (nodes : List Node) (t : ℕ) where
   -- the first event comes before the second, if it is kept and no event between them implies it
   abbrev pub next_formula : Two Event → List Conjunct
@@ -105,15 +105,15 @@ module _ (buffered : Bool) (bound : Binding) (events : List (Of Event)) (symboli
   thread_formula q = flat_map two_formula (twos q.events)
 
 -- the event x comes before the failing event f
-abbrev pub before_failing : List (Of Event) → (x f : Of Event) → Conjunct
+abbrev pub before_failing : List (Placed Event) → (x f : Placed Event) → Conjunct
 before_failing events x f =
     one_of (Own x.thread) (comes_before events x.thread x.it.step f.thread f.it.step ∷ [])
 
 -- whether an event comes before the failing one: all others except stores in buffers
-abbrev pub is_before_failing : (buffered : Bool) → Of Event → Bool
+abbrev pub is_before_failing : (buffered : Bool) → Placed Event → Bool
 is_before_failing buffered x = is_settled buffered x.it.kind && not (is_failing x.it.kind)
 
-abbrev pub failing_formula : (buffered : Bool) → List (Of Event) → List Conjunct
+abbrev pub failing_formula : (buffered : Bool) → List (Placed Event) → List Conjunct
 failing_formula buffered events =
     flat_map (λ x. map (before_failing events x) (filter (λ f. is_failing f.it.kind) events))
     (filter (is_before_failing buffered) events)

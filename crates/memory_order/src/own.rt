@@ -250,7 +250,7 @@ fn push_failing<M: MemoryModel>(
     ensures { OnOk result (conjuncts.new.items ≡ conjuncts.old.items ++ spec.failing_formula M.BUFFERED events.now) }
 {
     for placed in events.all() {
-        if is_settled::<M>(placed.event.kind) && !is_failing(placed.event.kind) {
+        if is_settled::<M>(placed.it.kind) && !is_failing(placed.it.kind) {
             push_before_failing(alloc, conjuncts, events, placed)?;
         }
     }
@@ -262,13 +262,13 @@ fn push_before_failing(
     alloc: Global,
     conjuncts: &mut Vec<Conjunct>,
     events: &Events,
-    earlier: &Placed,
+    earlier: &Placed<Event>,
 ) -> Result<(), AllocError>
     ensures { OnOk result (conjuncts.new.items ≡ conjuncts.old.items
         ++ map (spec.before_failing events.now earlier.now) (filter (λ f. spec.is_failing f.it.kind) events.now)) }
 {
     for placed in events.all() {
-        if is_failing(placed.event.kind) {
+        if is_failing(placed.it.kind) {
             conjuncts.push(before_failing(alloc, events, earlier, placed)?)?;
         }
     }
@@ -279,16 +279,16 @@ fn push_before_failing(
 fn before_failing(
     alloc: Global,
     events: &Events,
-    earlier: &Placed,
-    failing: &Placed,
+    earlier: &Placed<Event>,
+    failing: &Placed<Event>,
 ) -> Result<Conjunct, AllocError>
     ensures { IfOk result (λ conjunct. conjunct ≡ spec.before_failing events.now earlier.now failing.now) }
 {
     let before = events.before(
         earlier.thread,
-        earlier.event.step,
+        earlier.it.step,
         failing.thread,
-        failing.event.step,
+        failing.it.step,
     );
     let group = Group::Own {
         thread: earlier.thread,

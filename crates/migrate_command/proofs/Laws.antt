@@ -7,22 +7,22 @@ use Rattle.kept_logs.specs.Digests.{with_digest}
 use Rattle.kept_logs.proofs.Digests.{sha256_is}
 use Rattle.kept_logs.specs.path_log.Texts.{IsLog, log_text}
 use Rattle.kept_logs.proofs.path_log.Logs.{has_text, one_log, text_is}
-use Rattle.run_log.specs.Logs.{Log, StoredLog}
+use Rattle.run_log.specs.Logs.{Log, StoredLog, first_deeper}
 use Rattle.run_log.specs.tc_base.Paths.{ThreadPath}
 use Rattle.tc_record.specs.Logged.{is_small, most_log_bytes}
 use Rattle.tc_record.proofs.Sizes.{recorded_size}
 use Rattle.command_inputs.specs.declared.limits.LogPart.TheVariants.{Threads, Depth}
 use Rattle.command_inputs.specs.declared.refusal.Refusal.TheVariants.{LogOver}
-use Rattle.migrate_command.specs.Migrated.{IsMigrated, excess_of, too_deep}
+use Rattle.migrate_command.specs.Migrated.{IsMigrated, excess_of}
 
 -- a log within all limits is small
 
-shallow : (ts : List ThreadPath) → too_deep ts ≡ None → list_all (λ (t : ThreadPath). nat_le (length t.name) 8) ts ≡ true
+shallow : (ts : List ThreadPath) → first_deeper 8 ts ≡ None → list_all (λ (t : ThreadPath). nat_le (length t.name) 8) ts ≡ true
 shallow [] e = refl
 shallow (t ∷ ts) e = by (nat_lt 8 (length t.name)) refl e (shallow ts)
   where
-    by : (b : Bool) → nat_lt 8 (length t.name) ≡ b → cond b (Some (length t.name)) (too_deep ts) ≡ None
-        → (too_deep ts ≡ None → list_all (λ (u : ThreadPath). nat_le (length u.name) 8) ts ≡ true)
+    by : (b : Bool) → nat_lt 8 (length t.name) ≡ b → cond b (Some (length t.name)) (first_deeper 8 ts) ≡ None
+        → (first_deeper 8 ts ≡ None → list_all (λ (u : ThreadPath). nat_le (length u.name) 8) ts ≡ true)
         → (nat_le (length t.name) 8 && list_all (λ (u : ThreadPath). nat_le (length u.name) 8) ts) ≡ true
     by true is e rest = cc
     by false is e rest = let low : nat_le (length t.name) 8 ≡ true = grind arith in ap₂ (λ x y. x && y) low (rest e)
@@ -35,7 +35,7 @@ small : (log : Log) → excess_of log ≡ None → IsTrue (is_small log)
 small log e = by (nat_lt 16 (length log.threads)) refl e
   where
     by : (b : Bool) → nat_lt 16 (length log.threads) ≡ b
-        → cond b (Some (LogOver Threads (length log.threads))) (option_map (λ depth. LogOver Depth depth) (too_deep log.threads)) ≡ None → is_small log ≡ true
+        → cond b (Some (LogOver Threads (length log.threads))) (option_map (λ depth. LogOver Depth depth) (first_deeper 8 log.threads)) ≡ None → is_small log ≡ true
     by true is e = cc
     by false is e = let few : nat_le (length log.threads) 16 ≡ true = grind arith in ap₂ (λ x y. x && y) few (shallow log.threads (none_of _ e))
 

@@ -1,11 +1,9 @@
 -- Logs migrated to format 2, and why a log isn't.
-use Rattle.std.specs.Prelude.{◌≡◌, ℕ, List, length, map, nat_lt, Option, Some, None, option_map, if◌then◌else◌}
-use Rattle.std.specs.List.{find}
+use Rattle.std.specs.Prelude.{◌≡◌, ℕ, List, length, nat_lt, Option, Some, None, option_map, if◌then◌else◌}
 use Rattle.kept_logs.specs.Digests.{with_digest}
 use Rattle.kept_logs.specs.path_log.Texts.{IsLog, IsOfOther}
 use Rattle.path_walk.specs.Fits.{Fits, IsFirst}
-use Rattle.run_log.specs.Logs.{Log as RunLog}
-use Rattle.run_log.specs.tc_base.Paths.{ThreadPath}
+use Rattle.run_log.specs.Logs.{Log as RunLog, first_deeper}
 use Rattle.command_inputs.specs.Forms.{IsUnread, Pair}
 use Rattle.command_inputs.specs.Limits.{limit_of}
 use Rattle.command_inputs.specs.declared.limits.LogPart.TheVariants.{Threads, Depth}
@@ -13,15 +11,11 @@ use Rattle.command_inputs.specs.declared.refusal.LogRefusal.TheVariants.{OtherPr
 use Rattle.command_inputs.specs.declared.refusal.Refusal.{Refusal}
 use Rattle.command_inputs.specs.declared.refusal.Refusal.TheVariants.{Log, LogOver}
 
--- the depth of the first thread name that is too deep
-abbrev pub too_deep : List ThreadPath → Option ℕ
-too_deep threads = find (nat_lt (limit_of Depth)) (map (λ t. length t.name) threads)
-
 -- the limit that a log exceeds: that on threads, or else that on the depth of names
 abbrev pub excess_of : RunLog → Option Refusal
 excess_of log = if nat_lt (limit_of Threads) (length log.threads)
     then Some (LogOver Threads (length log.threads))
-    else option_map (λ depth. LogOver Depth depth) (too_deep log.threads)
+    else option_map (λ depth. LogOver Depth depth) (first_deeper (limit_of Depth) log.threads)
 
 -- the log exceeds this limit
 abbrev pub IsExcess : RunLog → Refusal → Type 0

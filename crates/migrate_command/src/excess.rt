@@ -1,9 +1,9 @@
 //! The limits that a log meets if its paths can be walked.
 ghost use Rattle.std.specs.Prelude.{◌≡◌, None, OnOk, IfErr};
-ghost use Rattle.migrate_command.specs.Migrated.{IsExcess, excess_of, too_deep};
+ghost use Rattle.migrate_command.specs.Migrated.{IsExcess, excess_of};
 
 use command_inputs::{LogPart, Refusal};
-use run_log::{Log, ThreadPath};
+use run_log::Log;
 use tc_limits::limits::{DEPTH, THREADS};
 
 /// Refuses a log with too many threads, or one too deep.
@@ -15,18 +15,8 @@ pub(crate) fn refuse_excess(log: &Log) -> Result<(), Refusal>
     if count > THREADS {
         return Err(Refusal::LogOver(LogPart::Threads, count as u64));
     }
-    match too_deep(log.threads()) {
+    match log.first_deeper(DEPTH) {
         Some(depth) => Err(Refusal::LogOver(LogPart::Depth, depth as u64)),
         None => Ok(()),
     }
-}
-
-/// The depth of the first thread name that is too deep.
-fn too_deep(threads: &[ThreadPath]) -> Option<usize>
-    ensures { result ≡ too_deep threads.now }
-{
-    threads
-        .iter()
-        .map(|thread| thread.name().children().len())
-        .find(|depth| *depth > DEPTH)
 }

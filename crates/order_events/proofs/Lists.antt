@@ -25,6 +25,11 @@ of_cons {X} y x xs i = by i.0 i.1 i.2
     by zero lt at = inl at
     by (suc k) lt at = inr (k, omega (arith, lt), at)
 
+-- an element of a list that isn't empty
+pub some_of : {X : Type 0} (xs : List X) (i : ℕ) → i < length xs → X
+some_of [] i within = absurd (omega (arith, within))
+some_of (x ∷ xs) i within = x
+
 -- an element by its place
 pub at_in : {X : Type 0} (xs : List X) (k : ℕ) (x : X) → slice_get xs k ≡ Some x → Contains xs x
 at_in xs k x at = (k, slice_get_within xs k x at, get_or_from_slice_get xs k x x at)

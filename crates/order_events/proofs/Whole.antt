@@ -21,7 +21,7 @@ use Rattle.path_walk.specs.declared.event.EventKind.TheVariants as kind
 use Rattle.path_walk.specs.declared.event.Region.{Region}
 use Rattle.path_walk.specs.declared.event.Sleep.{Sleep}
 use Rattle.path_walk.specs.declared.event.Link.{Link}
-use Rattle.lawful_order.specs.Events.{Of, Has, all_from}
+use Rattle.lawful_order.specs.Events.{Placed, Has, placed_in, all_from}
 use Rattle.lawful_order.specs.Whole.{HasStep, AreWhole}
 use Rattle.order_events.proofs.Lists.{of_nil, of_cons, in_front, in_back, of_filter_map}
 
@@ -239,7 +239,7 @@ counted : (code : Code) (log : Log) (t : ℕ) (ts : List ThreadPath)
 counted code log t [] = refl
 counted code log t (u ∷ ts) =
     let own = (walk_of code log u).events in
-    let placed : List (Of Event) = map (λ x. record { thread = t; it = x }) own in
+    let placed : List (Placed Event) = placed_in t own in
     let long : length placed ≡ length own = length-map own (λ x. record { thread = t; it = x }) in
     let later = all_from (λ w. w.events) (t + 1) (map (walk_of code log) ts) in
     sum_by-cons (λ n. n) (length own) (map (λ (x : ThreadPath). length (walk_of code log x).events) ts) ∙ ap (λ n. length own + n) (counted code log (t + 1) ts) ∙ ap (λ n. n + length later) (sym long) ∙ sym (length-append placed later)

@@ -1,45 +1,29 @@
 //! The events of all threads.
-ghost use Rattle.std.specs.Prelude.{◌≡◌, ◌≤◌, ◌++◌, ◌==◌, ◌&&◌, ◌+◌, ◌<◌, ◌^◌, length, map, IfOk, OnOk};
+ghost use Rattle.std.specs.Prelude.{◌≡◌, ◌≤◌, ◌++◌, ◌==◌, ◌&&◌, ◌+◌, ◌<◌, ◌^◌, length, IfOk, OnOk};
 ghost use Rattle.std.specs.List.{position_or_len};
 ghost use Rattle.path_walk.specs.tc_limits.declared.limits.TheConstants.{EVENTS};
 ghost use Rattle.lawful_order.specs.Events.{all_events, all_from};
 
+use crate::items::push_items;
+use lawful_order::Placed;
 use path_walk::{Event, Paths, Walk};
 use std::alloc::{AllocError, Global};
 use std::marker::Model;
-
-/// An event of a thread, with the thread's index in the paths.
-#[derive(Debug, Drop)]
-pub struct Placed {
-    /// The thread.
-    pub thread: usize,
-    /// The event.
-    pub event: Event,
-}
-
-impl Model for Placed {
-    ghost use Rattle.lawful_order.specs.Events.{Of};
-    ghost use Rattle.path_walk.specs.declared.event.Event.{Event};
-
-    ghost Value = { Of Event };
-
-    ghost view = { λ p. record { thread = p.thread; it = p.event } };
-}
 
 /// All events, one thread after another, each thread's by step. The number of an event is its
 /// index. There are at most `EVENTS`.
 #[derive(Debug, Drop)]
 pub struct Events {
-    all: Vec<Placed>,
+    all: Vec<Placed<Event>>,
 }
 
 impl Model for Events {
     ghost use Rattle.std.specs.Prelude.{List, length, ◌≤◌};
     ghost use Rattle.path_walk.specs.tc_limits.declared.limits.TheConstants.{EVENTS};
-    ghost use Rattle.lawful_order.specs.Events.{Of};
+    ghost use Rattle.lawful_order.specs.Events.{Placed};
     ghost use Rattle.path_walk.specs.declared.event.Event.{Event};
 
-    ghost Value = { List (Of Event) };
+    ghost Value = { List (Placed Event) };
 
     ghost view = { λ e. e.all.items };
 
@@ -58,7 +42,7 @@ impl Events {
     }
 
     /// All of them.
-    pub fn all(&self) -> &[Placed]
+    pub fn all(&self) -> &[Placed<Event>]
         ensures events { result.now ≡ self.now }
         ensures few { length self.now ≤ EVENTS }
     {
@@ -72,7 +56,7 @@ impl Events {
     {
         let mut number: u32 = 0;
         for placed in self.all() {
-            if placed.thread == thread && placed.event.step == step {
+            if placed.thread == thread && placed.it.step == step {
                 return number;
             }
             number += 1;
@@ -82,24 +66,11 @@ impl Events {
 }
 
 /// Appends the events of all threads, the first of which has index 0.
-fn push_walks(all: &mut Vec<Placed>, threads: &[Walk]) -> Result<(), AllocError>
+fn push_walks(all: &mut Vec<Placed<Event>>, threads: &[Walk]) -> Result<(), AllocError>
     ensures { OnOk result (all.new.items ≡ all.old.items ++ all_from (λ w. w.events) 0 threads.now) }
 {
     for (thread, walk) in threads.iter().enumerate() {
-        push_events(all, thread, walk.events())?;
-    }
-    Ok(())
-}
-
-/// Appends the events of a thread.
-fn push_events(all: &mut Vec<Placed>, thread: usize, events: &[Event]) -> Result<(), AllocError>
-    ensures { OnOk result (all.new.items ≡ all.old.items ++ map (λ x. record { thread = thread; it = x }) events.now) }
-{
-    for event in events {
-        all.push(Placed {
-            thread,
-            event: *event,
-        })?;
+        push_items(all, thread, walk.events())?;
     }
     Ok(())
 }

@@ -3,10 +3,13 @@
 
 mod events;
 mod formula;
+mod items;
 mod laws;
 mod sleeps;
 
-pub use events::{Events, Placed};
+pub use events::Events;
 pub use formula::{formula_of, one_of, single};
+pub use items::push_items;
+pub use lawful_order::Placed;
 pub use laws::{numbers_differ, paths_are_whole, steps_have_numbers};
-pub use sleeps::{PlacedSleep, Sleeps};
+pub use sleeps::Sleeps;

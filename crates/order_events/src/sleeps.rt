@@ -1,41 +1,25 @@
 //! The sleeps of all threads.
-ghost use Rattle.std.specs.Prelude.{◌≡◌, ◌++◌, map, IfOk, OnOk};
+ghost use Rattle.std.specs.Prelude.{◌≡◌, ◌++◌, IfOk, OnOk};
 ghost use Rattle.lawful_order.specs.Events.{all_sleeps, all_from};
 
+use crate::items::push_items;
+use lawful_order::Placed;
 use path_walk::{Paths, Sleep, Walk};
 use std::alloc::{AllocError, Global};
 use std::marker::Model;
 
-/// A sleep of a thread, with the thread's index in the paths.
-#[derive(Debug, Drop)]
-pub struct PlacedSleep {
-    /// The thread.
-    pub thread: usize,
-    /// The sleep.
-    pub sleep: Sleep,
-}
-
-impl Model for PlacedSleep {
-    ghost use Rattle.lawful_order.specs.Events.{Of};
-    ghost use Rattle.path_walk.specs.declared.event.Sleep.{Sleep};
-
-    ghost Value = { Of Sleep };
-
-    ghost view = { λ p. record { thread = p.thread; it = p.sleep } };
-}
-
 /// All sleeps, one thread after another, each thread's by step. The number of a sleep is its index.
 #[derive(Debug, Drop)]
 pub struct Sleeps {
-    all: Vec<PlacedSleep>,
+    all: Vec<Placed<Sleep>>,
 }
 
 impl Model for Sleeps {
     ghost use Rattle.std.specs.Prelude.{List};
-    ghost use Rattle.lawful_order.specs.Events.{Of};
+    ghost use Rattle.lawful_order.specs.Events.{Placed};
     ghost use Rattle.path_walk.specs.declared.event.Sleep.{Sleep};
 
-    ghost Value = { List (Of Sleep) };
+    ghost Value = { List (Placed Sleep) };
 
     ghost view = { λ s. s.all.items };
 }
@@ -51,7 +35,7 @@ impl Sleeps {
     }
 
     /// All of them.
-    pub fn all(&self) -> &[PlacedSleep]
+    pub fn all(&self) -> &[Placed<Sleep>]
         ensures { result.now ≡ self.now }
     {
         self.all.as_slice()
@@ -59,28 +43,11 @@ impl Sleeps {
 }
 
 /// Appends the sleeps of all threads, the first of which has index 0.
-fn push_walks(all: &mut Vec<PlacedSleep>, threads: &[Walk]) -> Result<(), AllocError>
+fn push_walks(all: &mut Vec<Placed<Sleep>>, threads: &[Walk]) -> Result<(), AllocError>
     ensures { OnOk result (all.new.items ≡ all.old.items ++ all_from (λ w. w.sleeps) 0 threads.now) }
 {
     for (thread, walk) in threads.iter().enumerate() {
-        push_sleeps(all, thread, walk.sleeps())?;
-    }
-    Ok(())
-}
-
-/// Appends the sleeps of a thread.
-fn push_sleeps(
-    all: &mut Vec<PlacedSleep>,
-    thread: usize,
-    sleeps: &[Sleep],
-) -> Result<(), AllocError>
-    ensures { OnOk result (all.new.items ≡ all.old.items ++ map (λ x. record { thread = thread; it = x }) sleeps.now) }
-{
-    for sleep in sleeps {
-        all.push(PlacedSleep {
-            thread,
-            sleep: *sleep,
-        })?;
+        push_items(all, thread, walk.sleeps())?;
     }
     Ok(())
 }

@@ -22,7 +22,7 @@ use Rattle.clap_system.specs.sym_exec.declared.symbolic.Cell.TheVariants.{Fixed,
 use Rattle.plan_runs.proofs.sym_laws.Executed.{whole_on}
 use Rattle.clap_system.proofs.sym_events.Terms.{have_terms}
 use Rattle.lawful_terms.specs.lawful_order.Cells.{value_at_start}
-use Rattle.lawful_terms.specs.lawful_order.Events.{Of}
+use Rattle.lawful_terms.specs.lawful_order.Events.{Placed}
 use Rattle.lawful_terms.specs.order_cells.Same.{known_same, same_test}
 use Rattle.lawful_terms.specs.order_cells.Terms.{AccessIsOf, CellIsOf, HaveTerms}
 use Rattle.clap_system.proofs.order_events.Lists.{of_filter_map, of_flat_map}
@@ -91,13 +91,13 @@ module _ (symbolic : Symbolic) (nodes : List Node) (have : HaveTerms nodes symbo
       kept_names buffered bound o.place p.0 n (of_option (kept_test buffered bound symbolic nodes o.place p.0) n p.2))
 
   -- the terms that loads need
-  abbrev accesses : List (Of Access)
+  abbrev accesses : List (Placed Access)
   accesses = all_accesses symbolic
 
-  access_is : (a : Of Access) → Contains accesses a → AccessIsOf (length nodes) a.it
+  access_is : (a : Placed Access) → Contains accesses a → AccessIsOf (length nodes) a.it
   access_is a i = have a.thread a.it (access_of symbolic a i)
 
-  test_of_names : (load b : Of Access) (n : Node) → Contains accesses load → Contains accesses b → test_of nodes load b ≡ Some n → Names n
+  test_of_names : (load b : Placed Access) (n : Node) → Contains accesses load → Contains accesses b → test_of nodes load b ≡ Some n → Names n
   test_of_names load b n i j is = by (may_be_seen nodes load b) is
     where
       by : (m : Bool) → cond m (option_and_then (λ (v : ℕ). same_test nodes b.it.cell load.it.cell) b.it.writes) None ≡ Some n → Names n
@@ -105,7 +105,7 @@ module _ (symbolic : Symbolic) (nodes : List Node) (have : HaveTerms nodes symbo
           (λ v at test. test_names nodes b.it.cell load.it.cell n (access_is b j).cell (access_is load i).cell test)
       by false is = absurd (none-some n is)
 
-  load_names : (code : Code) (load : Of Access) → Contains accesses load → (o : Option ℕ) → All Names (option_map_or (needs_of code accesses nodes load) o [])
+  load_names : (code : Code) (load : Placed Access) → Contains accesses load → (o : Option ℕ) → All Names (option_map_or (needs_of code accesses nodes load) o [])
   load_names code load i None = All-nil Names
   load_names code load i (Some number) =
       let start = Constant (value_at_start code load.it.cell) in
@@ -115,7 +115,7 @@ module _ (symbolic : Symbolic) (nodes : List Node) (have : HaveTerms nodes symbo
 
   read_names : (code : Code) → All Names (read_needs code symbolic nodes)
   read_names code = each_in Names (read_needs code symbolic nodes) (λ n i.
-      let o = of_flat_map (λ (a : Of Access). option_map_or (needs_of code accesses nodes a) a.it.takes []) n accesses i in
+      let o = of_flat_map (λ (a : Placed Access). option_map_or (needs_of code accesses nodes a) a.it.takes []) n accesses i in
       All-contains Names (option_map_or (needs_of code accesses nodes o.0) o.0.it.takes []) n (load_names code o.0 o.1 o.0.it.takes) o.2)
 
 -- the terms of the system of paths are terms

@@ -2,7 +2,7 @@
 use Rattle.std.proofs.Common.{◌≡◌, ◌∙◌, ◌⊎◌, inl, inr, ℕ, zero, suc, ◌+◌, ◌-◌, ◌≤◌, ◌<◌, Bool, true, false, cond, ◌||◌}
 use Rattle.std.proofs.Common.{List, [], ◌∷◌, ◌++◌, length, map, take, drop, get_or, slice_index, sum, ◌==◌}
 use Rattle.std.proofs.Common.{IsSome, Option, Some, None, Result, Ok, Err, refl, sym, ap, subst, arith, true≢false, bytes_eq}
-use Rattle.std.specs.Prelude.{is_some, option_and_then, slice_get, unwrap_or, IfSome, IfOk, OnOk, IfErr}
+use Rattle.std.specs.Prelude.{is_some, option_and_then, slice_get, unwrap_or, IfSome, OnOk, IfErr}
 use Rattle.std.specs.List.{list_any}
 use Rattle.std.specs.Ordering.{is_lt}
 use Rattle.std.specs.Result.{result_err, result_unwrap_or}
@@ -22,10 +22,10 @@ use Rattle.tc_code.specs.Code.{Code}
 use Rattle.run_log.specs.Logs.{rises_from, is_there}
 use Rattle.path_walk.specs.Steps.{steps_at, places_of}
 use Rattle.path_walk.specs.Fits.{started, ending_of, places_in, child_function, function_of, misfit_of, IsFault, Fits}
-use Rattle.path_walk.specs.Paths.{Walk, have_exited, walk_of, function_in, steps_in, operators_in, is_dead, saturated_count, Paths, paths_of}
+use Rattle.path_walk.specs.Paths.{Walk, walk_of, function_in, steps_in, operators_in, is_dead, saturated_count, Paths}
 use Rattle.path_walk.specs.helpers.Accounts.{Account, account_by, mapped}
 use Rattle.path_walk.specs.helpers.Drafts.{Draft, IsMissing, IsAtLeast, IsAbsentChild, IsFirstAbsent, IsNext, IsDraft, first_fault, least}
-use Rattle.path_walk.specs.helpers.Drafts.{added, no_draft, started_at, paths_by, finished, finished_by}
+use Rattle.path_walk.specs.helpers.Drafts.{added, started_at, paths_by, finished, finished_by}
 use Rattle.path_walk.specs.declared.ending.Ending.{Ending}
 use Rattle.path_walk.specs.declared.fault.Misfit.{Misfit}
 use Rattle.path_walk.specs.declared.fault.Misfit.TheVariants as misfit
@@ -381,11 +381,6 @@ module _ (code : Code) (log : Log) where
       function_is : function_in code log t ≡ f
       function_is = ap (λ o. unwrap_or o 0) e
 
-      steps_are : steps_in code log t ≡ steps_at code f ps
-      steps_are =
-          ap (λ g. steps_at code g (places_in code log t.name g)) function_is
-          ∙ ap (steps_at code f) (walked_is f refl)
-
       account_is : account_by code (ending_of log t.name) t (function_in code log t) (places_in code log t.name (function_in code log t))
           ≡ account_by code (ending_of log t.name) t f ps
       account_is =
@@ -555,16 +550,6 @@ module _ (code : Code) (log : Log) where
         clear (take (length d.threads) log.threads) draft.fit draft.main r
         (λ p at h. subst (λ ts. IsSome (path_under p ts)) (sym whole) h) unmissed
 
-    paths_are : (failing : Failing) → failing ≡ log.failing
-        → paths_by d failing ≡ paths_of code log
-    paths_are failing e = λ i. record {
-      failing = e i;
-      threads = (draft.threads ∙ ap (map (walk_of code log)) whole) i;
-      events = (draft.events ∙ ap (λ ts. sum (map (λ (x : ThreadPath). length (walk_of code log x).events) ts)) whole) i;
-      operators = (draft.operators ∙ ap (λ ts. saturated_count (sum (map (operators_in code log) ts))) whole) i;
-      dead = (draft.dead ∙ ap (list_any (is_dead code log)) whole) i || have_exited (e i) ((draft.threads ∙ ap (map (walk_of code log)) whole) i);
-    }
-
     fits_by : (o : Option Name) → ((r : Name) → IsMissing code log (take (length d.threads) log.threads) r → IsAtLeast o r) → (failing : Failing) → (r : Paths)
         → finished_by o d failing ≡ Ok r → Fits code log × (paths_by d failing ≡ r)
     fits_by None least failing r h = ((λ q. clear_whole q (least q)), cc)
@@ -585,19 +570,12 @@ module _ (code : Code) (log : Log) where
     pub whole_fits : (r : Paths) → finished d log.failing ≡ Ok r → Fits code log
     whole_fits r h = (fits_by d.missing draft.least log.failing r h).0
 
-    pub whole_paths : (r : Paths) → finished d log.failing ≡ Ok r → r ≡ paths_of code log
-    whole_paths r h = sym (fits_by d.missing draft.least log.failing r h).1 ∙ paths_are log.failing refl
-
     pub whole_fault : (e : WalkFault) → finished d log.failing ≡ Err e → IsFault code log e
     whole_fault e h = fault_by d.missing draft.missing draft.least log.failing e h
 
     pub whole_ok : (r : Result Paths WalkFault) → r ≡ finished d log.failing → OnOk r (Fits code log)
     whole_ok (Ok p) h = whole_fits p (sym h)
     whole_ok (Err e) h = tt
-
-    pub whole_are : (r : Result Paths WalkFault) → r ≡ finished d log.failing → IfOk r (λ p. p ≡ paths_of code log)
-    whole_are (Ok p) h = whole_paths p (sym h)
-    whole_are (Err e) h = tt
 
     pub whole_err : (r : Result Paths WalkFault) → r ≡ finished d log.failing → IfErr r (IsFault code log)
     whole_err (Ok p) h = tt
@@ -626,29 +604,4 @@ module _ (code : Code) (log : Log) where
   main_missing h t e some long = record {
     there = missing code log [] (length code.functions - 1) refl (no_main log.threads h t e some long);
     least = λ q less. absurd (none_less q less);
-  }
-
-  -- a log whose first name is main's has main
-  has_main : (ts : List ThreadPath) (t : ThreadPath) → t ≡ get_or ts 0 t → 0 < length ts → length t.name ≡ 0 → IsSome (path_under [] ts)
-  has_main [] t e some short = absurd (omega arith)
-  has_main (o ∷ ts) t e some short = by o.name refl (ap (λ (x : ThreadPath). x.name) e)
-    where
-      by : (n : Name) → o.name ≡ n → t.name ≡ o.name → IsSome (path_under [] (o ∷ ts))
-      by [] is same = subst (λ m. IsSome (cond (bytes_eq [] m) (Some o.path) (path_under [] ts))) (sym is) refl
-      by (x ∷ n) is same = absurd (omega (arith, short, ap length (same ∙ is)))
-
-  pub empty_draft : rises_from None log.threads ≡ true → (t : ThreadPath) → t ≡ get_or log.threads 0 t → 0 < length log.threads → length t.name ≡ 0
-      → IsDraft code log no_draft
-  empty_draft h t e some short = record {
-    rises = h;
-    main = has_main log.threads t e some short;
-    threads = refl;
-    started = refl;
-    events = refl;
-    few = omega arith;
-    operators = refl;
-    dead = refl;
-    fit = λ n is. absurd (true≢false (sym is));
-    missing = tt;
-    least = λ n is. absurd (true≢false (sym is.within));
   }

@@ -1,6 +1,7 @@
 //! The account of one thread.
-ghost use Rattle.std.specs.Prelude.{◌≡◌, ◌<◌, ◌^◌, length, IfOk};
+ghost use Rattle.std.specs.Prelude.{◌≡◌, ◌<◌, ◌≤◌, ◌^◌, length, IfOk, OnOk};
 ghost use Rattle.tc_code.specs.Code.{instr_at};
+ghost use Rattle.tc_code.specs.tc_limits.declared.limits.TheConstants.{STEPS};
 ghost use Rattle.path_walk.specs.Fits.{starts, started};
 ghost use Rattle.path_walk.specs.Paths.{blocked_after};
 ghost use Rattle.path_walk.specs.Steps.{steps_at, places_of};
@@ -112,6 +113,7 @@ pub fn account_of(
     ensures told { Gives (λ c. record { walk = c.walk; started = c.started; operators = c.operators; dead = c.dead }) result
         (mapped (account_by code.now ending path.now function) (places_of code.now function ending path.now.path)) }
     ensures few { IfOk result (λ c. (length c.started < 2 ^ 16) × (length c.walk.events < 2 ^ 16)) }
+    ensures short { OnOk result (path.now.path.steps ≤ STEPS) }
 {
     let Followed { places, end } = follow(alloc, code, function, ending, path)?;
     let operators = operators(alloc, code, function, &places)?;

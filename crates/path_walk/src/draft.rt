@@ -5,7 +5,7 @@ ghost use Rattle.std.specs.List.{list_all, list_any};
 ghost use Rattle.tc_base.specs.Names.{Name as PlainName};
 ghost use Rattle.run_log.specs.Logs.{Log as PlainLog};
 ghost use Rattle.tc_base.specs.Paths.{ThreadPath as PlainPath, path_under};
-ghost use Rattle.tc_code.specs.tc_limits.declared.limits.TheConstants.{THREADS};
+ghost use Rattle.tc_code.specs.tc_limits.declared.limits.TheConstants.{STEPS, THREADS};
 ghost use Rattle.path_walk.specs.Fits.{ending_of, function_of, IsFault, Fits};
 ghost use Rattle.path_walk.specs.Paths.{have_exited, paths_of};
 ghost use Rattle.path_walk.specs.declared.ending.Ending.TheVariants.{Fails, Open};
@@ -233,6 +233,7 @@ impl Draft {
         requires draft { IsDraft code.now log.now.log self.old }
         requires next { IsNext log.now.log (length self.old.threads) thread.now }
         ensures ok { OnOk result (IsDraft code.now log.now.log self.new × (length self.new.threads ≡ length self.old.threads + 1)) }
+        ensures short { OnOk result (thread.now.path.steps ≤ STEPS) }
         ensures err { IfErr result (IsFault code.now log.now.log) }
     {
         let name = thread.name();

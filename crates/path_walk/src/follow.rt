@@ -1,6 +1,7 @@
 //! The places of the steps of one thread, by its path.
-ghost use Rattle.std.specs.Prelude.{◌≡◌, ◌+◌, ◌<◌, ◌≤◌, ◌^◌, length, drop, true, option_map, OnSome, IfOk};
+ghost use Rattle.std.specs.Prelude.{◌≡◌, ◌+◌, ◌<◌, ◌≤◌, ◌^◌, length, drop, true, option_map, OnSome, IfOk, OnOk};
 ghost use Rattle.tc_code.specs.Code.{instr_at};
+ghost use Rattle.tc_code.specs.tc_limits.declared.limits.TheConstants.{STEPS};
 ghost use Rattle.std.specs.Option.{option_map_or};
 ghost use Rattle.path_walk.specs.Steps.{onward, branched, is_site, can_block, step_at, ends_at_site, places_from, end_from, places_of};
 ghost use Rattle.path_walk.specs.helpers.Accounts.{Gives, position_of};
@@ -140,6 +141,7 @@ fn steps(
     ensures told { Gives (λ w. w.places.items) result (places_from code.now function path.now.path.steps 0 path.now.path.outcomes) }
     ensures end { IfOk result (λ w. w.end ≡ end_from code.now function path.now.path.steps 0 path.now.path.outcomes) }
     ensures few { IfOk result (λ w. length w.places.items < 2 ^ 16) }
+    ensures short { OnOk result (path.now.path.steps ≤ STEPS) }
 {
     let outcomes = path.outcomes();
     let mut places = Vec::new(alloc);
@@ -174,6 +176,7 @@ pub fn follow(
     ensures told { Gives (λ w. w.places.items) result (places_of code.now function ending path.now.path) }
     ensures end { IfOk result (λ w. w.end ≡ end_from code.now function path.now.path.steps 0 path.now.path.outcomes) }
     ensures few { IfOk result (λ w. length w.places.items < 2 ^ 16) }
+    ensures short { OnOk result (path.now.path.steps ≤ STEPS) }
 {
     let way = steps(alloc, code, function, path)?;
     match ending {

@@ -1,5 +1,6 @@
 //! The walks of threads.
-ghost use Rattle.std.specs.Prelude.{◌≡◌, is_none};
+ghost use Rattle.std.specs.Prelude.{◌≡◌, bytes_eq, is_none};
+ghost use Rattle.tc_base.specs.Names.{child};
 
 use crate::{Blocked, Event, Link, Region, Sleep};
 use std::marker::Model;
@@ -45,6 +46,13 @@ impl Walk {
         ensures { result.now ≡ self.now.name }
     {
         &self.name
+    }
+
+    /// Whether this is the walk of the parent's child of that number.
+    pub fn is_child_of(&self, parent: &Walk, number: u32) -> bool
+        ensures { result ≡ bytes_eq self.now.name (child parent.now.name number) }
+    {
+        self.name.is_child_of(&parent.name, number)
     }
 
     /// The number of its function.

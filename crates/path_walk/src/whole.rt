@@ -1,6 +1,7 @@
 //! The walks of all threads of a log.
 ghost use Rattle.std.specs.Prelude.{◌≡◌, ◌≤◌, length, IfOk, OnOk, IfErr};
-ghost use Rattle.tc_code.specs.tc_limits.declared.limits.TheConstants.{THREADS};
+ghost use Rattle.std.specs.List.{All};
+ghost use Rattle.tc_code.specs.tc_limits.declared.limits.TheConstants.{STEPS, THREADS};
 ghost use Rattle.path_walk.specs.Fits.{Fits, IsFault};
 ghost use Rattle.path_walk.specs.Paths.{paths_of};
 
@@ -19,6 +20,8 @@ pub fn walk(alloc: Global, code: &Code, log: &Log) -> Result<Paths, WalkFault>
     ensures fits { OnOk result (Fits code.now log.now.log) }
     // The paths are those of the code and the log.
     ensures paths { IfOk result (λ paths. paths ≡ paths_of code.now log.now.log) }
+    // A log counts the steps of a thread in 16 bits.
+    ensures steps { OnOk result (All (λ t. t.path.steps ≤ STEPS) log.now.log.threads) }
     // A fault is that of the least name that has one.
     ensures err { IfErr result (IsFault code.now log.now.log) }
 {

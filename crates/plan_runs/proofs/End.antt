@@ -17,7 +17,7 @@ use Rattle.sym_steps.specs.path_laws.history.Along.{IsThread}
 use Rattle.condition_order.specs.sym_terms.declared.node.Node.{Node}
 use Rattle.condition_order.specs.order_formula.Worlds.{World}
 use Rattle.condition_order.specs.order_formula.declared.group.Group.TheVariants.{Own}
-use Rattle.condition_order.specs.lawful_order.Events.{Of, all_events, number_of, place_of}
+use Rattle.condition_order.specs.lawful_order.Events.{Placed, all_events, number_of, place_of}
 use Rattle.condition_order.proofs.order_events.Lists.{in_at}
 use Rattle.condition_order.proofs.order_events.Numbers.{has_number}
 use Rattle.world_plan.specs.Going.{IsLawfulWorld, is_pending, place}
@@ -55,7 +55,7 @@ module _ {B : Type 0} (setting : Setting B) (nodes : List Node) (w : World) (l :
   end = end_of paths w
 
   -- the event that fails
-  pub record FailsAt (e : Of Event) : Type 0 where
+  pub record FailsAt (e : Placed Event) : Type 0 where
     pub walk : Walk
     pub there : IsThread code log e.thread walk
     pub among : Contains walk.events e.it
@@ -67,22 +67,22 @@ module _ {B : Type 0} (setting : Setting B) (nodes : List Node) (w : World) (l :
     pub kinds : (t : ℕ) (q : Walk) (x : Event) → IsThread code log t q → Contains q.events x → x.kind ≢ kind.Fail
     pub before : (t : ℕ) (q : Walk) (x : Event) → IsThread code log t q → Contains q.events x → place code log w t x < end
 
-  pub end_is : ((e : Of Event) × FailsAt e) ⊎ NoneFails
-  end_is = by (find (λ (e : Of Event). is_failure e.it.kind) (all_events paths)) refl
+  pub end_is : ((e : Placed Event) × FailsAt e) ⊎ NoneFails
+  end_is = by (find (λ (e : Placed Event). is_failure e.it.kind) (all_events paths)) refl
     where
-      end_by : Option (Of Event) → ℕ
-      end_by o = option_map_or (λ (e : Of Event). place_of paths w e.thread e.it.step) o (fold (λ n p. max n (p + 1)) 0 w.positions)
+      end_by : Option (Placed Event) → ℕ
+      end_by o = option_map_or (λ (e : Placed Event). place_of paths w e.thread e.it.step) o (fold (λ n p. max n (p + 1)) 0 w.positions)
 
-      by : (o : Option (Of Event)) → find (λ (e : Of Event). is_failure e.it.kind) (all_events paths) ≡ o → ((e : Of Event) × FailsAt e) ⊎ NoneFails
+      by : (o : Option (Placed Event)) → find (λ (e : Placed Event). is_failure e.it.kind) (all_events paths) ≡ o → ((e : Placed Event) × FailsAt e) ⊎ NoneFails
       by (Some e) is =
-          let f = of_find (λ (a : Of Event). is_failure a.it.kind) (all_events paths) e is in
+          let f = of_find (λ (a : Placed Event). is_failure a.it.kind) (all_events paths) e is in
           let i = in_at (all_events paths) e f.0 in
           let q = event_numbered paths (paths_whole setting nodes w l) i.0 e i.1 in
           inl (e, record { walk = q.0; there = q.1; among = q.2; fails = failure_is e.it.kind f.1; last = sym (ap end_by is) })
       by None none =
           inr (record {
             kinds = λ t q x there i fails.
-                let f = in_find (λ (a : Of Event). is_failure a.it.kind) (all_events paths) (record { thread = t; it = x })
+                let f = in_find (λ (a : Placed Event). is_failure a.it.kind) (all_events paths) (record { thread = t; it = x })
                 (among_all paths t q x there i) (failure_of x.kind fails) in
                 none-some f.0 (sym none ∙ f.1);
             before = λ t q x there i.
@@ -95,7 +95,7 @@ module _ {B : Type 0} (setting : Setting B) (nodes : List Node) (w : World) (l :
   pub fail_ends : (t : ℕ) (q : Walk) (x : Event) → IsThread code log t q → Contains q.events x → x.kind ≡ kind.Fail → place code log w t x ≡ end
   fail_ends t q x there i fails = by end_is
     where
-      by : (((e : Of Event) × FailsAt e) ⊎ NoneFails) → place code log w t x ≡ end
+      by : (((e : Placed Event) × FailsAt e) ⊎ NoneFails) → place code log w t x ≡ end
       by (inr none) = absurd (none.kinds t q x there i fails)
       by (inl one) =
           let f = one.1 in
@@ -114,7 +114,7 @@ module _ {B : Type 0} (setting : Setting B) (nodes : List Node) (w : World) (l :
       → is_pending ops.buffered x ≡ false → place code log w t x < end
   others_before t q x there i kept now = by end_is
     where
-      by : (((e : Of Event) × FailsAt e) ⊎ NoneFails) → place code log w t x < end
+      by : (((e : Placed Event) × FailsAt e) ⊎ NoneFails) → place code log w t x < end
       by (inr none) = none.before t q x there i
       by (inl one) =
           let f = one.1 in
@@ -127,7 +127,7 @@ module _ {B : Type 0} (setting : Setting B) (nodes : List Node) (w : World) (l :
       → Contains q.events x → place code log w t x < end
   all_before no_thread t q x there i = by end_is
     where
-      by : (((e : Of Event) × FailsAt e) ⊎ NoneFails) → place code log w t x < end
+      by : (((e : Placed Event) × FailsAt e) ⊎ NoneFails) → place code log w t x < end
       by (inr none) = none.before t q x there i
       by (inl one) =
           let f = one.1 in

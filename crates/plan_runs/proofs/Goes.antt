@@ -23,7 +23,7 @@ use Rattle.sym_steps.proofs.path_laws.of_history.Walks.{walk_is, few_steps}
 use Rattle.condition_order.specs.sym_terms.declared.node.Node.{Node}
 use Rattle.condition_order.specs.order_formula.Worlds.{World, position}
 use Rattle.condition_order.specs.order_formula.declared.group.Group.TheVariants.{Own}
-use Rattle.condition_order.specs.lawful_order.Events.{Of, all_events, all_sleeps, ender_of}
+use Rattle.condition_order.specs.lawful_order.Events.{Placed, all_events, all_sleeps, ender_of}
 use Rattle.world_plan.specs.Going.{IsLawfulWorld, is_pending, place}
 use Rattle.world_plan.specs.Plan.{event_at, drains_next, does_next, goes_on, goes_to, with_drain, with_event, up_to}
 use Rattle.world_plan.proofs.Numbers.{event_numbered, number_is, one_event}
@@ -214,14 +214,14 @@ module _ {B : Type 0} (setting : Setting B) (nodes : List Node) (w : World) (l :
     nowhere t q x there i at = none_at paths w l.world l.of.events (paths_whole setting nodes w l) p t q x none there i at
 
     -- no sleep ends at a position without an event
-    no_ender : (s k : ℕ) (x : Of Sleep) → slice_get (all_sleeps paths) s ≡ Some x → ender_of w s ≡ Some k → position w k ≡ p → ⊥
+    no_ender : (s k : ℕ) (x : Placed Sleep) → slice_get (all_sleeps paths) s ≡ Some x → ender_of w s ≡ Some k → position w k ≡ p → ⊥
     no_ender s k x is ends at =
         elim (l.of.enders s k x.it.condition x (record { is = is; condition = refl }) ends) [
           | inl signal ↦ of_event signal.event signal.is
           | inr broadcast ↦ of_event broadcast.event broadcast.is
         ]
       where
-        of_event : (e : Of Event) → slice_get (all_events paths) k ≡ Some e → ⊥
+        of_event : (e : Placed Event) → slice_get (all_events paths) k ≡ Some e → ⊥
         of_event e here =
             let whole = paths_whole setting nodes w l in
             let q = event_numbered paths whole k e here in
@@ -288,12 +288,12 @@ module _ {B : Type 0} (setting : Setting B) (nodes : List Node) (w : World) (l :
   module _ (end : ℕ)
       (unfailed : (t : ℕ) (q : Walk) (x : Event) → IsThread code log t q → Contains q.events x → place code log w t x < end → x.kind ≢ kind.Fail) where
     -- the deeds by which an event comes, given its thread
-    abbrev by_walk : List Deed → Of Event → Option Walk → List Deed
+    abbrev by_walk : List Deed → Placed Event → Option Walk → List Deed
     by_walk h e o =
         option_map_or (λ (q : Walk). with_drain ops.buffered code paths w (goes_to ops.buffered code paths w h e.thread q.name (e.it.step + 1)) q.name e.it)
         o h
 
-    event_is_passed : (p : ℕ) (h : List Deed) → is_gone p h → p < end → (e : Of Event) → event_at paths w p ≡ Some e
+    event_is_passed : (p : ℕ) (h : List Deed) → is_gone p h → p < end → (e : Placed Event) → event_at paths w p ≡ Some e
         → is_gone (suc p) (with_event ops.buffered code paths w h e)
     event_is_passed p h gone lt e is =
         let a = event_at_is paths w l.world l.of.events (paths_whole setting nodes w l) p e is in
@@ -307,7 +307,7 @@ module _ {B : Type 0} (setting : Setting B) (nodes : List Node) (w : World) (l :
         so_far : List Deed
         so_far = up_to ops.buffered code paths w p
 
-        by : (o : Option (Of Event)) → event_at paths w p ≡ o → is_gone p so_far
+        by : (o : Option (Placed Event)) → event_at paths w p ≡ o → is_gone p so_far
             → is_gone (suc p) (option_map_or (with_event ops.buffered code paths w so_far) o so_far)
         by None none gone = none_passes p so_far gone none
         by (Some e) is gone = event_is_passed p so_far gone (omega (arith, le)) e is

@@ -7,13 +7,13 @@ use Rattle.condition_order.specs.tc_base.Names.{Name}
 use Rattle.condition_order.specs.tc_base.declared.request.Request.{Request}
 use Rattle.condition_order.specs.tc_base.declared.request.Request.TheVariants.{Silent, WakeOne, Start}
 use Rattle.sym_steps.specs.run_history.History.{Deed, Did}
-use Rattle.sym_steps.specs.run_history.Told.{steps_in, is_thread_in, failed_in}
+use Rattle.sym_steps.specs.run_history.Told.{steps_in, is_thread_in}
 use Rattle.sym_steps.specs.run_follows.Follow.{taken_in, may_do_in, OtherIs, MayFollow}
 use Rattle.condition_order.specs.path_walk.Paths.{Walk, Paths, ArePaths, paths_of}
 use Rattle.sym_steps.specs.path_laws.Setting.{Setting}
 use Rattle.sym_steps.specs.path_laws.Deeds.{kind_of}
 use Rattle.sym_steps.specs.path_laws.history.Along.{IsThread, PathThread}
-use Rattle.sym_steps.specs.path_laws.history.Next.{failing_next, IsNextOnPath}
+use Rattle.sym_steps.specs.path_laws.history.Next.{IsNextOnPath}
 use Rattle.sym_steps.proofs.path_laws.of_history.Next.{next_on_path}
 use Rattle.sym_steps.proofs.path_laws.of_history.Stays.{step_stays}
 use Rattle.sym_steps.proofs.path_laws.of_history.Walks.{thread_path_at}
@@ -32,7 +32,6 @@ use Rattle.world_plan.specs.Going.{IsLawfulWorld}
 use Rattle.world_plan.specs.Plan.{other_of, does_next}
 use Rattle.world_plan.proofs.Threads.{one_thread}
 use Rattle.plan_runs.proofs.Given.{Gone, Along}
-use Rattle.plan_runs.proofs.Deeds.{failed_after}
 use Rattle.plan_runs.proofs.Histories.{history_of, valued_of}
 
 pub is_other : (paths : Paths) (w : World) (h : List Deed) (t : ℕ) (n : Name) (r : Request) → OtherIs h n r (other_of paths w h t n r)
@@ -121,6 +120,3 @@ module _ {B : Type 0} (setting : Setting B) (nodes : List Node) (w : World) (l :
             step_stays setting (history_of l gone) thread gone.going n.next k n.request
             (taken_in ops.buffered code h q.name n.request) other follows n.told.branches
             (n.told.fails_so k (taken_in ops.buffered code h q.name n.request) other)
-
-      pub fails_as : failed_in (h ++ deed ∷ []) ≡ failing_next log h q
-      fails_as = failed_after h deed gone.going ∙ n.told.fails_so k (taken_in ops.buffered code h q.name n.request) other

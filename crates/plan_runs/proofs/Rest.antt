@@ -40,11 +40,6 @@ use Rattle.plan_runs.proofs.Next as next
 use Rattle.plan_runs.proofs.Next.{NextIs, next_is, paths_whole}
 use Rattle.plan_runs.proofs.Steps.{QuietAt, quiet_goes, event_along, event_order, one_more}
 
--- whether a place is that of the thread that fails
-place_fails : (f : Failing) (t : ℕ) → option_map_or (λ k. k == t) (place_in f) false ≡ true → has_failed f t ≡ true
-place_fails (failing.Thread k) t e = let same : k ≡ t = eqb-true k t e in eq-eqb t k (sym same)
-place_fails failing.Deadlock t e = e
-
 place_passes : (f : Failing) (t : ℕ) → option_map_or (λ k. k == t) (place_in f) false ≡ false → has_failed f t ≡ false
 place_passes (failing.Thread k) t e = grind (arith, e)
 place_passes failing.Deadlock t e = refl

@@ -16,29 +16,29 @@ use Rattle.order_formula.specs.Reads as plain
 use Rattle.order_formula.specs.Truth.{is_read, passes_at}
 use Rattle.order_formula.specs.Worlds.{World, is_before}
 use Rattle.order_cells.specs.lawful_order.Cells.{is_same_cell}
-use Rattle.order_cells.specs.lawful_order.Events.{Of, IsBefore, all_events, number_of}
+use Rattle.order_cells.specs.lawful_order.Events.{Placed, IsBefore, all_events, number_of}
 use Rattle.order_cells.specs.Same.{known_same, same_test}
 use Rattle.order_cells.proofs.Told.{either, tested, told}
 use Rattle.read_write.specs.Accesses.{is_one, is_earlier}
 use Rattle.read_write.specs.Reading.{may_be_seen, test_of, candidate_of, candidate_with}
 
-module _ (nodes : List Node) (load : Of Access) where
+module _ (nodes : List Node) (load : Placed Access) where
   -- the test of a write that may be seen is that of their two cells
-  pub tests_of : (b : Of Access) (v : ℕ) → may_be_seen nodes load b ≡ true → b.it.writes ≡ Some v
+  pub tests_of : (b : Placed Access) (v : ℕ) → may_be_seen nodes load b ≡ true → b.it.writes ≡ Some v
       → test_of nodes load b ≡ same_test nodes b.it.cell load.it.cell
   tests_of b v may writes =
       let test = same_test nodes b.it.cell load.it.cell in
       ap (λ m. if m then option_and_then (λ _. test) b.it.writes else None) may ∙ ap (option_and_then (λ _. test)) writes
 
-module _ (events : List (Of Event)) (nodes : List Node) (load : Of Access) where
+module _ (events : List (Placed Event)) (nodes : List Node) (load : Placed Access) where
   -- a candidate is a write, which may be seen
-  pub record IsCandidate (b : Of Access) (c : Candidate) : Type 0 where
+  pub record IsCandidate (b : Placed Access) (c : Candidate) : Type 0 where
     pub may : may_be_seen nodes load b ≡ true
     pub value : ℕ
     pub writes : b.it.writes ≡ Some value
     pub is : c ≡ candidate_with events nodes load b value
 
-  pub candidate_parts : (b : Of Access) (c : Candidate) → candidate_of events nodes load b ≡ Some c → IsCandidate b c
+  pub candidate_parts : (b : Placed Access) (c : Candidate) → candidate_of events nodes load b ≡ Some c → IsCandidate b c
   candidate_parts b c gives = by (may_be_seen nodes load b) refl b.it.writes refl gives
     where
       by : (m : Bool) → may_be_seen nodes load b ≡ m → (o : Option ℕ) → b.it.writes ≡ o
@@ -47,17 +47,17 @@ module _ (events : List (Of Event)) (nodes : List Node) (load : Of Access) where
       by true may None is at = absurd (none-some c at)
       by true may (Some v) is at = record { may = may; value = v; writes = is; is = sym (same_Some (candidate_with events nodes load b v) c at) }
 
-  pub candidate_there : (b : Of Access) (v : ℕ) → may_be_seen nodes load b ≡ true → b.it.writes ≡ Some v
+  pub candidate_there : (b : Placed Access) (v : ℕ) → may_be_seen nodes load b ≡ true → b.it.writes ≡ Some v
       → candidate_of events nodes load b ≡ Some (candidate_with events nodes load b v)
   candidate_there b v may is =
       ap (λ m. if m then option_map (candidate_with events nodes load b) b.it.writes else None) may ∙ ap (option_map (candidate_with events nodes load b)) is
 
-module _ (paths : Paths) (nodes : List Node) (w : World) (are : AreTerms nodes) (load : Of Access) where
+module _ (paths : Paths) (nodes : List Node) (w : World) (are : AreTerms nodes) (load : Placed Access) where
   -- if the test of indexes exists, the formula knows whether a write is to the load's cell
-  abbrev is_told : Of Access → Bool
+  abbrev is_told : Placed Access → Bool
   is_told b = option_map_or (passes_at nodes w) (option_map (id_of nodes) (same_test nodes b.it.cell load.it.cell)) true
 
-  cell_is_told : (b : Of Access) → may_be_seen nodes load b ≡ true → ((n : Node) → same_test nodes b.it.cell load.it.cell ≡ Some n → Contains nodes n)
+  cell_is_told : (b : Placed Access) → may_be_seen nodes load b ≡ true → ((n : Node) → same_test nodes b.it.cell load.it.cell ≡ Some n → Contains nodes n)
       → is_told b ≡ is_same_cell nodes w b.it.cell load.it.cell
   cell_is_told b may there = by (known_same nodes b.it.cell load.it.cell) refl (same_test nodes b.it.cell load.it.cell) refl
     where
@@ -72,7 +72,7 @@ module _ (paths : Paths) (nodes : List Node) (w : World) (are : AreTerms nodes) 
       by None is (Some n) at = sym (tested nodes w b.it.cell load.it.cell n are at (there n at))
 
   -- a write to the load's cell isn't known to be to another
-  may_be : (b : Of Access) → is_same_cell nodes w b.it.cell load.it.cell ≡ true → unwrap_or (known_same nodes b.it.cell load.it.cell) true ≡ true
+  may_be : (b : Placed Access) → is_same_cell nodes w b.it.cell load.it.cell ≡ true → unwrap_or (known_same nodes b.it.cell load.it.cell) true ≡ true
   may_be b same = by (known_same nodes b.it.cell load.it.cell) refl
     where
       by : (k : Option Bool) → known_same nodes b.it.cell load.it.cell ≡ k → unwrap_or k true ≡ true
@@ -81,11 +81,11 @@ module _ (paths : Paths) (nodes : List Node) (w : World) (are : AreTerms nodes) 
       by (Some false) is = absurd (false≢true (sym (told nodes w b.it.cell load.it.cell false is) ∙ same))
 
   -- the load comes after the access, in the order or on its path
-  abbrev pub IsAfter : Of Access → Type 0
+  abbrev pub IsAfter : Placed Access → Type 0
   IsAfter b = IsBefore paths w b.thread b.it.step load.thread load.it.step ⊎ ((b.thread ≡ load.thread) × (b.it.step < load.it.step))
 
   -- the access isn't the load itself
-  not_itself : (b : Of Access) → IsAfter b → is_one b load ≡ false
+  not_itself : (b : Placed Access) → IsAfter b → is_one b load ≡ false
   not_itself b after = by (is_one b load) refl
     where
       by : (o : Bool) → is_one b load ≡ o → o ≡ false
@@ -102,16 +102,16 @@ module _ (paths : Paths) (nodes : List Node) (w : World) (are : AreTerms nodes) 
             | inr path ↦ omega (arith, path.1, k)
           ])
 
-  pub may_from : (b : Of Access) → is_same_cell nodes w b.it.cell load.it.cell ≡ true → IsAfter b → may_be_seen nodes load b ≡ true
+  pub may_from : (b : Placed Access) → is_same_cell nodes w b.it.cell load.it.cell ≡ true → IsAfter b → may_be_seen nodes load b ≡ true
   may_from b same after =
       and_from (not (is_one b load)) (unwrap_or (known_same nodes b.it.cell load.it.cell) true)
       (not_from_false (is_one b load) (not_itself b after)) (may_be b same)
 
   -- the formula's test whether the load sees it
-  abbrev is_seen : Of Access → ℕ → Bool
+  abbrev is_seen : Placed Access → ℕ → Bool
   is_seen b event = is_earlier b load || is_before w (number_of paths b.thread b.it.step) event
 
-  after_from_seen : (b : Of Access) → is_seen b (number_of paths load.thread load.it.step) ≡ true → IsAfter b
+  after_from_seen : (b : Placed Access) → is_seen b (number_of paths load.thread load.it.step) ≡ true → IsAfter b
   after_from_seen b seen =
       let n = number_of paths b.thread b.it.step in
       let m = number_of paths load.thread load.it.step in
@@ -122,7 +122,7 @@ module _ (paths : Paths) (nodes : List Node) (w : World) (are : AreTerms nodes) 
         | inr before ↦ inl (ltb-true (get_or w.positions n 0) (get_or w.positions m 0) before)
       ]
 
-  seen_from_after : (b : Of Access) → IsAfter b → is_seen b (number_of paths load.thread load.it.step) ≡ true
+  seen_from_after : (b : Placed Access) → IsAfter b → is_seen b (number_of paths load.thread load.it.step) ≡ true
   seen_from_after b after =
       let n = number_of paths b.thread b.it.step in
       let m = number_of paths load.thread load.it.step in
@@ -133,7 +133,7 @@ module _ (paths : Paths) (nodes : List Node) (w : World) (are : AreTerms nodes) 
       ]
 
   -- the formula reads a candidate exactly if the load sees the access by the rule
-  module _ (r : plain.Read) (at : r.event ≡ number_of paths load.thread load.it.step) (b : Of Access) (c : Candidate)
+  module _ (r : plain.Read) (at : r.event ≡ number_of paths load.thread load.it.step) (b : Placed Access) (c : Candidate)
       (of : IsCandidate (all_events paths) nodes load b c) (there : (n : Node) → test_of nodes load b ≡ Some n → Contains nodes n) where
     told_here : is_told b ≡ is_same_cell nodes w b.it.cell load.it.cell
     told_here = cell_is_told b of.may (λ n is. there n (tests_of nodes load b of.value of.may of.writes ∙ is))

@@ -14,7 +14,7 @@ use Rattle.order_formula.specs.declared.formula.Body.TheVariants as body
 use Rattle.order_formula.specs.declared.formula.Conjunct.{Conjunct}
 use Rattle.order_formula.specs.declared.read.Candidate.{Candidate}
 use Rattle.order_formula.specs.Reads.{Read}
-use Rattle.order_cells.specs.lawful_order.Events.{Of, all_events, all_from, number_of}
+use Rattle.order_cells.specs.lawful_order.Events.{Placed, all_events, all_from, number_of}
 use Rattle.order_cells.specs.lawful_order.Whole.{HasStep, IsExecutedBy}
 use Rattle.order_cells.specs.Same.{known_same}
 use Rattle.order_events.proofs.Lists.{in_at, in_front, in_back, of_map, of_filter_map}
@@ -82,13 +82,13 @@ distinct_rising {X} {Y} e f key (x ∷ xs) rise differ =
 
 -- ---- accesses
 
-other_thread : (a b : Of Access) → a.thread < b.thread → is_one a b ≡ false
+other_thread : (a b : Placed Access) → a.thread < b.thread → is_one a b ≡ false
 other_thread a b less = grind (arith, less)
 
-other_step : (a b : Of Access) → a.it.step < b.it.step → is_one a b ≡ false
+other_step : (a b : Placed Access) → a.it.step < b.it.step → is_one a b ≡ false
 other_step a b less = grind (arith, less)
 
-is_same : (a b : Of Access) → a.thread ≡ b.thread → a.it.step ≡ b.it.step → is_one a b ≡ true
+is_same : (a b : Placed Access) → a.thread ≡ b.thread → a.it.step ≡ b.it.step → is_one a b ≡ true
 is_same a b thread step = grind (arith, thread, step)
 
 -- the steps of accesses rise along each course
@@ -99,7 +99,7 @@ Rise cs = (t j k : ℕ) (c : Course) (a b : Access) → slice_get cs t ≡ Some 
 courses_differ : (t : ℕ) (cs : List Course) → Rise cs → IsDistinct is_one (all_from (λ c. c.accesses) t cs)
 courses_differ t [] rise = distinct_none is_one
 courses_differ t (c ∷ cs) rise =
-    let own : Access → Of Access = λ a. record { thread = t; it = a } in
+    let own : Access → Placed Access = λ a. record { thread = t; it = a } in
     distinct_both is_one (map own c.accesses) (all_from (λ (d : Course). d.accesses) (t + 1) cs)
     (distinct_rising is_one own (λ a. a.step) c.accesses (λ j k a b p q less. rise 0 j k c a b refl p q less)
     (λ a b less. other_step (own a) (own b) less))
@@ -107,7 +107,7 @@ courses_differ t (c ∷ cs) rise =
     (λ a b i j.
     let o = of_map own a c.accesses i in
     let r = of_all_from (λ (d : Course). d.accesses) (t + 1) cs b j in
-    other_thread a b (omega (arith, ap (λ (x : Of Access). x.thread) o.2, r.thread)))
+    other_thread a b (omega (arith, ap (λ (x : Placed Access). x.thread) o.2, r.thread)))
 
 -- ---- the events of a read
 
@@ -116,7 +116,7 @@ module _ (code : Code) (paths : Paths) (symbolic : Symbolic) (nodes : List Node)
   accesses_differ = courses_differ 0 symbolic.threads executed.rise
 
   -- the numbers of two accesses
-  numbers_differ : (a b : Of Access) → Contains (all_accesses symbolic) a → is_one a b ≡ false
+  numbers_differ : (a b : Placed Access) → Contains (all_accesses symbolic) a → is_one a b ≡ false
       → (number_of paths a.thread a.it.step == number_of paths b.thread b.it.step) ≡ false
   numbers_differ a b i differ =
       let n = number_of paths a.thread a.it.step in
@@ -127,16 +127,16 @@ module _ (code : Code) (paths : Paths) (symbolic : Symbolic) (nodes : List Node)
       let one = one_step paths a.thread a.it.step b.thread b.it.step there same in
       true≢false (sym (is_same a b one.0 one.1) ∙ differ))
 
-  module _ (load : Of Access) (number : ℕ) where
+  module _ (load : Placed Access) (number : ℕ) where
     abbrev candidates : List Candidate
     candidates = filter_map (candidate_of (all_events paths) nodes load) (all_accesses symbolic)
 
     -- a candidate is the event of an access other than the load's
-    record IsOther (a : Of Access) (c : Candidate) : Type 0 where
+    record IsOther (a : Placed Access) (c : Candidate) : Type 0 where
       event : c.event ≡ number_of paths a.thread a.it.step
       other : is_one a load ≡ false
 
-    is_other : (a : Of Access) (c : Candidate) → candidate_of (all_events paths) nodes load a ≡ Some c → IsOther a c
+    is_other : (a : Placed Access) (c : Candidate) → candidate_of (all_events paths) nodes load a ≡ Some c → IsOther a c
     is_other a c gives =
         let p = candidate_parts (all_events paths) nodes load a c gives in
         record {

@@ -24,7 +24,7 @@ use Rattle.order_formula.specs.Truth.{is_read, read_at, source_at, value_at}
 use Rattle.order_formula.specs.Worlds.{World, IsWorld, position}
 use Rattle.order_formula.proofs.Last.{IsGreatest, Picks, picks}
 use Rattle.order_cells.specs.lawful_order.Cells.{value_at_start}
-use Rattle.order_cells.specs.lawful_order.Events.{Of, IsBefore, all_events, number_of}
+use Rattle.order_cells.specs.lawful_order.Events.{Placed, IsBefore, all_events, number_of}
 use Rattle.order_cells.specs.lawful_order.Lawful.{IsWorldOf}
 use Rattle.order_cells.specs.lawful_order.Reads.{HasAccess, Sees, TakesFrom, TakesFirst, asks}
 use Rattle.order_cells.specs.lawful_order.Whole.{AreWhole, HasStep, IsExecutedBy}
@@ -51,16 +51,16 @@ some_mapped f (Some x) is = (x, refl)
 module _ (code : Code) (paths : Paths) (symbolic : Symbolic) (nodes : List Node) (w : World) (about : IsAbout paths symbolic nodes w)
     (t : ℕ) (a : Access) (number : ℕ) (has : HasAccess symbolic t a) (takes : a.takes ≡ Some number)
     (needs : (n : Node) → Contains (needs_of code (all_accesses symbolic) nodes (record { thread = t; it = a }) number) n → Contains nodes n) where
-  abbrev events : List (Of Event)
+  abbrev events : List (Placed Event)
   events = all_events paths
 
-  abbrev load : Of Access
+  abbrev load : Placed Access
   load = record { thread = t; it = a }
 
   abbrev read : plain.Read
   read = read_of code events (all_accesses symbolic) nodes load number
 
-  abbrev of_thread : ℕ → Access → Of Access
+  abbrev of_thread : ℕ → Access → Placed Access
   of_thread u b = record { thread = u; it = b }
 
   abbrev start : Node
@@ -70,7 +70,7 @@ module _ (code : Code) (paths : Paths) (symbolic : Symbolic) (nodes : List Node)
   tests = filter_map (test_of nodes load) (all_accesses symbolic)
 
   -- the tests of indexes exist
-  tests_are : (b : Of Access) → Contains (all_accesses symbolic) b → (n : Node) → test_of nodes load b ≡ Some n → Contains nodes n
+  tests_are : (b : Placed Access) → Contains (all_accesses symbolic) b → (n : Node) → test_of nodes load b ≡ Some n → Contains nodes n
   tests_are b i n is =
       let among : Contains tests n = in_filter_map (test_of nodes load) b n (all_accesses symbolic) i is in
       needs n (in_back n (Symbol number) (start ∷ tests) (in_back n start tests among))

@@ -16,7 +16,7 @@ use Rattle.order_formula.specs.Truth.{body_at}
 use Rattle.order_formula.specs.Worlds.{World}
 use Rattle.order_formula.specs.declared.formula.Conjunct.{Conjunct}
 use Rattle.order_formula.specs.declared.group.Group.TheVariants.{Read}
-use Rattle.order_cells.specs.lawful_order.Events.{Of, all_events}
+use Rattle.order_cells.specs.lawful_order.Events.{Placed, all_events}
 use Rattle.order_cells.specs.lawful_order.Reads.{ReadRule}
 use Rattle.read_write.specs.Accesses.{all_accesses}
 use Rattle.read_write.specs.Reading.{conjunct_of, line_in, needs_of, read_formula, read_needs}
@@ -34,24 +34,24 @@ mapped f (Some x) y is = (x, refl, same_Some (f x) y is)
 
 -- what one load needs exists if everything that the loads need does
 pub needed : (code : Code) (symbolic : Symbolic) (nodes : List Node) → All (Contains nodes) (read_needs code symbolic nodes)
-    → (b : Of Access) (number : ℕ) → Contains (all_accesses symbolic) b → b.it.takes ≡ Some number
+    → (b : Placed Access) (number : ℕ) → Contains (all_accesses symbolic) b → b.it.takes ≡ Some number
     → (n : Node) → Contains (needs_of code (all_accesses symbolic) nodes b number) n → Contains nodes n
 needed code symbolic nodes needs b number i takes n j =
     let accesses = all_accesses symbolic in
-    let each = λ (a : Of Access). option_map_or (needs_of code accesses nodes a) a.it.takes [] in
+    let each = λ (a : Placed Access). option_map_or (needs_of code accesses nodes a) a.it.takes [] in
     let own : Contains (each b) n = subst (λ o. Contains (option_map_or (needs_of code accesses nodes b) o []) n) (sym takes) j in
     All-contains (Contains nodes) (read_needs code symbolic nodes) n needs (in_flat_map each b n accesses i own)
 
 -- the conjuncts are those of loads
 module _ (code : Code) (paths : Paths) (symbolic : Symbolic) (nodes : List Node) where
-  abbrev own : Of Access → ℕ → Conjunct
+  abbrev own : Placed Access → ℕ → Conjunct
   own = conjunct_of code (all_events paths) (all_accesses symbolic) nodes
 
-  abbrev each : Of Access → Option Conjunct
+  abbrev each : Placed Access → Option Conjunct
   each a = option_map (own a) a.it.takes
 
   pub record IsLoad (c : Conjunct) : Type 0 where
-    pub load : Of Access
+    pub load : Placed Access
     pub number : ℕ
     pub among : Contains (all_accesses symbolic) load
     pub takes : load.it.takes ≡ Some number
@@ -63,7 +63,7 @@ module _ (code : Code) (paths : Paths) (symbolic : Symbolic) (nodes : List Node)
       let m = mapped (own o.0) o.0.it.takes c o.2 in
       record { load = o.0; number = m.0; among = o.1; takes = m.1; is = m.2 }
 
-  pub conjunct_in : (a : Of Access) (number : ℕ) → Contains (all_accesses symbolic) a → a.it.takes ≡ Some number
+  pub conjunct_in : (a : Placed Access) (number : ℕ) → Contains (all_accesses symbolic) a → a.it.takes ≡ Some number
       → Contains (read_formula code paths symbolic nodes) (own a number)
   conjunct_in a number i takes = in_filter_map each a (own a number) (all_accesses symbolic) i (ap (option_map (own a)) takes)
 
@@ -71,7 +71,7 @@ module _ (code : Code) (paths : Paths) (symbolic : Symbolic) (nodes : List Node)
     pub rule_from_formula : HoldsIn nodes w (read_formula code paths symbolic nodes) (Read t line) → ReadRule code paths symbolic nodes w t line
     rule_from_formula holds = record {
       loads = λ a x has loads event step at.
-          let load : Of Access = record { thread = t; it = a } in
+          let load : Placed Access = record { thread = t; it = a } in
           let number = some_from a.takes loads in
           let i = access_in symbolic t a has in
           let group : Read t (line_in (all_events paths) t a.step) ≡ Read t line =

@@ -11,7 +11,7 @@ use Rattle.path_walk.specs.declared.event.Event.{Event}
 use Rattle.sym_exec.specs.Executed.{Symbolic}
 use Rattle.sym_exec.specs.declared.symbolic.Access.{Access}
 use Rattle.order_formula.specs.Worlds.{World, IsWorld, position}
-use Rattle.order_cells.specs.lawful_order.Events.{Of, HasEvent, all_events, number_of}
+use Rattle.order_cells.specs.lawful_order.Events.{Placed, HasEvent, all_events, number_of}
 use Rattle.order_cells.specs.lawful_order.Reads.{HasAccess}
 use Rattle.order_cells.specs.lawful_order.Whole.{AreWhole, IsExecutedBy}
 use Rattle.order_events.proofs.Lists.{in_at}
@@ -40,7 +40,7 @@ one_at ws t v w a b = same_Some v w (sym a ∙ b)
 pub access_in : (symbolic : Symbolic) (t : ℕ) (a : Access) → HasAccess symbolic t a → Contains (all_accesses symbolic) (record { thread = t; it = a })
 access_in symbolic t a has = in_all_from (λ c. c.accesses) 0 t t symbolic.threads has.0 a has.1 has.2 (omega arith)
 
-pub access_of : (symbolic : Symbolic) (a : Of Access) → Contains (all_accesses symbolic) a → HasAccess symbolic a.thread a.it
+pub access_of : (symbolic : Symbolic) (a : Placed Access) → Contains (all_accesses symbolic) a → HasAccess symbolic a.thread a.it
 access_of symbolic a i =
     let o = of_all_from (λ c. c.accesses) 0 symbolic.threads a i in
     (o.owner, subst (λ t. slice_get symbolic.threads t ≡ Some o.owner) (omega (arith, o.thread)) o.at, o.among)
@@ -62,7 +62,7 @@ module _ (paths : Paths) (whole : AreWhole paths) where
   line_is t x has =
       let all = all_events paths in
       let n = number_of paths t x.step in
-      let own : Of Event = record { thread = t; it = x } in
+      let own : Placed Event = record { thread = t; it = x } in
       let within : n < length all = has_number paths t x.step (x, has, refl) in
       let e = get_or all n own in
       let is = and_parts (e.thread == t) (e.it.step == x.step) (is_step_at paths t x.step own within) in
@@ -70,7 +70,7 @@ module _ (paths : Paths) (whole : AreWhole paths) where
       let o = of_all_from (λ q. q.events) 0 paths.threads e (Contains-get_or all n own within) in
       let had : HasEvent paths t e.it =
       (o.owner, subst (λ k. slice_get paths.threads k ≡ Some o.owner) (omega (arith, o.thread, thread)) o.at, o.among) in
-      ap (λ f. option_map_or (λ (y : Of Event). y.it.line) f 0) (slice_get-get_or all n own within)
+      ap (λ f. option_map_or (λ (y : Placed Event). y.it.line) f 0) (slice_get-get_or all n own within)
       ∙ ap (λ (y : Event). y.line) (one_event t e.it x had has (eqb-true e.it.step x.step is.1))
 
 -- different events have different positions

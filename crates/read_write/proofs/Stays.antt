@@ -17,7 +17,7 @@ use Rattle.order_formula.specs.declared.formula.Conjunct.{Conjunct}
 use Rattle.order_formula.specs.declared.group.Group.TheVariants as group
 use Rattle.order_formula.specs.declared.read.Candidate.{Candidate}
 use Rattle.order_cells.specs.lawful_order.Cells.{value_at_start}
-use Rattle.order_cells.specs.lawful_order.Events.{Of, all_events}
+use Rattle.order_cells.specs.lawful_order.Events.{Placed, all_events}
 use Rattle.order_cells.specs.Same.{known_same, same_test}
 use Rattle.order_cells.specs.Terms.{AccessIsOf, CellIsOf, HaveTerms}
 use Rattle.order_cells.proofs.Needs.{id_stays}
@@ -43,8 +43,8 @@ option_map_same : {X Y : Type 0} (f g : X → Y) (o : Option X) → ((x : X) →
 option_map_same f g None same = refl
 option_map_same f g (Some x) same = ap Some (same x refl)
 
-module _ (nodes later : List Node) (g : Grows nodes later) (load : Of Access) (at : CellIsOf (length nodes) load.it.cell) where
-  module _ (b : Of Access) (of : CellIsOf (length nodes) b.it.cell) where
+module _ (nodes later : List Node) (g : Grows nodes later) (load : Placed Access) (at : CellIsOf (length nodes) load.it.cell) where
+  module _ (b : Placed Access) (of : CellIsOf (length nodes) b.it.cell) where
     same_known : known_same later b.it.cell load.it.cell ≡ known_same nodes b.it.cell load.it.cell
     same_known = ap (λ ns. known_same ns b.it.cell load.it.cell) g.1 ∙ known_stays nodes g.0 b.it.cell load.it.cell of at
 
@@ -58,7 +58,7 @@ module _ (nodes later : List Node) (g : Grows nodes later) (load : Of Access) (a
     test_of_stays = ap₂ (λ m t. if m then option_and_then (λ _. t) b.it.writes else None) may_stays same_tested
 
     -- once its test exists, a write stays the same candidate
-    pub candidate_stays : (events : List (Of Event)) → ((n : Node) → test_of nodes load b ≡ Some n → Contains nodes n)
+    pub candidate_stays : (events : List (Placed Event)) → ((n : Node) → test_of nodes load b ≡ Some n → Contains nodes n)
         → candidate_of events later load b ≡ candidate_of events nodes load b
     candidate_stays events there =
         ap (λ m. if m then option_map (candidate_with events later load b) b.it.writes else None) may_stays
@@ -77,14 +77,14 @@ module _ (nodes later : List Node) (g : Grows nodes later) (load : Of Access) (a
             ap (λ (t : Option ℕ). Some (record (candidate_with events nodes load b v) { same_cell = t })) (ap (option_map (id_of later)) same_tested ∙ named)
 
 -- the accesses name terms of the nodes
-module _ (code : Code) (accesses : List (Of Access)) (nodes later : List Node) (g : Grows nodes later)
-    (have : (a : Of Access) → Contains accesses a → AccessIsOf (length nodes) a.it) (a : Of Access) (number : ℕ) (i : Contains accesses a) where
+module _ (code : Code) (accesses : List (Placed Access)) (nodes later : List Node) (g : Grows nodes later)
+    (have : (a : Placed Access) → Contains accesses a → AccessIsOf (length nodes) a.it) (a : Placed Access) (number : ℕ) (i : Contains accesses a) where
   pub needs_of_stay : needs_of code accesses later a number ≡ needs_of code accesses nodes a number
   needs_of_stay =
       ap (λ ns. Symbol number ∷ Constant (value_at_start code a.it.cell) ∷ ns)
       (filter_map_same (test_of later a) (test_of nodes a) accesses (λ b j. test_of_stays nodes later g a (have a i).cell b (have b j).cell))
 
-  module _ (events : List (Of Event)) where
+  module _ (events : List (Placed Event)) where
     -- a conjunct, by its parts that depend on the nodes
     abbrev with_parts : (takes start : ℕ) → List Candidate → Conjunct
     with_parts takes start candidates = record {
@@ -109,10 +109,10 @@ module _ (code : Code) (accesses : List (Of Access)) (nodes later : List Node) (
         ∙ ap (with_parts (id_of nodes symbol) (id_of nodes start)) same
 
 module _ (code : Code) (symbolic : Symbolic) (nodes later : List Node) (g : Grows nodes later) (have : HaveTerms nodes symbolic) where
-  abbrev accesses : List (Of Access)
+  abbrev accesses : List (Placed Access)
   accesses = all_accesses symbolic
 
-  each_has : (a : Of Access) → Contains accesses a → AccessIsOf (length nodes) a.it
+  each_has : (a : Placed Access) → Contains accesses a → AccessIsOf (length nodes) a.it
   each_has a i = have a.thread a.it (access_of symbolic a i)
 
   -- the loads need the same nodes later
@@ -120,7 +120,7 @@ module _ (code : Code) (symbolic : Symbolic) (nodes later : List Node) (g : Grow
   needs_stay = flat_map_same (λ a. option_map_or (needs_of code accesses later a) a.it.takes [])
       (λ a. option_map_or (needs_of code accesses nodes a) a.it.takes []) accesses (λ a i. by a i a.it.takes)
     where
-      by : (a : Of Access) → Contains accesses a → (o : Option ℕ)
+      by : (a : Placed Access) → Contains accesses a → (o : Option ℕ)
           → option_map_or (needs_of code accesses later a) o [] ≡ option_map_or (needs_of code accesses nodes a) o []
       by a i None = refl
       by a i (Some number) = needs_of_stay code accesses nodes later g each_has a number i

@@ -21,7 +21,7 @@ use Rattle.order_formula.specs.declared.formula.Conjunct.{Conjunct}
 use Rattle.order_formula.specs.declared.group.Group.TheVariants as group
 use Rattle.order_formula.specs.declared.read.Candidate.{Candidate}
 use Rattle.order_cells.specs.lawful_order.Cells.{value_at_start}
-use Rattle.order_cells.specs.lawful_order.Events.{Of}
+use Rattle.order_cells.specs.lawful_order.Events.{Placed}
 use Rattle.order_cells.specs.Same.{same_test}
 use Rattle.order_cells.specs.Terms.{AccessIsOf, CellIsOf}
 use Rattle.order_cells.proofs.Needs.{grows_all, id_made, id_stays, made_there}
@@ -77,7 +77,7 @@ tests_on h xs k x first mid last own within is sofar on same =
     ∙ sym (fold-append with_node first (filter_map h (take k xs)) (option_to_list (h x)))
     ∙ ap (fold with_node first) (sym (filter_map_next h xs k x within is))
 
-module _ (events : List (Of Event)) (nodes later : List Node) (load b : Of Access) where
+module _ (events : List (Placed Event)) (nodes later : List Node) (load b : Placed Access) where
   -- a write that may be seen is a candidate, with the id of its test
   pub seen : (event : ℕ) (earlier : Bool) (test : Option ℕ) (v : ℕ) → CellIsOf (length nodes) load.it.cell → CellIsOf (length nodes) b.it.cell
       → may_be_seen nodes load b ≡ true → b.it.writes ≡ Some v → event ≡ number_in events b.thread b.it.step → earlier ≡ is_earlier b load
@@ -95,7 +95,7 @@ module _ (events : List (Of Event)) (nodes later : List Node) (load b : Of Acces
       with_parts n p t = Some (record { event = n; earlier = p; same_cell = t; value = v })
 
 -- a load's conjunct by its parts
-pub conjunct_from : (code : Code) (events : List (Of Event)) (accesses : List (Of Access)) (later : List Node) (load : Of Access)
+pub conjunct_from : (code : Code) (events : List (Placed Event)) (accesses : List (Placed Access)) (later : List Node) (load : Placed Access)
     (number thread line event takes start : ℕ) (candidates : List Candidate) → thread ≡ load.thread → line ≡ line_in events load.thread load.it.step
     → event ≡ number_in events load.thread load.it.step → takes ≡ id_of later (Symbol number)
     → start ≡ id_of later (Constant (value_at_start code load.it.cell))
@@ -116,8 +116,8 @@ conjunct_from code events accesses later load number thread line event takes sta
     with_parts t l e v s cs = record { group = group.Read t l; body = body.Read (record { event = e; takes = v; start = s; candidates = cs }) }
 
 -- the nodes that a load needs, made one after another
-pub needs_made : (code : Code) (accesses : List (Of Access)) (nodes two last : List Node) (load : Of Access) (number : ℕ)
-    → ((a : Of Access) → Contains accesses a → AccessIsOf (length nodes) a.it) → CellIsOf (length nodes) load.it.cell
+pub needs_made : (code : Code) (accesses : List (Placed Access)) (nodes two last : List Node) (load : Placed Access) (number : ℕ)
+    → ((a : Placed Access) → Contains accesses a → AccessIsOf (length nodes) a.it) → CellIsOf (length nodes) load.it.cell
     → two ≡ with_node (with_node nodes (Symbol number)) (Constant (value_at_start code load.it.cell))
     → last ≡ fold with_node two (filter_map (test_of two load) accesses) → last ≡ fold with_node nodes (needs_of code accesses nodes load number)
 needs_made code accesses nodes two last load number have at is made =

@@ -16,7 +16,7 @@ use Rattle.order_formula.specs.Formulas.{CandidateIsOf, ConjunctIsOf, IsOf}
 use Rattle.order_formula.specs.Orders.{ConjunctIsIn, Order}
 use Rattle.order_formula.specs.declared.read.Candidate.{Candidate}
 use Rattle.order_cells.specs.lawful_order.Cells.{value_at_start}
-use Rattle.order_cells.specs.lawful_order.Events.{Of, all_events, number_of}
+use Rattle.order_cells.specs.lawful_order.Events.{Placed, all_events, number_of}
 use Rattle.order_cells.specs.lawful_order.Whole.{IsExecutedBy}
 use Rattle.order_cells.specs.Same.{same_test}
 use Rattle.order_cells.specs.Terms.{HaveTerms}
@@ -38,7 +38,7 @@ if_mapped f P (Some x) each = each x refl
 -- terms
 module _ (code : Code) (paths : Paths) (symbolic : Symbolic) (nodes : List Node) (have : HaveTerms nodes symbolic)
     (needs : All (Contains nodes) (read_needs code symbolic nodes)) where
-  module _ (a : Of Access) (number : ℕ) (i : Contains (all_accesses symbolic) a) (takes : a.it.takes ≡ Some number) where
+  module _ (a : Placed Access) (number : ℕ) (i : Contains (all_accesses symbolic) a) (takes : a.it.takes ≡ Some number) where
     abbrev start : Node
     start = Constant (value_at_start code a.it.cell)
 
@@ -98,7 +98,7 @@ formula_is_in code paths symbolic nodes o executed count =
           subst (λ n. n < o.events) (sym is) (within of.0 of.1)),
     ))
   where
-    within : (a : Of Access) → Contains (all_accesses symbolic) a → number_of paths a.thread a.it.step < o.events
+    within : (a : Placed Access) → Contains (all_accesses symbolic) a → number_of paths a.thread a.it.step < o.events
     within a i =
         let e = executed.accesses a.thread a.it (access_of symbolic a i) in
         omega (arith, has_number paths a.thread a.it.step (e.0, e.1, e.2), count)

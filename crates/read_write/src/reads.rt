@@ -13,13 +13,13 @@ ghost use Rattle.order_cells.specs.lawful_order.Whole.{IsExecutedBy};
 ghost use Rattle.order_cells.specs.Terms.{AccessIsOf, HaveTerms};
 ghost use Rattle.read_write.specs.Reading as spec;
 
-use crate::accesses::{PlacedAccess, all_accesses};
+use crate::accesses::{all_accesses, is_earlier, is_one};
 use order_cells::{known_same, same_test};
-use order_events::{Events, formula_of};
+use order_events::{Events, Placed, formula_of};
 use order_formula::{Body, Candidate, Conjunct, Formula, Group, Order, Read};
 use path_walk::Paths;
 use std::alloc::{AllocError, Global};
-use sym_exec::{Cell, Symbolic};
+use sym_exec::{Access, Cell, Symbolic};
 use sym_terms::Terms;
 use tc_code::Code;
 
@@ -57,7 +57,7 @@ fn conjuncts(
     alloc: Global,
     code: &Code,
     events: &Events,
-    accesses: &[PlacedAccess],
+    accesses: &[Placed<Access>],
     terms: &mut Terms,
 ) -> Result<Vec<Conjunct>, AllocError>
     requires { All (λ a. AccessIsOf (length terms.old) a.it) accesses.now }
@@ -69,7 +69,7 @@ fn conjuncts(
 {
     let mut conjuncts = Vec::new(alloc);
     for load in accesses {
-        if let Some(number) = load.access.takes {
+        if let Some(number) = load.it.takes {
             conjuncts.push(conjunct(alloc, code, events, accesses, load, number, terms)?)?;
         }
     }
@@ -81,8 +81,8 @@ fn conjunct(
     alloc: Global,
     code: &Code,
     events: &Events,
-    accesses: &[PlacedAccess],
-    load: &PlacedAccess,
+    accesses: &[Placed<Access>],
+    load: &Placed<Access>,
     number: u32,
     terms: &mut Terms,
 ) -> Result<Conjunct, AllocError>
@@ -93,9 +93,9 @@ fn conjunct(
     ensures made { OnOk result (terms.new ≡ fold with_node terms.old (spec.needs_of code.now accesses.now terms.old load.now number)) }
     ensures grown { Grows terms.old terms.new }
 {
-    let event = events.number(load.thread, load.access.step);
+    let event = events.number(load.thread, load.it.step);
     let takes = terms.symbol(number)?;
-    let start = terms.constant(value_at_start(code, load.access.cell))?;
+    let start = terms.constant(value_at_start(code, load.it.cell))?;
     let candidates = candidates(alloc, events, accesses, load, terms)?;
     Ok(Conjunct {
         group: Group::Read {
@@ -110,8 +110,8 @@ fn conjunct(
 fn candidates(
     alloc: Global,
     events: &Events,
-    accesses: &[PlacedAccess],
-    load: &PlacedAccess,
+    accesses: &[Placed<Access>],
+    load: &Placed<Access>,
     terms: &mut Terms,
 ) -> Result<Vec<Candidate>, AllocError>
     requires load { AccessIsOf (length terms.old) load.now.it }
@@ -133,8 +133,8 @@ fn candidates(
 /// An access as a candidate, if it is a write whose value the load may take.
 fn candidate(
     events: &Events,
-    load: &PlacedAccess,
-    other: &PlacedAccess,
+    load: &Placed<Access>,
+    other: &Placed<Access>,
     terms: &mut Terms,
 ) -> Result<Option<Candidate>, AllocError>
     requires load { AccessIsOf (length terms.old) load.now.it }
@@ -144,26 +144,26 @@ fn candidate(
     ensures made { OnOk result (terms.new ≡ fold with_node terms.old (option_to_list (spec.test_of terms.old load.now other.now))) }
     ensures grown { Grows terms.old terms.new }
 {
-    let Some(value) = other.access.writes else {
+    let Some(value) = other.it.writes else {
         return Ok(None);
     };
     if !may_be_seen(terms, load, other) {
         return Ok(None);
     }
-    let same_cell = same_test(terms, other.access.cell, load.access.cell)?;
+    let same_cell = same_test(terms, other.it.cell, load.it.cell)?;
     Ok(Some(Candidate {
-        event: events.number(other.thread, other.access.step),
-        earlier: other.is_earlier(load),
+        event: events.number(other.thread, other.it.step),
+        earlier: is_earlier(other, load),
         same_cell,
         value,
     }))
 }
 
 /// Whether an access isn't the load itself, nor known to be to another cell.
-fn may_be_seen(terms: &Terms, load: &PlacedAccess, other: &PlacedAccess) -> bool
+fn may_be_seen(terms: &Terms, load: &Placed<Access>, other: &Placed<Access>) -> bool
     ensures { result ≡ spec.may_be_seen terms.now load.now other.now }
 {
-    !other.is_one(load) && known_same(terms, other.access.cell, load.access.cell).unwrap_or(true)
+    !is_one(other, load) && known_same(terms, other.it.cell, load.it.cell).unwrap_or(true)
 }
 
 /// The line of the event `number`, or 0 if there is none.
@@ -171,7 +171,7 @@ fn line_of(events: &Events, number: u32) -> u32
     ensures { result ≡ option_map_or (λ e. e.it.line) (slice_get events.now number) 0 }
 {
     match events.all().get(number as usize) {
-        Some(placed) => placed.event.line,
+        Some(placed) => placed.it.line,
         None => 0,
     }
 }

@@ -1,5 +1,5 @@
 -- Laws of recorded logs.
-use Rattle.std.proofs.Common.{◌≡◌, ap, sym, subst, refl, arith, inl, inr, List, ℕ, length, None, true}
+use Rattle.std.proofs.Common.{◌≡◌, ap, refl, arith, inl, inr, List, ℕ, length, None, true}
 use Rattle.sha2.specs.Sha256.{sha256}
 use Rattle.kept_logs.proofs.Digests.{sha256_is}
 use Rattle.kept_logs.proofs.path_log.Logs.{text_is}
@@ -16,23 +16,15 @@ use Rattle.store_buffers.specs.helpers.Sequential.{sc_laws}
 use Rattle.store_buffers.specs.helpers.Total.{tso_laws}
 use Rattle.tc_base.specs.declared.moves.Move.{Move}
 use Rattle.tc_code.specs.Code.{Code}
-use Rattle.tc_code.specs.Lawful.{IsLawful}
 use Rattle.tc_code.specs.Run.{Reproduces}
-use Rattle.tc_compile.specs.Programs.{IsCodeOf, language}
-use Rattle.tc_compile.proofs.tc_lower.Ints.{program_ints}
-use Rattle.tc_compile.proofs.tc_lower.Programs.{program_is_lawful}
-use Rattle.tc_compile.proofs.tc_parser.Words.{has_ints}
+use Rattle.tc_compile.specs.Programs.{IsCodeOf}
+use Rattle.tc_compile.proofs.Lawful.{code_is_lawful}
 use Rattle.tc_record.proofs.Ended.{log_is_short, run_reproduces}
 use Rattle.tc_record.specs.Seeded.{Ended, HasLog}
 use Rattle.record_command.specs.Logs.{IsLogText, IsRecorded, allows}
 use Rattle.record_command.specs.Runs.{HasOutcome, Record, run_of}
 use Rattle.record_command.specs.declared.ending.Outcome.{Outcome}
 use Rattle.record_command.specs.declared.ending.Outcome.TheVariants.{Failed, Deadlock}
-
--- the code of a program is lawful
-code_is_lawful : (program : List ℕ) (code : Code) → IsCodeOf program code → IsLawful code
-code_is_lawful program code f =
-    subst IsLawful (sym f.lowers) (program_is_lawful program f.program f.is.cells (program_ints f.program (has_ints language program f.program f.is)))
 
 -- each memory model obeys its laws
 model_laws : (m : Model) → (bound : Binding) × Laws (buffer_of m) m bound

@@ -16,7 +16,7 @@ use std::alloc::{AllocError, Global};
 use store_buffers::{MemoryModel, PsoModel, Sc, TsoModel};
 use tc_code::Code;
 use tc_compile::compile;
-use tc_record::{Recorded, SeededFault, record_run};
+use tc_record::{Seeded, SeededFault, run_seeded};
 
 /// The run of a program.
 pub(crate) fn run_program(alloc: Global, call: &Record<'_>, program: &[u8]) -> Result<Ran, Fault>
@@ -51,20 +51,20 @@ fn run_under<M: MemoryModel>(
 ) -> Result<Ran, AllocError>
     ensures { IfOk result (IsRanAs M.MODEL program.now code.now (seeded_run M.ops code.now seed steps)) }
 {
-    match record_run::<M>(alloc, code, seed, steps) {
-        Ok(Recorded::Failed(log, moves, line)) => {
+    match run_seeded::<M>(alloc, code, seed, steps) {
+        Ok(Seeded::Failed(log, moves, line)) => {
             let name = log.failing_name().unwrap().clone()?;
             let text = text_with_digest(alloc, program, log)?;
             let moves = moves.len();
             let failure = Failure { name, line, moves };
             Ok(Ran::Logged(Outcome::Failed(failure), text))
         }
-        Ok(Recorded::Deadlock(log, moves)) => {
+        Ok(Seeded::Deadlock(log, moves)) => {
             let text = text_with_digest(alloc, program, log)?;
             Ok(Ran::Logged(Outcome::Deadlock(moves.len()), text))
         }
-        Ok(Recorded::Finished(_)) => Ok(Ran::Unlogged(Ending::Finished)),
-        Ok(Recorded::StepLimit(moves)) => Ok(Ran::Unlogged(Ending::StepLimit(moves.len()))),
+        Ok(Seeded::Finished(_)) => Ok(Ran::Unlogged(Ending::Finished)),
+        Ok(Seeded::StepLimit(moves)) => Ok(Ran::Unlogged(Ending::StepLimit(moves.len()))),
         Err(SeededFault::Limit(which, _, _)) => Ok(Ran::Unlogged(Ending::Over(which))),
         Err(SeededFault::Memory) => Err(AllocError),
     }

@@ -11,10 +11,9 @@ use Rattle.cnf_core.specs.Clauses.{is_within}
 use Rattle.refute_check.specs.Kept.{KeptClauses}
 use Rattle.refute_check.specs.Left.{by_left, left_of_clause}
 use Rattle.refute_check.specs.helpers.Checkers.{AreWithin}
-use Rattle.refute_check.specs.Refutations.{Checking, keep, without_clauses, hints_fault, clause_fault, state_after_line, state_after_verdict, state_after_fault, passed_clause}
+use Rattle.refute_check.specs.Refutations.{Checking, keep, without_clauses, hints_fault, clause_fault, state_after_line, state_after_verdict}
 use Rattle.refute_check.specs.Refutations.{line_fault, verdict, verdict_of}
 use Rattle.list_laws.specs.Lists.{is_nil}
-use Rattle.refute_check.specs.declared.line.Line.TheVariants.{Add, Delete}
 use Rattle.refute_check.specs.declared.line.Line.{Line}
 use Rattle.refute_check.specs.declared.given.Left.{Left}
 use Rattle.refute_check.specs.declared.given.Left.TheVariants.{Nothing, One, More}
@@ -91,27 +90,6 @@ clause-not-memory n vars kept lits hints f e m =
     let p : clause_fault n vars kept lits hints ≢ Some Memory = choice-not-memory (is_within vars lits) _ (Some (NoVariable n))
     (hints-not-memory n kept _ hints) (λ e. cc) in
     p (sym e ∙ ap (λ g. Some g) m)
-
--- the state after a line that adds a clause
-pub after-fault : (s : Checking) (lits : List ℤ) (hints : List ℕ) (f : CheckFault) → s.fault ≡ None
-    → clause_fault (s.line + 1) s.vars s.kept lits hints ≡ Some f → state_after_line s (Add lits hints) ≡ state_after_fault f s
-after-fault s lits hints f n e = ap (λ o. if is_some o then s else state_after_verdict (clause_fault (s.line + 1) s.vars s.kept lits hints) s (Add lits hints)) n
-    ∙ ap (λ o. state_after_verdict o s (Add lits hints)) e
-
-pub after-pass : (s : Checking) (lits : List ℤ) (hints : List ℕ) → s.fault ≡ None → clause_fault (s.line + 1) s.vars s.kept lits hints ≡ None
-    → state_after_line s (Add lits hints) ≡ passed_clause s lits
-after-pass s lits hints n e = ap (λ o. if is_some o then s else state_after_verdict (clause_fault (s.line + 1) s.vars s.kept lits hints) s (Add lits hints)) n
-    ∙ ap (λ o. state_after_verdict o s (Add lits hints)) e
-
-judged-line : (o : Option CheckFault) (s : Checking) (l : Line) → (state_after_verdict o s l).line ≡ s.line + 1
-judged-line None s (Add lits hints) = refl
-judged-line None s (Delete ns) = refl
-judged-line (Some f) s l = refl
-
--- a line without a fault before it is counted
-pub after-line : (s : Checking) (l : Line) → s.fault ≡ None → (state_after_line s l).line ≡ s.line + 1
-after-line s l e = ap (λ o. (if is_some o then s else state_after_verdict (line_fault (s.line + 1) s.vars s.kept l) s l).line) e
-    ∙ judged-line (line_fault (s.line + 1) s.vars s.kept l) s l
 
 after-stays : (s : Checking) (l : Line) (f : CheckFault) → s.fault ≡ Some f → state_after_line s l ≡ s
 after-stays s l f e = ap (λ o. if is_some o then s else state_after_verdict (line_fault (s.line + 1) s.vars s.kept l) s l) e

@@ -139,14 +139,6 @@ readable-line (Delete ns) h = (and_parts (not (is_nil ns)) _ h).0
 pub line-fits : (bytes : List ℕ) (s t : Reading) (l : Line) → Reads s bytes (Body l ∷ []) t → (is_line l ≡ true) × (s.line ≤ LINES + 1)
 line-fits bytes s t l r = let q = first-taken bytes s t (Body l) [] r in (readable-line l q.1.2, q.1.1)
 
-bodies-push : (ls : List Line) (l : Line) → bodies (ls ++ l ∷ []) ≡ bodies ls ++ Body l ∷ []
-bodies-push [] l = refl
-bodies-push (m ∷ ls) l = ap (λ ts. Body m ∷ ts) (bodies-push ls l)
-
-pub more-line : (bytes : List ℕ) (s t : Reading) (l : Line) (ls ms : List Line) → ms ≡ ls ++ l ∷ [] → t.fault ≡ None → Reads s bytes (Body l ∷ []) t
-    → ReadsMore s bytes ls ms t
-more-line bytes s t l ls ms e f r = (Body l ∷ [], r, ap bodies e ∙ bodies-push ls l, f)
-
 -- no line has ended, and this isn't the first line
 pub more-bytes : (x : Taken) (bytes : List ℕ) (s t : Reading) (ls : List Line) → s.line ≡ length ls + 2
     → (x ≡ More) ⊎ ((h : Head) × (x ≡ Header h)) → t.fault ≡ fault_of x → Reads s bytes (lines_of x) t → ReadsMore s bytes ls ls t
@@ -160,10 +152,6 @@ pub record AreRead (s : Reading) (bytes : List ℕ) (n : ℕ) (ls : List Line) (
   pub within : n ≤ length bytes
   pub reads : Reads s (take n bytes) (bodies ls) t
   pub free : t.fault ≡ None
-
-pub none-read : (s : Reading) (bytes : List ℕ) (ls : List Line) (t : Reading) → ls ≡ [] → s.fault ≡ None → t ≡ s → AreRead s bytes 0 ls t
-none-read s bytes ls t l f e =
-    record { within = omega arith; reads = (ap bodies l, e); free = ap (λ (r : Reading). r.fault) e ∙ f }
 
 bodies-count : (ls : List Line) → length (bodies ls) ≡ length ls
 bodies-count [] = refl
@@ -194,10 +182,6 @@ fault-on n bytes s t xs Memory a r = tt
 
 take-whole : (n : ℕ) (bytes : List ℕ) → n ≤ length bytes → length bytes ≤ n → take n bytes ≡ bytes
 take-whole n bytes h k = take_all n bytes (omega arith)
-
-pub read-whole : (s : Reading) (bytes : List ℕ) (n : ℕ) (ls : List Line) (t : Reading) (o : Option ℕ) → AreRead s bytes n ls t → length bytes ≤ n
-    → first_breach t ≡ o → ReadsTo s bytes (bodies ls) o
-read-whole s bytes n ls t o a h e = (t, subst (λ bs. Reads s bs (bodies ls) t) (take-whole n bytes a.within h) a.reads, e)
 
 -- a whole text
 pub text-read : (n : ℕ) (bytes : List ℕ) (t : Reading) (h : Head) (ls : List Line) → Reads beginning (take n bytes) (Header h ∷ []) t

@@ -168,10 +168,6 @@ firsts : (bytes : List ℕ) → ForFirst bytes
 firsts [] s ts t h a e n = absurd (n (ap (λ (r : Reading). r.line) a.1 ∙ h))
 firsts (b ∷ bytes) s ts t h a e n = head-step _ _ b bytes s ts t refl refl (firsts bytes) h a e n
 
-nil-is : (u : List ℕ) → is_nil u ≡ true → u ≡ []
-nil-is [] h = refl
-nil-is (x ∷ u) h = absurd (cc)
-
 -- nothing breaks the form
 no-breach : (o : Option ℕ) (one : Bool) (u : List ℕ) (n : ℕ)
     → option_map_or (λ k. Some k) o (if one || not (is_nil u) then Some n else None) ≡ None → (o ≡ None) × (one ≡ false) × (u ≡ [])

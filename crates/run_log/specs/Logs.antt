@@ -1,6 +1,6 @@
 -- The log of a run: the path of each thread, and how the run ended.
-use Rattle.std.specs.Prelude.{ℕ, Bool, true, ◌&&◌, ◌==◌, nat_lt, List, [], ◌∷◌, length, Option, Some, None, option_map, option_and_then, slice_get}
-use Rattle.std.specs.List.{list_all}
+use Rattle.std.specs.Prelude.{ℕ, Bool, true, ◌&&◌, ◌==◌, nat_lt, List, [], ◌∷◌, length, map, Option, Some, None, option_map, option_and_then, slice_get}
+use Rattle.std.specs.List.{find, list_all}
 use Rattle.std.specs.Ordering.{is_lt, nat_cmp}
 use Rattle.std.specs.Cmp.Lexicographic.{slice_cmp}
 use Rattle.memory_models.specs.declared.model.Model.{Model}
@@ -19,6 +19,10 @@ pub record Log : Type 0 where
 abbrev pub failing_of : Log → Option Name
 failing_of log =
     option_and_then (λ k. option_map (λ t. t.name) (slice_get log.threads k)) (place_in log.failing)
+
+-- the depth of the first thread that is deeper than this, if any
+abbrev pub first_deeper : ℕ → List ThreadPath → Option ℕ
+first_deeper depth threads = find (nat_lt depth) (map (λ t. length t.name) threads)
 
 -- a log, and the digest of the recorded program, if it is known
 pub record StoredLog : Type 0 where

@@ -1,6 +1,6 @@
 //! Logs.
 ghost use Rattle.std.specs.Prelude.{◌≡◌, IsTrue, Some, option_map};
-ghost use Rattle.run_log.specs.Logs.{failing_of, is_digest, is_log};
+ghost use Rattle.run_log.specs.Logs.{failing_of, first_deeper, is_digest, is_log};
 
 use memory_models::Model as MemoryModel;
 use std::marker::Model;
@@ -136,6 +136,16 @@ impl Log {
         ensures is_log { IsTrue (is_log self.now.log) }
     {
         self.threads.as_slice()
+    }
+
+    /// The depth of the first thread that is deeper than this, if any.
+    pub fn first_deeper(&self, depth: usize) -> Option<usize>
+        ensures { result ≡ first_deeper depth self.now.log.threads }
+    {
+        self.threads
+            .iter()
+            .map(|thread| thread.name().children().len())
+            .find(|found| *found > depth)
     }
 
     /// The thread that failed, if one did.

@@ -28,7 +28,7 @@ use Rattle.sym_exec.specs.Alone.{cell_by}
 use Rattle.path_execution.specs.declared.execution.Execution.{Execution}
 use Rattle.plan_runs.specs.sym_steps.Next.{kind_at}
 use Rattle.order_formula.specs.Worlds.{World, position}
-use Rattle.lawful_terms.specs.lawful_order.Events.{Of, all_events, number_of, place_of}
+use Rattle.lawful_terms.specs.lawful_order.Events.{Placed, all_events, number_of, place_of}
 use Rattle.world_moves.specs.world_plan.Going.{IsLawfulWorld, is_pending, place}
 use Rattle.world_moves.specs.world_plan.Plan.{is_failure, woken_by, event_at, end_of, other_of, drains_next, goes_on, goes_to, with_drain, with_event, up_to}
 use Rattle.world_moves.proofs.world_plan.Numbers.{number_is}
@@ -92,36 +92,36 @@ module _ {B : Type 0} (setting : Setting B) (nodes more : List Node) (w : World)
   goes m h t n = goes_on ops.buffered code paths w m h t n
 
   -- the event at a place among all events has the position that the world gives its step
-  here : (i : ℕ) (e : Of Event) → slice_get (all_events paths) i ≡ Some e → position w (0 + i) ≡ place_of paths w e.thread e.it.step
+  here : (i : ℕ) (e : Placed Event) → slice_get (all_events paths) i ≡ Some e → position w (0 + i) ≡ place_of paths w e.thread e.it.step
   here i e at =
       let number = number_is paths (paths_whole setting nodes w l) i e at in
       ap (position w) (let same : 0 + i ≡ number_of paths e.thread e.it.step = omega (arith, number) in same)
 
   -- the event at a position, with its number
-  abbrev pub At : ℕ → ℕ → Of Event → Type 0
-  At p i e = Both (λ (a : Of Event). place_of paths w a.thread a.it.step == p) (λ (a : ℕ × Of Event). position w a.0 == p) 0 (all_events paths) i e
+  abbrev pub At : ℕ → ℕ → Placed Event → Type 0
+  At p i e = Both (λ (a : Placed Event). place_of paths w a.thread a.it.step == p) (λ (a : ℕ × Placed Event). position w a.0 == p) 0 (all_events paths) i e
 
   abbrev pub NoneAt : ℕ → Type 0
-  NoneAt p = Neither (λ (a : Of Event). place_of paths w a.thread a.it.step == p) (λ (a : ℕ × Of Event). position w a.0 == p) 0 (all_events paths)
+  NoneAt p = Neither (λ (a : Placed Event). place_of paths w a.thread a.it.step == p) (λ (a : ℕ × Placed Event). position w a.0 == p) 0 (all_events paths)
 
-  pub at_position : (p : ℕ) → ((i : ℕ) × (e : Of Event) × At p i e) ⊎ NoneAt p
+  pub at_position : (p : ℕ) → ((i : ℕ) × (e : Placed Event) × At p i e) ⊎ NoneAt p
   at_position p =
-      find_both (λ (a : Of Event). place_of paths w a.thread a.it.step == p) (λ (a : ℕ × Of Event). position w a.0 == p) 0 (all_events paths)
+      find_both (λ (a : Placed Event). place_of paths w a.thread a.it.step == p) (λ (a : ℕ × Placed Event). position w a.0 == p) 0 (all_events paths)
       (λ i e at. ap (λ n. n == p) (here i e at))
 
   -- both have the same end
   pub same_end : last_place paths w ≡ end_of paths w
   same_end =
-      by (find_both (λ (a : Of Event). is_failure a.it.kind) (λ (a : ℕ × Of Event). is_failure a.1.it.kind) 0 (all_events paths) (λ i e at. refl))
+      by (find_both (λ (a : Placed Event). is_failure a.it.kind) (λ (a : ℕ × Placed Event). is_failure a.1.it.kind) 0 (all_events paths) (λ i e at. refl))
     where
-      first : Option (ℕ × Of Event) → ℕ
-      first o = option_map_or (λ (e : ℕ × Of Event). position w e.0) o (past_all paths w)
+      first : Option (ℕ × Placed Event) → ℕ
+      first o = option_map_or (λ (e : ℕ × Placed Event). position w e.0) o (past_all paths w)
 
-      second : Option (Of Event) → ℕ
-      second o = option_map_or (λ (e : Of Event). place_of paths w e.thread e.it.step) o (past_all paths w)
+      second : Option (Placed Event) → ℕ
+      second o = option_map_or (λ (e : Placed Event). place_of paths w e.thread e.it.step) o (past_all paths w)
 
-      by : (((i : ℕ) × (e : Of Event) × Both (λ (a : Of Event). is_failure a.it.kind) (λ (a : ℕ × Of Event). is_failure a.1.it.kind) 0 (all_events paths) i e)
-          ⊎ Neither (λ (a : Of Event). is_failure a.it.kind) (λ (a : ℕ × Of Event). is_failure a.1.it.kind) 0 (all_events paths))
+      by : (((i : ℕ) × (e : Placed Event) × Both (λ (a : Placed Event). is_failure a.it.kind) (λ (a : ℕ × Placed Event). is_failure a.1.it.kind) 0 (all_events paths) i e)
+          ⊎ Neither (λ (a : Placed Event). is_failure a.it.kind) (λ (a : ℕ × Placed Event). is_failure a.1.it.kind) 0 (all_events paths))
           → last_place paths w ≡ end_of paths w
       by (inl r) = ap first r.2.numbered ∙ here r.0 r.1 r.2.there ∙ sym (ap second r.2.plain)
       by (inr none) = ap first none.numbered ∙ sym (ap second none.plain)
@@ -282,21 +282,21 @@ module _ {B : Type 0} (setting : Setting B) (nodes more : List Node) (w : World)
     }
     made_up_to (suc p) low = by (at_position p) (made_up_to p (omega (arith, low)))
       where
-        deeds_by : Option (Of Event) → List Deed
+        deeds_by : Option (Placed Event) → List Deed
         deeds_by o = option_map_or (with_event ops.buffered code paths w (deeds p)) o (deeds p)
 
-        made_by : Option (ℕ × Of Event) → Made
+        made_by : Option (ℕ × Placed Event) → Made
         made_by o = option_map_or (with_number ops.buffered bound now w (made p)) o (made p)
 
-        walk_deeds : Of Event → Option Walk → List Deed
+        walk_deeds : Placed Event → Option Walk → List Deed
         walk_deeds e o =
             option_map_or (λ (q : Walk). with_drain ops.buffered code paths w (goes_to ops.buffered code paths w (deeds p) e.thread q.name (e.it.step + 1))
             q.name e.it) o (deeds p)
 
-        walk_made : ℕ → Of Event → Option Walk → Made
+        walk_made : ℕ → Placed Event → Option Walk → Made
         walk_made i e o = option_map_or (λ (q : Walk). moves.with_event ops.buffered bound now w (made p) i e.thread q e.it) o (made p)
 
-        one : (i : ℕ) (e : Of Event) → At p i e → IsMadeOf bound code log (deeds p) (made p)
+        one : (i : ℕ) (e : Placed Event) → At p i e → IsMadeOf bound code log (deeds p) (made p)
             → IsMadeOf bound code log (with_event ops.buffered code paths w (deeds p) e)
             (with_number ops.buffered bound now w (made p) (0 + i, e))
         one i e at so_far =
@@ -307,7 +307,7 @@ module _ {B : Type 0} (setting : Setting B) (nodes more : List Node) (w : World)
             (event_made p (deeds p) (made p) (gone p (omega (arith, low))) so_far e.thread a.0 e.it a.1 a.2 a.3 (0 + i)
             (let same : 0 + i ≡ number_of paths e.thread e.it.step = omega (arith, number) in same))
 
-        by : (((i : ℕ) × (e : Of Event) × At p i e) ⊎ NoneAt p) → IsMadeOf bound code log (deeds p) (made p)
+        by : (((i : ℕ) × (e : Placed Event) × At p i e) ⊎ NoneAt p) → IsMadeOf bound code log (deeds p) (made p)
             → IsMadeOf bound code log (deeds_by (event_at paths w p)) (made_by (event_here paths w p))
         by (inr none) so_far =
             subst (λ o. IsMadeOf bound code log (deeds_by o) (made_by (event_here paths w p))) (sym none.plain)

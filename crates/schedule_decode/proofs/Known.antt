@@ -27,7 +27,7 @@ use Rattle.plan_runs.proofs.sym_events.Terms.{have_terms}
 use Rattle.order_formula.specs.Worlds.{World, position}
 use Rattle.world_moves.specs.order_cells.Terms.{CellIsOf}
 use Rattle.world_moves.proofs.order_cells.Stay.{have_later}
-use Rattle.lawful_terms.specs.lawful_order.Events.{Of, all_events}
+use Rattle.lawful_terms.specs.lawful_order.Events.{Placed, all_events}
 use Rattle.lawful_terms.specs.lawful_order.Memory.{cell_of, is_store}
 use Rattle.world_moves.specs.world_plan.Going.{IsLawfulWorld, is_pending, place}
 use Rattle.world_moves.specs.world_plan.Plan.{up_to}
@@ -55,7 +55,7 @@ pub record IsOfMemory (code : Code) (nodes : List Node) (w : World) (c : Cell) :
   pub number : cell_by nodes w.loads c < length code.memory
 
 -- an event at a position, with its number
-pub record IsKnown (buffered : Bool) (code : Code) (x : Execution) (w : World) (p : ℕ) (e : ℕ × Of Event) : Type 0 where
+pub record IsKnown (buffered : Bool) (code : Code) (x : Execution) (w : World) (p : ℕ) (e : ℕ × Placed Event) : Type 0 where
   pub walk : Walk
   pub there : slice_get x.paths.threads e.1.thread ≡ Some walk
   pub step : e.1.it.step < length walk.places
@@ -66,7 +66,7 @@ pub record IsKnown (buffered : Bool) (code : Code) (x : Execution) (w : World) (
 -- each event before the end is known
 abbrev pub AreKnown : Bool → Code → Execution → World → Type 0
 AreKnown buffered code x w =
-    (p : ℕ) (e : ℕ × Of Event) → p < last_place x.paths w → event_here x.paths w p ≡ Some e → IsKnown buffered code x w p e
+    (p : ℕ) (e : ℕ × Placed Event) → p < last_place x.paths w → event_here x.paths w p ≡ Some e → IsKnown buffered code x w p e
 
 module _ {B : Type 0} (setting : Setting B) (nodes more : List Node) (w : World) (l : IsLawfulWorld setting nodes w) (g : Given setting nodes w) where
   open setting use {machine, ops, code, log}
@@ -103,11 +103,11 @@ module _ {B : Type 0} (setting : Setting B) (nodes more : List Node) (w : World)
   pub are_known : AreKnown ops.buffered code now w
   are_known p e before is = by (at_position setting nodes more w l g p)
     where
-      known_at : (i : ℕ) (x : Of Event) → At setting nodes more w l g p i x
+      known_at : (i : ℕ) (x : Placed Event) → At setting nodes more w l g p i x
           → IsKnown ops.buffered code now w p (0 + i, x)
       known_at i x at =
           let a = event_at_is paths w l.world l.of.events (paths_whole setting nodes w l) p x at.plain in
-          let f = of_find (λ (y : ℕ × Of Event). position w y.0 == p) (enumerate_from 0 (all_events paths)) (0 + i, x) at.numbered in
+          let f = of_find (λ (y : ℕ × Placed Event). position w y.0 == p) (enumerate_from 0 (all_events paths)) (0 + i, x) at.numbered in
           let few = slice_get_within (all_events paths) i x at.there in
           let end = same_end setting nodes more w l g in
           record {
@@ -122,7 +122,7 @@ module _ {B : Type 0} (setting : Setting B) (nodes more : List Node) (w : World)
                 x.thread a.0 x.it a.1 a.2 (omega (arith, a.3)) waits;
           }
 
-      by : (((i : ℕ) × (x : Of Event) × At setting nodes more w l g p i x) ⊎ NoneAt setting nodes more w l g p)
+      by : (((i : ℕ) × (x : Placed Event) × At setting nodes more w l g p i x) ⊎ NoneAt setting nodes more w l g p)
           → IsKnown ops.buffered code now w p e
       by (inr none) = absurd (none-some e (sym none.numbered ∙ is))
       by (inl r) = subst (IsKnown ops.buffered code now w p) (same_Some (0 + r.0, r.1) e (sym r.2.numbered ∙ is)) (known_at r.0 r.1 r.2)

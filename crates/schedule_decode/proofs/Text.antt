@@ -31,7 +31,7 @@ use Rattle.sym_exec.specs.Alone.{cell_by}
 use Rattle.sym_exec.specs.declared.symbolic.Cell.{Cell}
 use Rattle.path_execution.specs.declared.execution.Execution.{Execution}
 use Rattle.order_formula.specs.Worlds.{World, is_ended}
-use Rattle.lawful_terms.specs.lawful_order.Events.{Of, all_events, all_sleeps}
+use Rattle.lawful_terms.specs.lawful_order.Events.{Placed, all_events, all_sleeps}
 use Rattle.lawful_terms.specs.lawful_order.Memory.{cell_of, is_store}
 use Rattle.world_moves.specs.world_plan.Plan.{is_failing, woken_by}
 use Rattle.world_moves.specs.Moves.{Made, steps_of, runs_to, with_moves, with_rest, with_passing, own_move, drains_of, with_event, with_number, event_here}
@@ -122,14 +122,14 @@ module _ (buffered : Bool) (bound : Binding) (code : Code) (x : Execution) (w : 
 
   -- a woken thread is one of the paths
   woken_named : (event : ℕ) (u : Name) → woken_by x.paths w event ≡ Some u → is_name u ≡ true
-  woken_named event u woken = by (find (λ (s : ℕ × Of Sleep). is_ended w s.0 event) (enumerate_from 0 (all_sleeps x.paths))) woken
+  woken_named event u woken = by (find (λ (s : ℕ × Placed Sleep). is_ended w s.0 event) (enumerate_from 0 (all_sleeps x.paths))) woken
     where
       of_walk : (t : ℕ) (o : Option Walk) → slice_get x.paths.threads t ≡ o → option_map (λ (q : Walk). q.name) o ≡ Some u → is_name u ≡ true
       of_walk t None none is = absurd (none-some u is)
       of_walk t (Some q) at is = subst (λ n. is_name n ≡ true) (same_Some q.name u is) (named t q at)
 
-      by : (o : Option (ℕ × Of Sleep))
-          → option_and_then (λ (s : ℕ × Of Sleep). option_map (λ (q : Walk). q.name) (slice_get x.paths.threads s.1.thread)) o ≡ Some u → is_name u ≡ true
+      by : (o : Option (ℕ × Placed Sleep))
+          → option_and_then (λ (s : ℕ × Placed Sleep). option_map (λ (q : Walk). q.name) (slice_get x.paths.threads s.1.thread)) o ≡ Some u → is_name u ≡ true
       by None is = absurd (none-some u is)
       by (Some s) is = of_walk s.1.thread (slice_get x.paths.threads s.1.thread) refl is
 
@@ -153,7 +153,7 @@ module _ (buffered : Bool) (bound : Binding) (code : Code) (x : Execution) (w : 
           (drain_fits (bound false false) buffered n (cell_by x.terms w.loads c) waits is (omega (arith, m.number, cells)))
 
   -- An event's moves.
-  event_fits : (p : ℕ) (e : ℕ × Of Event) → IsKnown buffered code x w p e → (most : ℕ) (m : Made) → Fits most m
+  event_fits : (p : ℕ) (e : ℕ × Placed Event) → IsKnown buffered code x w p e → (most : ℕ) (m : Made) → Fits most m
       → Fits (most + 65536) (with_number buffered bound x w m e)
   event_fits p e k most m fits =
       subst (λ o. Fits (most + 65536) (option_map_or (λ (q : Walk). with_event buffered bound x w m e.0 t q e.1.it) o m)) (sym k.there)
@@ -226,7 +226,7 @@ module _ (buffered : Bool) (bound : Binding) (code : Code) (x : Execution) (w : 
         m : Made
         m = made_to buffered bound x w p
 
-        by : (o : Option (ℕ × Of Event)) → event_here x.paths w p ≡ o → Fits (below p w.positions * 65536) m
+        by : (o : Option (ℕ × Placed Event)) → event_here x.paths w p ≡ o → Fits (below p w.positions * 65536) m
             → Fits (below (suc p) w.positions * 65536) (option_map_or (with_number buffered bound x w m) o m)
         by None none fits =
             let rises = below_rises p w.positions in

@@ -187,9 +187,6 @@ regroup : (front : Name) (k : ℕ) (others : Option (Name × List ℕ)) → with
 regroup front k None = refl
 regroup front k (Some x) = ap (λ (n : Name). Some (n, x.1)) (sym (append_assoc front (k ∷ []) x.0))
 
-front_none : (front : Name) (others : Option (Name × List ℕ)) → others ≡ None → with_front front others ≡ None
-front_none front others e = ap (with_front front) e
-
 -- the state while children are read one after the other
 pub record ChildrenSoFar (front : Name) (bytes : List ℕ) (total : Option (Name × List ℕ)) : Type 0 where
   pub few : length front ≤ DEPTH

@@ -285,11 +285,6 @@ stops_here text model moves rest number x more e none = inr (record {
   none = none;
 })
 
-pub all_read : (text : List ℕ) (model : Model) (moves : List Move) (rest : List ℕ) → SoFar text model moves rest → length rest ≡ 0
-    → text ≡ schedule_text model moves
-all_read text model moves rest x e = x.split ∙ (ap (λ (y : List ℕ). schedule_text model moves ++ y) (nil_from_length rest e)
-    ∙ append-nil (schedule_text model moves))
-
 pub shorter : (model : Model) (rest : List ℕ) (move : Move) (after : List ℕ) → Some (move, after) ≡ move_at model rest → length after < length rest
 shorter model rest move after e =
     let t = move_takes model rest move after (sym e) in

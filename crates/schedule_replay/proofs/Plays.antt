@@ -14,7 +14,7 @@ use Rattle.tc_machine.specs.run_laws.Counters.{CountersAreBelowLast}
 use Rattle.tc_machine.proofs.run_laws.Counts.{counters_below_last}
 use Rattle.run_log.specs.Logs.{Log}
 use Rattle.schedule_file.specs.Schedules.{most_lines}
-use Rattle.schedule_replay.specs.Verdicts.{StopsAt, IsVerdictAt, IsVerdict}
+use Rattle.schedule_replay.specs.Verdicts.{StopsAt, IsVerdict}
 use Rattle.schedule_replay.proofs.OneVerdict.{one_verdict}
 use Rattle.schedule_replay.specs.helpers.Judged.{IsJudged}
 use Rattle.schedule_replay.specs.declared.verdict.Verdict.{Verdict}
@@ -57,11 +57,6 @@ module _ {B : Type 0} (ops : BufferOps B) (code : Code) (moves : List Move) (i :
   counts few = counters_below_last ops code (take i moves) s leads (omega (arith, few, taken moves i lt))
 
 module _ {B : Type 0} (ops : BufferOps B) (code : Code) (log : Log) where
-  -- a verdict on another end
-  pub judged_so : (s : State B) (v : Verdict) → IsVerdictAt ops code s log v → IsJudged ops code s log v
-  judged_so s verdict.Reproduces h = absurd h
-  judged_so s v h = h
-
   -- the verdict on the state that all moves led to is the verdict on them
   pub verdict_of : (moves : List Move) (s : State B) → run ops code moves ≡ Some s → (v : Verdict) → IsJudged ops code s log v → IsVerdict ops code log moves v
   verdict_of moves s leads verdict.Reproduces judged = record { state = s; leads = leads; ends = judged.0; paths = judged.1 }

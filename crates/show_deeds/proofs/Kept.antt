@@ -72,9 +72,6 @@ filter-swap p q xs =
 
 -- The issues of a thread.
 
-undrained : List Deed → Name → Issue → Bool
-undrained h q i = not (has_drained h q i.number)
-
 neither : (a b : Bool) → not (a || (b || false)) ≡ not a && not b
 neither true b = refl
 neither false true = refl

@@ -1,5 +1,5 @@
 -- The deed of an enabled move, from the rows before it.
-use Rattle.std.proofs.Common.{◌≡◌, ◌∙◌, ℕ, ℤ, List, [], ◌∷◌, true, Option, Some, None, IsSome, refl, sym, ap, subst}
+use Rattle.std.proofs.Common.{◌≡◌, ◌∙◌, ℕ, ℤ, List, [], ◌∷◌, true, Option, Some, None, IsSome, sym, ap, subst}
 use Rattle.std.specs.Option.{option_map_or, IsSomeAnd}
 use Rattle.std.specs.Prelude.{option_map}
 use Rattle.std.specs.FinMap as fin
@@ -11,7 +11,6 @@ use Rattle.tc_base.specs.declared.moves.Move.{Move}
 use Rattle.tc_base.specs.declared.moves.Move.TheVariants as move
 use Rattle.tc_base.specs.declared.request.Request.{Request}
 use Rattle.tc_code.specs.declared.instr.Instr.{Instr}
-use Rattle.tc_code.specs.declared.instr.Instr.TheVariants.{Signal}
 use Rattle.tc_code.specs.Code.{Code}
 use Rattle.tc_code.specs.Lawful.{IsLawful}
 use Rattle.tc_code.specs.Run.{IsReached}
@@ -22,14 +21,13 @@ use Rattle.tc_threads.proofs.run_laws.Basics.{some_value}
 use Rattle.tc_threads.proofs.run_laws.Steps.{Went, step_went}
 use Rattle.store_buffers.specs.Pending.{Binding}
 use Rattle.store_buffers.specs.Laws.{Laws}
-use Rattle.show_deeds.specs.run_history.History.{Deed, Did, Drained, history, deed_of, did, woke, drained, value_taken, created_by, by_instr}
+use Rattle.show_deeds.specs.run_history.History.{Deed, Did, Drained, history, deed_of, did, drained, value_taken, created_by, by_instr}
 use Rattle.show_deeds.specs.run_history.Locals.{locals_in}
 use Rattle.show_deeds.proofs.run_history.Frame.{holds_after}
 use Rattle.show_deeds.proofs.run_history.Locals.{LocalsAre, keeps_locals, opening_locals}
 use Rattle.std.proofs.lemmas.Option.{none-some, same_Some}
 use Rattle.tc_threads.proofs.ByName.{there_and}
 use Rattle.show_deeds.specs.Deeds.{plain_deed, doer}
-use Rattle.show_deeds.specs.declared.deed.Deed.{Deed as AnyDeed}
 use Rattle.show_deeds.specs.Seen.{Seen, taken_by, first_by}
 use Rattle.show_deeds.specs.declared.deed.Deed.TheVariants as deed
 use Rattle.show_deeds.specs.declared.deed.Stored.{Stored}
@@ -52,43 +50,8 @@ module _ {B : Type 0} (ops : BufferOps B) (code : Code) (s : State B) where
         ap (λ o. option_map_or (λ t. by_instr ops code t (did ops code s n t)) o []) there
         ∙ ap (λ o. option_map_or (λ i. did ops code s n t (request t.local i) ∷ []) o []) at
 
-    pub wake_does : (i : Instr) (u : Name) → instr_of code t.local ≡ Some i
-        → deed_of ops code s h (move.Wake n u) ≡ woke ops code n u t (request t.local i) ∷ []
-    wake_does i u at =
-        ap (λ o. option_map_or (λ t. by_instr ops code t (woke ops code n u t)) o []) there
-        ∙ ap (λ o. option_map_or (λ i. woke ops code n u t (request t.local i) ∷ []) o []) at
-
     pub drain_does : (form : Option ℕ) → deed_of ops code s h (move.Drain n form) ≡ drained ops code h n (ops.drain t.buffer form).entry ∷ []
     drain_does form = ap (λ o. option_map_or (λ (t : Thread B). drained ops code h n (ops.drain t.buffer form).entry ∷ []) o []) there
-
--- the thread of the first of some deeds
-abbrev first_doer : List Deed → Name
-first_doer [] = []
-first_doer (Did n k r v o ∷ ds) = n
-first_doer (Drained n k c v ∷ ds) = n
-
-doer_first : (d : AnyDeed) → first_doer (plain_deed d ∷ []) ≡ doer d
-doer_first (deed.Did s) = refl
-doer_first (deed.Drained s) = refl
-
-module _ {B : Type 0} (ops : BufferOps B) (code : Code) (s : State B) (h : List Deed) (d : AnyDeed) where
-  -- a thread whose name is known is the thread of the deed
-  there_by : (n : Name) (t : Thread B) (ds : List Deed) → fin.get s.threads n ≡ Some t → ds ≡ plain_deed d ∷ [] → first_doer ds ≡ n
-      → fin.get s.threads (doer d) ≡ Some t
-  there_by n t ds there does first = ap (fin.get s.threads) (sym (doer_first d) ∙ sym (ap first_doer does) ∙ first) ∙ there
-
-  -- the thread of an enabled move's deed exists
-  pub doer_is_there : (m : Move) → IsSome (step ops code s m) → deed_of ops code s h m ≡ plain_deed d ∷ []
-      → (t : Thread B) × (fin.get s.threads (doer d) ≡ Some t)
-  doer_is_there (move.Run n) enabled does =
-      let g = (goes ops code s (move.Run n) enabled).1 in
-      (g.thread, there_by n g.thread _ g.there does (ap first_doer (run_does ops code s h n g.thread g.there g.instr g.at)))
-  doer_is_there (move.Wake n u) enabled does =
-      let g = (goes ops code s (move.Wake n u) enabled).1 in
-      (g.thread, there_by n g.thread _ g.there does (ap first_doer (wake_does ops code s h n g.thread g.there (Signal g.condition) u g.at)))
-  doer_is_there (move.Drain n form) enabled does =
-      let g = (goes ops code s (move.Drain n form) enabled).1 in
-      (g.thread, there_by n g.thread _ g.there does (ap first_doer (drain_does ops code s h n g.thread g.there form)))
 
 module _ {B : Type 0} (ops : BufferOps B) (model : Model) (bound : Binding) (laws : Laws ops model bound) (code : Code) (s : State B) (t : Telling)
     (so : IsSoFar ops code s t) where

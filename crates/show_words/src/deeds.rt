@@ -5,6 +5,7 @@ use crate::rows::Shared;
 use crate::sites::{failed_words, silent_words};
 use crate::terms::value_over;
 use show_deeds::{Deed, Step, Stored};
+use show_names::Names;
 use show_rows::Row;
 use std::alloc::{AllocError, Global};
 use tc_base::{Request, ThreadName};
@@ -20,80 +21,41 @@ pub(crate) fn deed_words(
     shared: &Shared<'_>,
 ) -> Result<String, AllocError> {
     match &row.deed {
-        Deed::Drained(stored) => drained_words(alloc, program, stored),
-        Deed::Did(step) => match step.asks {
-            Request::Silent => silent_words(alloc, program, row),
-            Request::Fail => failed_words(alloc, program, row),
-            Request::Read(_)
-            | Request::Write(_, _)
-            | Request::Exchange(_, _)
-            | Request::CompareExchange(_, _, _) => {
-                access_words(alloc, program, step, buffered, shared.own)
-            }
-            Request::BeginWait(_, _)
-            | Request::EndWait(_, _)
-            | Request::WakeOne(_)
-            | Request::WakeAll(_) => wait_words(alloc, program, step, shared),
-            Request::Start(_) => creation_words(alloc, program, row, step),
-            _ => sync_words(alloc, program, step),
-        },
+        Deed::Drained(stored) => drained_words(alloc, program.names, stored),
+        Deed::Did(step) => step_words(alloc, program, row, step, buffered, shared),
     }
 }
 
 /// A store that reaches memory.
-fn drained_words(
-    alloc: Global,
-    program: Program<'_>,
-    stored: &Stored,
-) -> Result<String, AllocError> {
-    let name = program.names.cell(stored.cell);
+fn drained_words(alloc: Global, names: &Names, stored: &Stored) -> Result<String, AllocError> {
+    let name = names.cell(stored.cell);
     let value = stored.value;
     format!(in alloc; "{name} = {value} reaches memory")
 }
 
-/// A step that asks for a cell.
-fn access_words(
+/// A row's step in words.
+fn step_words(
     alloc: Global,
     program: Program<'_>,
+    row: &Row,
     step: &Step,
     buffered: bool,
-    own: bool,
+    shared: &Shared<'_>,
 ) -> Result<String, AllocError> {
+    let names = program.names;
     let took = step.took;
     match step.asks {
-        Request::Read(cell) => {
-            let name = program.names.cell(cell);
-            let source = if own { ", from its own buffer" } else { "" };
-            format!(in alloc; "{name}: took {took}{source}")
-        }
-        Request::Write(cell, value) => {
-            let name = program.names.cell(cell);
-            if buffered {
-                format!(in alloc; "store {name} = {value}, waits in its buffer")
-            } else {
-                format!(in alloc; "{name} = {value}")
-            }
-        }
+        Request::Silent => silent_words(alloc, program, row),
+        Request::Fail => failed_words(alloc, program, row),
+        Request::Read(cell) => load_words(alloc, names.cell(cell), took, shared.own),
+        Request::Write(cell, value) => store_words(alloc, names.cell(cell), value, buffered),
         Request::Exchange(cell, value) => {
-            let name = program.names.cell(cell);
+            let name = names.cell(cell);
             format!(in alloc; "swap {name}: took {took}, put {value}")
         }
         Request::CompareExchange(cell, expected, value) => {
-            let name = program.names.cell(cell);
-            if took == expected {
-                format!(in alloc; "cas {name}: took {took}, put {value}")
-            } else {
-                format!(in alloc; "cas {name}: took {took}, put nothing")
-            }
+            cas_words(alloc, names.cell(cell), took, expected, value)
         }
-        _ => String::from_str(alloc, ""),
-    }
-}
-
-/// A step that asks something of the other threads, or that orders stores.
-fn sync_words(alloc: Global, program: Program<'_>, step: &Step) -> Result<String, AllocError> {
-    let names = program.names;
-    match step.asks {
         Request::Bar => String::from_str(alloc, "stbar"),
         Request::OrderStores => String::from_str(alloc, "fence"),
         Request::Finish => String::from_str(alloc, "exits"),
@@ -105,50 +67,90 @@ fn sync_words(alloc: Global, program: Program<'_>, step: &Step) -> Result<String
             let mutex = names.mutex(mutex);
             format!(in alloc; "unlock {mutex}")
         }
-        Request::Await(child) => {
-            let parent = &step.thread;
-            format!(in alloc; "joins {parent}.{child}")
-        }
-        _ => String::from_str(alloc, ""),
-    }
-}
-
-/// A step by which a thread begins or ends a wait, or wakes others.
-fn wait_words(
-    alloc: Global,
-    program: Program<'_>,
-    step: &Step,
-    shared: &Shared<'_>,
-) -> Result<String, AllocError> {
-    let names = program.names;
-    match step.asks {
         Request::BeginWait(condition, mutex) => {
             let condition = names.condition(condition);
             let mutex = names.mutex(mutex);
             format!(in alloc; "sleeps on {condition}, unlock {mutex}")
         }
         Request::EndWait(condition, mutex) => {
-            let condition = names.condition(condition);
-            let mutex = names.mutex(mutex);
-            match shared.waker {
-                Some(waker) => {
-                    format!(in alloc; "is awake from {condition} by {waker}, lock {mutex}")
-                }
-                None => format!(in alloc; "is awake from {condition}, lock {mutex}"),
-            }
+            awake_words(
+                alloc,
+                names.condition(condition),
+                names.mutex(mutex),
+                shared.waker,
+            )
         }
         Request::WakeOne(condition) => {
-            let condition = names.condition(condition);
-            let woken = woken_words(alloc, shared.wakes)?;
-            format!(in alloc; "signal {condition}: {woken}")
+            wake_words(alloc, "signal", names.condition(condition), shared.wakes)
         }
         Request::WakeAll(condition) => {
-            let condition = names.condition(condition);
-            let woken = woken_words(alloc, shared.wakes)?;
-            format!(in alloc; "broadcast {condition}: {woken}")
+            wake_words(alloc, "broadcast", names.condition(condition), shared.wakes)
         }
-        _ => String::from_str(alloc, ""),
+        Request::Start(_) => creation_words(alloc, program, row, step),
+        Request::Await(child) => {
+            let parent = &step.thread;
+            format!(in alloc; "joins {parent}.{child}")
+        }
     }
+}
+
+/// A load, given whether it took the value from its thread's own buffer.
+fn load_words(alloc: Global, name: &str, took: i32, own: bool) -> Result<String, AllocError> {
+    let source = if own { ", from its own buffer" } else { "" };
+    format!(in alloc; "{name}: took {took}{source}")
+}
+
+/// A store, given whether there are buffers.
+fn store_words(
+    alloc: Global,
+    name: &str,
+    value: i32,
+    buffered: bool,
+) -> Result<String, AllocError> {
+    if buffered {
+        format!(in alloc; "store {name} = {value}, waits in its buffer")
+    } else {
+        format!(in alloc; "{name} = {value}")
+    }
+}
+
+/// A compare-and-swap, which stores only if it took the expected value.
+fn cas_words(
+    alloc: Global,
+    name: &str,
+    took: i32,
+    expected: i32,
+    value: i32,
+) -> Result<String, AllocError> {
+    if took == expected {
+        format!(in alloc; "cas {name}: took {took}, put {value}")
+    } else {
+        format!(in alloc; "cas {name}: took {took}, put nothing")
+    }
+}
+
+/// A step by which a thread ends a wait, and the thread that woke it, if it is known.
+fn awake_words(
+    alloc: Global,
+    condition: &str,
+    mutex: &str,
+    waker: Option<&ThreadName>,
+) -> Result<String, AllocError> {
+    match waker {
+        Some(waker) => format!(in alloc; "is awake from {condition} by {waker}, lock {mutex}"),
+        None => format!(in alloc; "is awake from {condition}, lock {mutex}"),
+    }
+}
+
+/// A step that wakes threads.
+fn wake_words(
+    alloc: Global,
+    verb: &str,
+    condition: &str,
+    wakes: &[ThreadName],
+) -> Result<String, AllocError> {
+    let woken = woken_words(alloc, wakes)?;
+    format!(in alloc; "{verb} {condition}: {woken}")
 }
 
 /// The threads that are woken, in words.

@@ -85,7 +85,3 @@ closed-code code tables all = record {
     closed : (f place : ℕ) (i : Instr) → instr_at code f place ≡ Some i → IsClosedAt (slice_index_or tables f []) i place
     closed f place i at =
         option_and_then_some (λ (g : Func). slice_get g.instrs place) (slice_get code.functions f) i at (λ g found there. all f g found place i there)
-
--- each slot is live
-pub closed-all : (code : Code) → IsClosed code (liveness None)
-closed-all code = record { reads = λ f place k i at reads. refl; passes = λ f place to k i at leads live other. refl }

@@ -2,8 +2,8 @@
 use Rattle.std.proofs.Common.{◌≡◌, ◌⊎◌, inl, inr, refl, subst, ℕ, List, Some}
 use Rattle.clap_solve.specs.Clauses.{bound_of}
 use Rattle.clap_solve.specs.Solved.{IsAnswer}
-use Rattle.clap_solve.specs.declared.answer.Answer.{Answer}
-use Rattle.clap_solve.specs.declared.answer.Answer.TheVariants.{Found, Impossible, Spent}
+use Rattle.clap_solve.specs.cdcl_core.declared.answer.Answer.{Answer}
+use Rattle.clap_solve.specs.cdcl_core.declared.answer.Answer.TheVariants.{Found, Impossible, Spent}
 use Rattle.memory_models.specs.declared.model.Model.{Model}
 use Rattle.refute_check.specs.declared.line.Line.{Line}
 use Rattle.schedule_file.specs.declared.schedule.Schedule.{Schedule}
@@ -25,22 +25,22 @@ use Rattle.solve_command.specs.Meanings.{IsFound, answer_said, report_of, solve_
 use Rattle.solve_command.specs.declared.solution.Solution.{Solution}
 
 -- an answer with each status
-is_found : (b : ℕ) (a : Answer) → (answer_said b a).0 ≡ Done → (s : Schedule) × (a ≡ Found s)
+is_found : (b : ℕ) (a : Answer Schedule) → (answer_said b a).0 ≡ Done → (s : Schedule) × (a ≡ Found s)
 is_found b (Found s) is = (s, refl)
 is_found b (Impossible _) is = absurd (let bad : Fails ≡ Done = is in cc)
 is_found b (Spent _) is = absurd (let bad : Open ≡ Done = is in cc)
 
-is_impossible : (b : ℕ) (a : Answer) → (answer_said b a).0 ≡ Fails → (lines : List Line) × (a ≡ Impossible lines)
+is_impossible : (b : ℕ) (a : Answer Schedule) → (answer_said b a).0 ≡ Fails → (lines : List Line) × (a ≡ Impossible lines)
 is_impossible b (Impossible lines) is = (lines, refl)
 is_impossible b (Found _) is = absurd (let bad : Done ≡ Fails = is in cc)
 is_impossible b (Spent _) is = absurd (let bad : Open ≡ Fails = is in cc)
 
-is_spent : (b : ℕ) (a : Answer) → (answer_said b a).0 ≡ Open → (lines : List Line) × (a ≡ Spent lines)
+is_spent : (b : ℕ) (a : Answer Schedule) → (answer_said b a).0 ≡ Open → (lines : List Line) × (a ≡ Spent lines)
 is_spent b (Spent lines) is = (lines, refl)
 is_spent b (Found _) is = absurd (let bad : Done ≡ Open = is in cc)
 is_spent b (Impossible _) is = absurd (let bad : Fails ≡ Open = is in cc)
 
-any_answer : (n b : ℕ) (a : Answer) → n ≡ number_of (answer_said b a).0 → (n ≡ 0) ⊎ (n ≡ 1) ⊎ (n ≡ 10)
+any_answer : (n b : ℕ) (a : Answer Schedule) → n ≡ number_of (answer_said b a).0 → (n ≡ 0) ⊎ (n ≡ 1) ⊎ (n ≡ 10)
 any_answer n b (Found _) is = inl is
 any_answer n b (Impossible _) is = inr (inl is)
 any_answer n b (Spent _) is = inr (inr is)
@@ -54,7 +54,7 @@ module _ (call : Solve) (files : Files) (old new : ShelfTells) (number : ℕ) (b
   IsReport x = Reports (inputs_of call.asked) (ComesTo call.asked.model (IsFound call.budget)) (report_of call) files e x
 
   -- a solution whose answer is this one, under the memory model that is meant
-  module _ (x : Solution) (r : IsReport x) (a : Answer) (is : x.answer ≡ a) where
+  module _ (x : Solution) (r : IsReport x) (a : Answer Schedule) (is : x.answer ≡ a) where
     abbrev m : Model
     m = model_of call.asked.model r.comes.0.pair
 

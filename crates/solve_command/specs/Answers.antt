@@ -1,7 +1,7 @@
 -- The headline: what `solve` answers to files that are known.
 use Rattle.std.specs.Prelude.{◌≡◌, ◌⊎◌, ℕ, List}
 use Rattle.clap_solve.specs.cdcl_core.Solving.{Solves}
-use Rattle.clap_solve.specs.cdcl_core.declared.progress.Solved.TheVariants.{Spent}
+use Rattle.clap_solve.specs.cdcl_core.declared.answer.Answer.TheVariants.{Spent}
 use Rattle.refute_check.specs.Refutations.{IsClosed}
 use Rattle.refute_check.specs.declared.line.Line.{Line}
 use Rattle.run_log.specs.tc_base.declared.moves.Move.{Move}

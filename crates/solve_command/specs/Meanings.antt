@@ -2,8 +2,9 @@
 use Rattle.std.specs.Prelude.{ℕ, List, [], ◌∷◌, Result}
 use Rattle.clap_solve.specs.Clauses.{bound_of}
 use Rattle.clap_solve.specs.Solved.{IsAnswer}
-use Rattle.clap_solve.specs.declared.answer.Answer.{Answer}
-use Rattle.clap_solve.specs.declared.answer.Answer.TheVariants.{Found, Impossible, Spent}
+use Rattle.schedule_file.specs.declared.schedule.Schedule.{Schedule}
+use Rattle.clap_solve.specs.cdcl_core.declared.answer.Answer.{Answer}
+use Rattle.clap_solve.specs.cdcl_core.declared.answer.Answer.TheVariants.{Found, Impossible, Spent}
 use Rattle.memory_models.specs.declared.model.Model.{Model}
 use Rattle.run_log.specs.Logs.{Log}
 use Rattle.store_buffers.specs.Buffers.{buffer_of}
@@ -20,7 +21,7 @@ use Rattle.solve_command.specs.Calls.{Solve}
 use Rattle.solve_command.specs.declared.solution.Solution.{Solution}
 
 -- the status and the line of what a search with this budget finds
-abbrev pub answer_said : (budget : ℕ) → Answer → Status × List ℕ
+abbrev pub answer_said : (budget : ℕ) → Answer Schedule → Status × List ℕ
 answer_said budget (Found schedule) = (Done, moves_line schedule.moves.items)
 answer_said budget (Impossible lines) = (Fails, impossible_line lines)
 answer_said budget (Spent lines) = (Open, spent_line budget)

@@ -10,6 +10,7 @@ use command_frame::{Command, Keep, Status, Work};
 use command_inputs::{Fault, LogFile, ProgramFile, Refusal};
 use log_tasks::{Budget, impossible_line, moves_line, spent_line};
 use memory_models::Model;
+use schedule_file::Schedule;
 use std::alloc::{AllocError, Global};
 
 /// Searches for a schedule of a log of a program.
@@ -86,7 +87,11 @@ impl<'a> Work for Solve<'a> {
 }
 
 /// The line for what a search with this budget found.
-fn answer_line(alloc: Global, budget: Budget, answer: &Answer) -> Result<String, AllocError>
+fn answer_line(
+    alloc: Global,
+    budget: Budget,
+    answer: &Answer<Schedule>,
+) -> Result<String, AllocError>
     ensures { IfOk result (λ text. string_bytes text ≡ (answer_said budget.conflicts answer.now).1) }
 {
     match answer {

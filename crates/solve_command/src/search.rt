@@ -22,7 +22,7 @@ use log_tasks::{Budget, read_own, refuse_built};
 use memory_models::Model;
 use refute_check::{Head, write_refutation};
 use run_log::Log;
-use schedule_file::write_schedule;
+use schedule_file::{Schedule, write_schedule};
 use std::alloc::{AllocError, Global};
 use std::mem::drop;
 use store_buffers::{PsoModel, Sc, TsoModel};
@@ -73,7 +73,7 @@ fn solve_under(
     log: &Log,
     model: Model,
     budget: Budget,
-) -> Result<Answer, BuildFault>
+) -> Result<Answer<Schedule>, BuildFault>
     ensures found { IfOk result (IsSolved (buffer_of model) model (bound_of model) code.now log.now.log budget.conflicts) }
     ensures fault { IfErr result (IsBuildFault code.now log.now.log) }
 {
@@ -86,7 +86,11 @@ fn solve_under(
 }
 
 /// The text of a result: a schedule, or a refutation under the memory model.
-fn answer_text(alloc: Global, model: Model, answer: &Answer) -> Result<Vec<u8>, AllocError>
+fn answer_text(
+    alloc: Global,
+    model: Model,
+    answer: &Answer<Schedule>,
+) -> Result<Vec<u8>, AllocError>
     ensures { IfOk result (λ text. IsTextOf model answer.now text.items) }
 {
     let head = Head {

@@ -32,7 +32,6 @@ use Rattle.std.proofs.Common.{
   ◌<◌,
   ◌-◌,
   slice_index_or,
-  drop,
   arith,
   Bor,
   option_copied,
@@ -177,10 +176,6 @@ out_values es fs s c is h = segment_of_update es fs c [] h ∙ ap (λ t. with_va
 pub tidy_put : (es fs : Entries) (s : Segment) (c : ℕ) (vs : List ℤ) → segment_of es ≡ s → IsTidy (segment_of es) → segment_of fs ≡ with_values s c vs
     → IsTidy (segment_of fs)
 tidy_put es fs s c vs is t put = subst IsTidy (sym put) (tidy-with_values s c vs (subst IsTidy is t))
-
-pub nil_drop : (vs : List ℤ) → is_nil (drop 1 vs) ≡ false → is_nil vs ≡ false
-nil_drop [] e = e
-nil_drop (v ∷ vs) e = refl
 
 pub nil-append : (vs : List ℤ) (v : ℤ) → is_nil (vs ++ v ∷ []) ≡ false
 nil-append [] v = refl

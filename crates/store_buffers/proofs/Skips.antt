@@ -28,8 +28,6 @@ use Rattle.std.proofs.Common.{
   ◌&&◌,
   append_assoc,
   is_some,
-  IsTrue,
-  ◌↔◌,
   ◌<◌,
   slice_index_or,
   length-append,
@@ -147,15 +145,6 @@ pub all_empty : (n : ℕ) (older : List Segment) (s : Segment) (now : List Segme
 all_empty n [] s now is begins = ap (list_all has_no_store) (sym is) ∙ all_empty-after n (s ∷ []) ∙ and-true (has_no_store s)
 all_empty n (t ∷ older) s now is begins = ap (list_all has_no_store) (sym is) ∙ all_empty-after n (t ∷ older ++ s ∷ [])
     ∙ ap (λ b. b && list_all has_no_store (older ++ s ∷ [])) begins
-
-pub nil_by_len : {A : Type 0} (xs : List A) (b : Bool) (n : ℕ) → n ≡ length xs → IsTrue b ↔ (n ≡ 0) → b ≡ is_nil xs
-nil_by_len [] true n len is = refl
-nil_by_len [] false n len is = absurd (false≢true (is.1 len))
-nil_by_len (x ∷ xs) true n len is = absurd (not_both n (length xs) len (is.0 refl))
-  where
-    not_both : (n m : ℕ) → n ≡ suc m → n ≡ 0 → ⊥
-    not_both n m e f = omega arith
-nil_by_len (x ∷ xs) false n len is = refl
 
 pub length-after : (n : ℕ) (ss : List Segment) → length (after_empty n ss) ≡ n + length ss
 length-after n ss = length-append (replicate n fin.empty) ss ∙ ap (λ k. k + length ss) (length-replicate n fin.empty)

@@ -29,7 +29,7 @@ use Rattle.clap_solve.specs.order_formula.declared.read.Candidate.{Candidate}
 use Rattle.clap_solve.specs.order_formula.Orders.{BodyIsAsked, BodyIsIn, ConjunctIsAsked, ConjunctIsIn, Grows, IsOrder, Order, pair_of, same_pair}
 use Rattle.clap_solve.specs.order_formula.Worlds.{World}
 use Rattle.clap_solve.proofs.order_formula.Asked.{formula_stays}
-use Rattle.switch_runs.specs.lawful_order.Events.{Of, all_events, number_of}
+use Rattle.switch_runs.specs.lawful_order.Events.{Placed, all_events, number_of}
 use Rattle.switch_runs.proofs.order_events.Lists as lists
 use Rattle.switch_runs.proofs.order_events.Numbers.{has_number}
 use Rattle.switch_runs.proofs.order_events.Parts.{each_in}
@@ -185,13 +185,13 @@ module _ (buffered : Bool) (bound : Binding) (code : Code) (log : Log) (lawful :
 
   -- the event that fails is an event of the order
   failing_within : (last : ℕ) → failing_of ps ≡ Some last → last < y.order.events
-  failing_within last is = by (find (λ (e : Of Event). is_failure e.it.kind) (all_events ps)) refl is
+  failing_within last is = by (find (λ (e : Placed Event). is_failure e.it.kind) (all_events ps)) refl is
     where
-      by : (o : Option (Of Event)) → find (λ (e : Of Event). is_failure e.it.kind) (all_events ps) ≡ o
-          → option_map (λ (e : Of Event). number_of ps e.thread e.it.step) o ≡ Some last → last < y.order.events
+      by : (o : Option (Placed Event)) → find (λ (e : Placed Event). is_failure e.it.kind) (all_events ps) ≡ o
+          → option_map (λ (e : Placed Event). number_of ps e.thread e.it.step) o ≡ Some last → last < y.order.events
       by None at never = absurd (none-some last never)
       by (Some e) at number =
-          let f = of_find (λ (d : Of Event). is_failure d.it.kind) (all_events ps) e at in
+          let f = of_find (λ (d : Placed Event). is_failure d.it.kind) (all_events ps) e at in
           let i = lists.in_at (all_events ps) e f.0 in
           let q = event_numbered ps (paths_are.whole code ps (solve.are buffered bound code log lawful within)) i.0 e i.1 in
           let less = has_number ps e.thread e.it.step (e.it, q, refl) in
@@ -204,7 +204,7 @@ module _ (buffered : Bool) (bound : Binding) (code : Code) (log : Log) (lawful :
   levels_ready = record {
     order = lawful_y;
     events = ready.events;
-    every = length-map (all_events ps) (λ (e : Of Event). e.thread) ∙ sym events_y;
+    every = length-map (all_events ps) (λ (e : Placed Event). e.thread) ∙ sym events_y;
     last = failing_within;
     asked = asked;
     more = stands.more y s.nodes s.formula ready;

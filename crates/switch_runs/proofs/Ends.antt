@@ -20,15 +20,13 @@ use Rattle.plan_runs.proofs.run_history.of_pending.In.{In, in_at, in_mapped, in_
 use Rattle.plan_runs.proofs.run_history.of_pending.Own.{stores_have_drained}
 use Rattle.plan_runs.specs.path_walk.Paths.{Walk, Paths, paths_of}
 use Rattle.plan_runs.specs.path_walk.declared.event.Event.{Event}
-use Rattle.plan_runs.specs.path_walk.declared.event.EventKind.{EventKind}
 use Rattle.plan_runs.specs.path_walk.declared.event.EventKind.TheVariants as kind
 use Rattle.plan_runs.specs.path_laws.Setting.{Setting}
-use Rattle.plan_runs.specs.path_laws.Deeds.{kind_of}
 use Rattle.plan_runs.specs.path_laws.history.Along.{IsThread, HistoryAlong}
 use Rattle.plan_runs.specs.path_laws.events.Done.{IsDoneIn}
 use Rattle.plan_runs.proofs.path_laws.of_events.Lists.{contains_in, in_contains}
 use Rattle.order_switches.specs.order_formula.Worlds.{World, IsWorld}
-use Rattle.plan_runs.specs.lawful_order.Events.{HasEvent, IsBefore, Of, all_events, number_of, place_of}
+use Rattle.plan_runs.specs.lawful_order.Events.{HasEvent, IsBefore, Placed, all_events, number_of, place_of}
 use Rattle.plan_runs.specs.lawful_order.Memory.{is_store}
 use Rattle.plan_runs.specs.lawful_order.Whole.{HasStep}
 use Rattle.plan_runs.specs.world_plan.Plan.{is_failure}
@@ -57,10 +55,6 @@ use Rattle.plan_runs.proofs.End.{failure_is, failure_of}
 use Rattle.plan_runs.proofs.of_memory.Issued.{step_named}
 use Rattle.run_lawful.proofs.of_own.Requests.{store_writes}
 use Rattle.plan_runs.proofs.path_laws.of_history.Logged.{history_again}
-
-abbrev asked_of : Deed → Option EventKind
-asked_of (Did n k r v o) = kind_of r o
-asked_of _ = None
 
 none_found : {X Y : Type 0} (f : X → Option Y) (xs : List X) → ((x : X) → In x xs → f x ≡ None) → filter_map f xs ≡ []
 none_found f [] none = refl
@@ -120,7 +114,7 @@ module _ {B : Type 0} (setting : Setting B) (moves : List Move) (again : Reprodu
       }
 
   -- if no event fails, no step has failed
-  module _ (none : find (λ (e : Of Event). is_failure e.it.kind) (all_events ps) ≡ None) where
+  module _ (none : find (λ (e : Placed Event). is_failure e.it.kind) (all_events ps) ≡ None) where
     no_failure : (d : Deed) → In d h → fails d ≡ None
     no_failure (Did n k Fail took other) i =
         let m = step_of_thread n k Fail took other i in
@@ -129,7 +123,7 @@ module _ {B : Type 0} (setting : Setting B) (moves : List Move) (again : Reprodu
         subst (λ o. IsDoneIn h o k kind.Fail) (sym m.name_is)
         (record { older = s.older; newer = s.newer; request = Fail; took = took; other = other; there = s.there; asks = refl }) in
         let x = done_event setting all m.thread k kind.Fail done in
-        let f = in_find (λ (e : Of Event). is_failure e.it.kind) (all_events ps) (record { thread = m.index; it = x.0 })
+        let f = in_find (λ (e : Placed Event). is_failure e.it.kind) (all_events ps) (record { thread = m.index; it = x.0 })
         (among_all ps m.index m.walk x.0 m.there (contains_in x.0 m.walk.events x.1)) (failure_of x.0.kind x.3) in
         absurd (none-some f.0 (sym none ∙ f.1))
     no_failure (Did n k r took other) i = refl
@@ -208,16 +202,16 @@ module _ {B : Type 0} (setting : Setting B) (moves : List Move) (again : Reprodu
             (in_at df.older gone between) in
             absurd (none_fails x.older hf.0.name (in_mapped fails gone hf.0.name x.older there_gone refl) (all.along.follow x.older x.newer x.deed x.there).0)
 
-    abbrev found : Option (Of Event)
-    found = find (λ (e : Of Event). is_failure e.it.kind) (all_events ps)
+    abbrev found : Option (Placed Event)
+    found = find (λ (e : Placed Event). is_failure e.it.kind) (all_events ps)
 
-    abbrev end_by : Option (Of Event) → ℕ
-    end_by o = end_at (option_map (λ (e : Of Event). number_of ps e.thread e.it.step) o) w
+    abbrev end_by : Option (Placed Event) → ℕ
+    end_by o = end_at (option_map (λ (e : Placed Event). number_of ps e.thread e.it.step) o) w
 
     -- the event that fails
-    fails_at : (e : Of Event) → found ≡ Some e → HasEvent ps e.thread e.it × (e.it.kind ≡ kind.Fail)
+    fails_at : (e : Placed Event) → found ≡ Some e → HasEvent ps e.thread e.it × (e.it.kind ≡ kind.Fail)
     fails_at e at =
-        let f = of_find (λ (d : Of Event). is_failure d.it.kind) (all_events ps) e at in
+        let f = of_find (λ (d : Placed Event). is_failure d.it.kind) (all_events ps) e at in
         let i = lists.in_at (all_events ps) e f.0 in
         let q = event_numbered ps a.whole i.0 e i.1 in
         (q, failure_is e.it.kind f.1)
@@ -226,7 +220,7 @@ module _ {B : Type 0} (setting : Setting B) (moves : List Move) (again : Reprodu
     pub within : (t k : ℕ) → TakesPlace b ps h t k → place t k < end
     within t k x = by found refl
       where
-        by : (o : Option (Of Event)) → found ≡ o → place t k < end_by o
+        by : (o : Option (Placed Event)) → found ≡ o → place t k < end_by o
         by None at =
             All-get_or (λ p. p < 256) w.positions (number_of ps t k) 0
             (omega (arith, has_number ps t k (a.events t k x), events)) small
@@ -238,7 +232,7 @@ module _ {B : Type 0} (setting : Setting B) (moves : List Move) (again : Reprodu
       event_takes : (t : ℕ) (q : Walk) (x : Event) → IsThread code log t q → Contains q.events x → place t x.step < end → TakesPlace b ps h t x.step
       event_takes t q x there i before = by (b && is_store x.kind) refl
         where
-          waits_by : (o : Option (Of Event)) → found ≡ o → place t x.step < end_by o → (b && is_store x.kind) ≡ true → has_drained h q.name x.step ≡ true
+          waits_by : (o : Option (Placed Event)) → found ≡ o → place t x.step < end_by o → (b && is_store x.kind) ≡ true → has_drained h q.name x.step ≡ true
           waits_by None at less waits = drained at t q x there i waits
           waits_by (Some e) at less waits =
               let f = fails_at e at in

@@ -14,7 +14,7 @@ use Rattle.plan_runs.specs.path_walk.declared.event.Event.{Event}
 use Rattle.order_switches.specs.order_formula.Worlds.{World, IsWorld}
 use Rattle.order_switches.specs.Switches.{thread_at}
 use Rattle.order_switches.proofs.Threads.{thread_there}
-use Rattle.plan_runs.specs.lawful_order.Events.{Of, all_events, number_of, place_of}
+use Rattle.plan_runs.specs.lawful_order.Events.{Placed, all_events, number_of, place_of}
 use Rattle.plan_runs.specs.lawful_order.Whole.{HasStep}
 use Rattle.plan_runs.proofs.order_events.Numbers.{has_number, is_step_at}
 use Rattle.plan_runs.specs.world_plan.Sights.{AreInOrder, Shows, Sight, sight_of}
@@ -41,12 +41,12 @@ module _ (paths : Paths) (w : World) (is : IsWorld w) (events : length w.positio
   pub thread_is : (t k : ℕ) → HasStep paths t k → thread_at (threads_of paths) w (place_of paths w t k) ≡ Some t
   thread_is t k s =
       let n = number_of paths t k in
-      let d : Of Event = record { thread = t; it = s.0 } in
+      let d : Placed Event = record { thread = t; it = s.0 } in
       let within = has_number paths t k s in
       let e = get_or (all_events paths) n d in
       let both = and_parts (e.thread == t) (e.it.step == k) (is_step_at paths t k d within) in
-      thread_there (threads_of paths) w.positions n is.distinct long (omega (arith, within, length-map (all_events paths) (λ (e : Of Event). e.thread)))
-      ∙ ap (λ u. Some u) (get_or-map (λ (e : Of Event). e.thread) (all_events paths) n d 0 within ∙ eqb-true e.thread t both.0)
+      thread_there (threads_of paths) w.positions n is.distinct long (omega (arith, within, length-map (all_events paths) (λ (e : Placed Event). e.thread)))
+      ∙ ap (λ u. Some u) (get_or-map (λ (e : Placed Event). e.thread) (all_events paths) n d 0 within ∙ eqb-true e.thread t both.0)
 
   pub name_is : (t k : ℕ) (q : Walk) → HasStep paths t k → slice_get paths.threads t ≡ Some q → name_at paths w (place_of paths w t k) ≡ Some q.name
   name_is t k q s there =

@@ -20,7 +20,7 @@ use Rattle.plan_runs.specs.path_laws.history.Along.{IsThread}
 use Rattle.order_switches.specs.order_formula.Worlds.{World, IsWorld, position}
 use Rattle.order_switches.specs.Switches.{changes, end_at, thread_at, threads_in_order}
 use Rattle.order_switches.proofs.Threads.{event_there}
-use Rattle.plan_runs.specs.lawful_order.Events.{HasEvent, IsBefore, Of, all_events, place_of}
+use Rattle.plan_runs.specs.lawful_order.Events.{HasEvent, IsBefore, Placed, all_events, place_of}
 use Rattle.plan_runs.specs.lawful_order.Memory.{is_store}
 use Rattle.plan_runs.specs.world_plan.Sights.{AreInOrder}
 use Rattle.plan_runs.proofs.world_plan.Numbers.{event_numbered, from_mapped_at, number_is}
@@ -90,7 +90,7 @@ module _ {B : Type 0} (setting : Setting B) (moves : List Move) (again : Reprodu
 
     -- the event at a position, given the thread at that position
     record IsEventAt (p t : ℕ) : Type 0 where
-      event : Of Event
+      event : Placed Event
       walk : Walk
       there : slice_get ps.threads event.thread ≡ Some walk
       among : Contains walk.events event.it
@@ -101,7 +101,7 @@ module _ {B : Type 0} (setting : Setting B) (moves : List Move) (again : Reprodu
     event_at p t at =
         let i = event_there (threads_of ps) w.positions p t at in
         let here : slice_get (threads_of ps) i.event ≡ Some t = slice_get-get_or (threads_of ps) i.event 0 i.there ∙ ap (λ u. Some u) i.thread in
-        let e = from_mapped_at (λ (d : Of Event). d.thread) (all_events ps) i.event t here in
+        let e = from_mapped_at (λ (d : Placed Event). d.thread) (all_events ps) i.event t here in
         let q = event_numbered ps a.whole i.event e.0 e.1 in
         record {
           event = e.0;

@@ -3,7 +3,6 @@ use Rattle.std.proofs.Common.{◌≡◌, ◌∙◌, ℕ, ◌+◌, ◌<◌, ◌�
 use Rattle.std.proofs.Common.{Option, Some, None, refl, sym, ap, ap₂, subst, arith, append_assoc, append-nil}
 use Rattle.std.specs.Prelude.{◌==◌, unwrap_or, option_map, option_and_then, option_to_list}
 use Rattle.std.specs.List.{All, filter_map, cons_option}
-use Rattle.std.specs.Option.{option_map_or}
 use Rattle.std.proofs.lemmas.Bool.{and_parts, false≢true}
 use Rattle.std.proofs.lemmas.Bool.Decides.{Decides-eqb}
 use Rattle.std.proofs.lemmas.List.{length-map, map-append}
@@ -18,9 +17,10 @@ use Rattle.order_events.specs.path_walk.Events.{asks, kind_with, events_of}
 use Rattle.order_events.specs.path_walk.declared.event.Event.{Event}
 use Rattle.order_events.specs.path_walk.declared.event.EventKind.{EventKind}
 use Rattle.order_events.specs.path_walk.declared.event.EventKind.TheVariants as kind
-use Rattle.order_cells.specs.sym_exec.Thread.{Doing, after_instr, wanted_of, after_step, after_all}
+use Rattle.order_cells.specs.sym_exec.Thread.{Doing, after_instr, wanted_of, after_step, after_all, Route}
 use Rattle.order_cells.specs.sym_exec.declared.symbolic.Access.{Access}
 use Rattle.order_cells.specs.sym_exec.declared.symbolic.Cell.{Cell}
+use Rattle.order_cells.proofs.sym_exec.Sound.{stepped_by}
 use Rattle.order_cells.specs.lawful_order.Whole.{kind_of}
 
 -- an access event: its step and its kind
@@ -152,41 +152,40 @@ module _ (code : Code) (f : ℕ) where
   EndsAtSite [] = Unit {0}
   EndsAtSite (place ∷ places) = (length places ≡ 0 → is_site (step_at code f place).instr ≡ true) × EndsAtSite places
 
-  module _ (outcomes : List Bool) (fails : Option ℕ) where
-    step_finds : (d : Doing) (place : ℕ) (m : Marks) (i : Instr) → instr_at code f place ≡ Some i
-        → Finds d (after_step code f outcomes fails d place) (option_to_list (does m d.steps i)) × ((after_step code f outcomes fails d place).steps ≡ d.steps + 1)
-    step_finds d place m i at =
-        let e = after_instr (unwrap_or (line_at code f place) 0) (wanted_of outcomes fails d i) d i in
-        let one = instr_finds (unwrap_or (line_at code f place) 0) (wanted_of outcomes fails d i) d m i in
-        let next : Doing = record e { steps = d.steps + 1 } in
-        let is : after_step code f outcomes fails d place ≡ next = ap (λ o. option_map_or (λ i.
-        record (after_instr (unwrap_or (line_at code f place) 0) (wanted_of outcomes fails d i) d i) { steps = d.steps + 1 }) o d) at in (
-          subst (λ x. Finds d x (option_to_list (does m d.steps i))) (sym is)
-              (record { found = one.found; accesses = one.accesses; are = one.are; loads = one.loads; taken = one.taken }),
-          ap (λ (x : Doing). x.steps) is,
-        )
+module _ (r : Route) where
+  step_finds : (d : Doing) (place : ℕ) (m : Marks) (i : Instr) → instr_at r.code r.function place ≡ Some i
+      → Finds d (after_step r d place) (option_to_list (does m d.steps i)) × ((after_step r d place).steps ≡ d.steps + 1)
+  step_finds d place m i at =
+      let e = after_instr (unwrap_or (line_at r.code r.function place) 0) (wanted_of r.outcomes r.fails d i) d i in
+      let one = instr_finds (unwrap_or (line_at r.code r.function place) 0) (wanted_of r.outcomes r.fails d i) d m i in
+      let next : Doing = record e { steps = d.steps + 1 } in
+      let is : after_step r d place ≡ next = ap (stepped_by r d place) at in (
+        subst (λ x. Finds d x (option_to_list (does m d.steps i))) (sym is)
+            (record { found = one.found; accesses = one.accesses; are = one.are; loads = one.loads; taken = one.taken }),
+        ap (λ (x : Doing). x.steps) is,
+      )
 
-    -- all steps of a thread, whose last one fails or doesn't
-    pub along_finds : (places : List ℕ) (d : Doing) (m : Marks) (last : Bool) (step : ℕ) → d.steps ≡ step → AreThere places
-        → (last ≡ true → EndsAtSite places)
-        → Finds d (after_all code f outcomes fails d places) (cell_events (events_of code f (marked_from last step m (steps_at code f places))))
-    along_finds [] d m last step at there site = nothing_found d d refl refl
-    along_finds (place ∷ places) d m last step at there site =
-        let i = there.0.0 in
-        let is : (step_at code f place).instr ≡ i = ap (λ o. unwrap_or o Exit) there.0.1 in
-        let e = after_step code f outcomes fails d place in
-        let one = step_finds d place m i there.0.1 in
-        let stops = last && length (steps_at code f places) == 0 in
-        let at_site : stops ≡ true → is_site i ≡ true = λ h.
-        let h = and_parts last (length (steps_at code f places) == 0) h in
-        let none : length places ≡ 0 = sym (length-map places (step_at code f)) ∙ (Decides-eqb (length (steps_at code f places)) 0).0 h.1 in
-        ap is_site (sym is) ∙ (site h.0).0 none in
-        let rest = along_finds places e (marks_after_instr m (step_at code f place).instr) last (step + 1) (one.1 ∙ ap (λ n. n + 1) at) there.1 (λ h. (site h).1) in
-        let later = events_of code f (marked_from last (step + 1) (marks_after_instr m (step_at code f place).instr) (steps_at code f places)) in
-        let first : option_to_list (option_and_then (cell_event_at step) (kind_with m (step_at code f place).instr stops)) ≡ option_to_list (does m d.steps i) =
-        ap (λ j. option_to_list (option_and_then (cell_event_at step) (kind_with m j stops))) is ∙ ap option_to_list (does_with m step i stops at_site)
-        ∙ ap (λ n. option_to_list (does m n i)) (sym at) in
-        subst (Finds d (after_all code f outcomes fails e places))
-        (ap (λ xs. xs ++ cell_events later) (sym first)
-        ∙ sym (cell_events_cons step (unwrap_or (line_at code f place) 0) m.bars (kind_with m (step_at code f place).instr stops) later))
-        (finds_both d e (after_all code f outcomes fails e places) (option_to_list (does m d.steps i)) (cell_events later) one.0 rest)
+  -- all steps of a thread, whose last one fails or doesn't
+  pub along_finds : (places : List ℕ) (d : Doing) (m : Marks) (last : Bool) (step : ℕ) → d.steps ≡ step → AreThere r.code r.function places
+      → (last ≡ true → EndsAtSite r.code r.function places)
+      → Finds d (after_all r d places) (cell_events (events_of r.code r.function (marked_from last step m (steps_at r.code r.function places))))
+  along_finds [] d m last step at there site = nothing_found d d refl refl
+  along_finds (place ∷ places) d m last step at there site =
+      let i = there.0.0 in
+      let is : (step_at r.code r.function place).instr ≡ i = ap (λ o. unwrap_or o Exit) there.0.1 in
+      let e = after_step r d place in
+      let one = step_finds d place m i there.0.1 in
+      let stops = last && length (steps_at r.code r.function places) == 0 in
+      let at_site : stops ≡ true → is_site i ≡ true = λ h.
+      let h = and_parts last (length (steps_at r.code r.function places) == 0) h in
+      let none : length places ≡ 0 = sym (length-map places (step_at r.code r.function)) ∙ (Decides-eqb (length (steps_at r.code r.function places)) 0).0 h.1 in
+      ap is_site (sym is) ∙ (site h.0).0 none in
+      let rest = along_finds places e (marks_after_instr m (step_at r.code r.function place).instr) last (step + 1) (one.1 ∙ ap (λ n. n + 1) at) there.1 (λ h. (site h).1) in
+      let later = events_of r.code r.function (marked_from last (step + 1) (marks_after_instr m (step_at r.code r.function place).instr) (steps_at r.code r.function places)) in
+      let first : option_to_list (option_and_then (cell_event_at step) (kind_with m (step_at r.code r.function place).instr stops)) ≡ option_to_list (does m d.steps i) =
+      ap (λ j. option_to_list (option_and_then (cell_event_at step) (kind_with m j stops))) is ∙ ap option_to_list (does_with m step i stops at_site)
+      ∙ ap (λ n. option_to_list (does m n i)) (sym at) in
+      subst (Finds d (after_all r e places))
+      (ap (λ xs. xs ++ cell_events later) (sym first)
+      ∙ sym (cell_events_cons step (unwrap_or (line_at r.code r.function place) 0) m.bars (kind_with m (step_at r.code r.function place).instr stops) later))
+      (finds_both d e (after_all r e places) (option_to_list (does m d.steps i)) (cell_events later) one.0 rest)

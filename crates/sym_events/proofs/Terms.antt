@@ -4,7 +4,7 @@ use Rattle.std.proofs.Common.{Option, Some, None, refl, arith}
 use Rattle.std.specs.Prelude.{nat_lt, slice_get, unwrap_or}
 use Rattle.std.specs.Bool.{IsTrue}
 use Rattle.std.specs.List.{All, Contains}
-use Rattle.std.specs.Option.{IfSome, option_map_or}
+use Rattle.std.specs.Option.{IfSome}
 use Rattle.std.proofs.lemmas.Bool.{and_parts}
 use Rattle.std.proofs.lemmas.List.Elements.{All-nil, All-weaker, All-push, All-contains}
 use Rattle.order_cells.specs.int_ops.declared.arith.UnOp.TheVariants.{Neg}
@@ -19,14 +19,14 @@ use Rattle.order_events.specs.path_walk.Paths.{Walk, Paths}
 use Rattle.order_cells.specs.sym_terms.declared.node.Node.{Node}
 use Rattle.order_cells.specs.sym_terms.declared.node.Node.TheVariants.{Constant, Symbol, Unary, Binary}
 use Rattle.order_cells.specs.sym_exec.Making.{Made, Grows, term_of_node, last_index, range_test, replaced_term}
-use Rattle.order_cells.specs.sym_exec.Thread.{HandsOf, Doing, HasTerms, term_in, with_term, symbol_in, after_instr, wanted_of, after_step, after_all}
+use Rattle.order_cells.specs.sym_exec.Thread.{HandsOf, Doing, HasTerms, term_in, with_term, symbol_in, after_instr, wanted_of, after_step, after_all, Route, route_of}
 use Rattle.order_cells.specs.sym_exec.Executed.{Course, Executed, arguments_for, fails_at, thread_started, thread_done, with_thread, nothing, executed}
 use Rattle.order_cells.specs.sym_exec.declared.symbolic.Access.{Access}
 use Rattle.order_cells.specs.sym_exec.declared.symbolic.Test.{Test}
 use Rattle.order_cells.specs.sym_exec.helpers.Threads as helpers
 use Rattle.order_cells.specs.sym_exec.helpers.Threads.{names_within}
 use Rattle.order_cells.proofs.sym_exec.Grown.{grows_both, grows_made, made_within, stays_within, stay_of, expr_grows, expr_within}
-use Rattle.order_cells.proofs.sym_exec.Sound.{instr_goes, instr_named, step_goes, all_go, start_sound, start_has, arguments_sound, thread_sound}
+use Rattle.order_cells.proofs.sym_exec.Sound.{instr_goes, instr_named, step_goes, all_go, start_sound, start_has, arguments_sound, thread_sound, stepped_by}
 use Rattle.order_cells.proofs.Stay.{access_later}
 use Rattle.order_cells.specs.Terms.{CellIsOf, AccessIsOf, HaveTerms}
 use Rattle.order_events.proofs.Lists.{at_in}
@@ -134,34 +134,29 @@ instr_of_terms line wanted d i s named are =
     let g = instr_goes line wanted d i s named in
     all_later d.nodes (after_instr line wanted d i).nodes d.accesses d.tests g.grows are
 
+-- the accesses and tests of an execution name terms of its nodes
+abbrev IsOfTerms : Doing → Type 0
+IsOfTerms d = AreOfTerms d.nodes d.accesses d.tests
+
+module _ (r : Route) (lawful : IsLawful r.code) where
+  step_of_terms : (d : Doing) (place : ℕ) → ints_of r.code r.function ≤ length d.slots → HasTerms d → IsOfTerms d
+      → IsOfTerms (after_step r d place)
+  step_of_terms d place up s are = by (instr_at r.code r.function place) refl
+    where
+      by : (o : Option Instr) → instr_at r.code r.function place ≡ o → IsOfTerms (stepped_by r d place o)
+      by None at = are
+      by (Some i) at = instr_of_terms (unwrap_or (line_at r.code r.function place) 0) (wanted_of r.outcomes r.fails d i) d i s
+          (instr_named r.code r.function place (length d.slots) i lawful at up) are
+
+  all_of_terms : (places : List ℕ) (d : Doing) → ints_of r.code r.function ≤ length d.slots → HasTerms d → IsOfTerms d
+      → IsOfTerms (after_all r d places)
+  all_of_terms [] d up s are = are
+  all_of_terms (place ∷ places) d up s are =
+      let e = after_step r d place in
+      let g = (step_goes r d place lawful up s).goes in
+      all_of_terms places e (omega (arith, up, g.size)) g.sound (step_of_terms d place up s are)
+
 module _ (code : Code) (lawful : IsLawful code) where
-  module _ (f : ℕ) (outcomes : List Bool) (fails : Option ℕ) where
-    -- a step that does the instruction, if there is one
-    abbrev stepped : Doing → ℕ → Option Instr → Doing
-    stepped d place o = option_map_or (λ i.
-        record (after_instr (unwrap_or (line_at code f place) 0) (wanted_of outcomes fails d i) d i) { steps = d.steps + 1 }) o d
-
-    -- the accesses and tests of an execution name terms of its nodes
-    abbrev IsOfTerms : Doing → Type 0
-    IsOfTerms d = AreOfTerms d.nodes d.accesses d.tests
-
-    step_of_terms : (d : Doing) (place : ℕ) → ints_of code f ≤ length d.slots → HasTerms d → IsOfTerms d
-        → IsOfTerms (after_step code f outcomes fails d place)
-    step_of_terms d place up s are = by (instr_at code f place) refl
-      where
-        by : (o : Option Instr) → instr_at code f place ≡ o → IsOfTerms (stepped d place o)
-        by None at = are
-        by (Some i) at = instr_of_terms (unwrap_or (line_at code f place) 0) (wanted_of outcomes fails d i) d i s
-            (instr_named code f place (length d.slots) i lawful at up) are
-
-    all_of_terms : (places : List ℕ) (d : Doing) → ints_of code f ≤ length d.slots → HasTerms d → IsOfTerms d
-        → IsOfTerms (after_all code f outcomes fails d places)
-    all_of_terms [] d up s are = are
-    all_of_terms (place ∷ places) d up s are =
-        let e = after_step code f outcomes fails d place in
-        let g = (step_goes code f outcomes fails d place lawful up s).goes in
-        all_of_terms places e (omega (arith, up, g.size)) g.sound (step_of_terms d place up s are)
-
   abbrev CourseIsOf : List Node → Course → Type 0
   CourseIsOf nodes c = AreOfTerms nodes c.accesses c.tests
 
@@ -174,12 +169,12 @@ module _ (code : Code) (lawful : IsLawful code) where
     thread_of_terms : (x : Executed) (w : Walk) → AreOf x → AreOf (with_thread code paths x w)
     thread_of_terms x w are =
         let arguments = arguments_for x.symbolic.threads w.name in
-        let fails = fails_at paths (length x.symbolic.threads) w in
+        let route = route_of code w (fails_at paths (length x.symbolic.threads) w) in
         let d = thread_started code x w in
         let e = thread_done code paths x w in
         let s = start_sound (ints_of code w.function) arguments x.symbolic.loads x.nodes (arguments_sound x w.name are.handed) in
         let has = start_has (ints_of code w.function) arguments x.symbolic.loads x.nodes in
-        let g = all_go code w.function w.outcomes fails d w.places lawful has s in
+        let g = all_go route d w.places lawful has s in
         let none : Node = Constant (pos 0) in
         let up : Grows x.nodes e.nodes = grows_both x.nodes d.nodes e.nodes (grows_made x.nodes none) g.grows in
         record {
@@ -188,7 +183,7 @@ module _ (code : Code) (lawful : IsLawful code) where
               (record { name = w.name; tests = e.tests; accesses = e.accesses; creates = e.creates })
               (All-weaker (CourseIsOf x.nodes) (CourseIsOf e.nodes)
               (λ c of. all_later x.nodes e.nodes c.accesses c.tests up of) x.symbolic.threads are.courses)
-              (all_of_terms w.function w.outcomes fails w.places d has s (none_of_terms d.nodes));
+              (all_of_terms route lawful w.places d has s (none_of_terms d.nodes));
         }
 
     threads_of_terms : (ws : List Walk) (x : Executed) → AreOf x → AreOf (fold (with_thread code paths) x ws)

@@ -13,6 +13,7 @@ use Rattle.order_events.specs.path_walk.declared.event.Event.{Event}
 use Rattle.order_events.specs.path_walk.declared.event.EventKind.{EventKind}
 use Rattle.order_events.specs.path_walk.declared.event.EventKind.TheVariants as kind
 use Rattle.order_cells.specs.sym_terms.declared.node.Node.{Node}
+use Rattle.order_cells.specs.sym_exec.Thread.{route_of}
 use Rattle.order_cells.specs.sym_exec.Executed.{Course, Symbolic, Executed, fails_at, thread_started, thread_done, with_thread, nothing, executed}
 use Rattle.order_cells.specs.sym_exec.declared.symbolic.Access.{Access}
 use Rattle.order_cells.specs.lawful_order.Events.{HasEvent}
@@ -48,7 +49,7 @@ module _ (code : Code) (paths : Paths) where
   with_thread_found x ws w walked so =
       let d = thread_started code x w in
       let e = thread_done code paths x w in
-      let one = along_finds code w.function w.outcomes (fails_at paths (length x.symbolic.threads) w) w.places d (marks_at_start code w.function) walked.last 0 refl
+      let one = along_finds (route_of code w (fails_at paths (length x.symbolic.threads) w)) w.places d (marks_at_start code w.function) walked.last 0 refl
       walked.there walked.site in
       let c : Course = record { name = w.name; tests = e.tests; accesses = e.accesses; creates = e.creates } in
       let own : events_by c ≡ events_in w = ap (map event_by) one.accesses ∙ one.are ∙ ap cell_events (sym walked.events) in

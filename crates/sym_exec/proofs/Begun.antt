@@ -1,5 +1,5 @@
 -- An execution at the beginning of a thread, and in a run.
-use Rattle.std.proofs.Common.{◌≡◌, ◌∙◌, ℕ, zero, suc, ◌-◌, ℤ, pos, List, ◌∷◌, ◌++◌, map, length, replicate, Bool, Option, Some, refl, ap, ap₂, sym}
+use Rattle.std.proofs.Common.{◌≡◌, ◌∙◌, ℕ, zero, suc, ◌-◌, ℤ, pos, List, ◌∷◌, ◌++◌, map, length, replicate, Some, refl, ap, ap₂, sym}
 use Rattle.std.specs.FinMap as fin
 use Rattle.std.proofs.lemmas.List.{map-append, length-map}
 use Rattle.tc_base.specs.Names.{Name}
@@ -21,7 +21,7 @@ use Rattle.sym_terms.specs.declared.node.Node.TheVariants.{Constant}
 use Rattle.sym_exec.specs.Making.{Grows, term_of_node}
 use Rattle.sym_exec.specs.Thread.{AreOf, started}
 use Rattle.sym_exec.specs.Alone.{slots_by, StandsFor}
-use Rattle.sym_exec.specs.Runs.{begun, begun_with, Suits, ThreadTells}
+use Rattle.sym_exec.specs.Runs.{Inputs, Suits, ThreadTells, at_start, route, start}
 use Rattle.sym_exec.proofs.Grown.{grows_made}
 use Rattle.sym_exec.proofs.Sound.{start_sound, start_has}
 use Rattle.sym_exec.proofs.Values.{constant_value, values_stay}
@@ -48,14 +48,14 @@ start_slots ints terms first nodes loads arguments are of is =
     ∙ sym (map-append f terms (replicate (ints - length terms) zero.term))
 
 module _ {B : Type 0} (ops : BufferOps B) (code : Code) (passes : PassesInts ops) (lawful : IsLawful code) where
-  begun_stands : (n : Name) (moves : List Move) (b : Beginning ops code n moves) (outcomes : List Bool) (fails : Option ℕ) (loads : List ℤ)
-      (arguments : List ℕ) (first : ℕ) (nodes : List Node) (places : List ℕ) → Suits ops code n moves b outcomes fails loads arguments first nodes places
-      → StandsFor code b.function outcomes fails loads places (begun_with ops code n moves b arguments first nodes) (begun ops code n moves b)
-  begun_stands n moves b outcomes fails loads arguments first nodes places s = record {
-    terms = (constant_value nodes (pos 0) loads s.terms).terms;
-    sound = start_sound (ints_of code b.function) arguments first nodes s.of;
-    ints = start_has (ints_of code b.function) arguments first nodes;
-    slots = start_slots (ints_of code b.function) arguments first nodes loads b.arguments s.terms s.of s.values;
+  begun_stands : (n : Name) (moves : List Move) (b : Beginning ops code n moves) (x : Inputs)
+      → Suits code b.function x b.arguments (at_start ops code n moves b)
+      → StandsFor (route code b.function x) x.loads x.places (start code b.function x) (at_start ops code n moves b)
+  begun_stands n moves b x s = record {
+    terms = (constant_value x.nodes (pos 0) x.loads s.terms).terms;
+    sound = start_sound (ints_of code b.function) x.arguments x.first x.nodes s.of;
+    ints = start_has (ints_of code b.function) x.arguments x.first x.nodes;
+    slots = start_slots (ints_of code b.function) x.arguments x.first x.nodes x.loads b.arguments s.terms s.of s.values;
     along = s.along;
     takes = s.takes;
     slot_ints = ((values_are_ints ops code passes lawful b.state (record { moves = b.first; leads = b.leads })).threads n _ b.there).slots;
@@ -68,13 +68,12 @@ module _ {B : Type 0} (ops : BufferOps B) (code : Code) (passes : PassesInts ops
       let alone = threads_live_alone ops code moves s n t leads there in
       let b = alone.0 in (
         b,
-        λ outcomes fails loads arguments first nodes places count suits.
-            let d = begun_with ops code n moves b arguments first nodes in
-            let told = tells code b.function outcomes fails loads places d (begun ops code n moves b) lawful
-            (begun_stands n moves b outcomes fails loads arguments first nodes places suits) in
+        λ x count suits.
+            let told = tells (route code b.function x) x.loads x.places (start code b.function x) (at_start ops code n moves b) lawful
+            (begun_stands n moves b x suits) in
             record {
-              slots = ap (λ (u : Local). u.slots) alone.1
-                  ∙ ap (λ k. (after_steps code k (begun ops code n moves b)).local.slots) (sym count) ∙ told.slots;
+              slots_are = ap (λ (u : Local). u.slots) alone.1
+                  ∙ ap (λ k. (after_steps code k (at_start ops code n moves b)).local.slots) (sym count) ∙ told.slots;
               steps = told;
             },
       )

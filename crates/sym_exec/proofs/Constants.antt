@@ -1,16 +1,15 @@
 -- The numbers in the terms of lawful code's paths are ints.
 use Rattle.std.proofs.Common.{◌≡◌, ◌≤◌, ℕ, zero, suc, ◌^◌, ℤ, pos, List, [], ◌∷◌, ◌++◌, fold, length, ◌+◌, ◌-◌, Bool, true, false, cond, Option, Some, None}
 use Rattle.std.proofs.Common.{refl, subst, sym, arith}
-use Rattle.std.specs.Prelude.{nat_lt, unwrap_or, ◌-ℤ◌}
+use Rattle.std.specs.Prelude.{nat_lt, ◌-ℤ◌}
 use Rattle.std.specs.List.{All, list_any}
-use Rattle.std.specs.Option.{option_map_or}
 use Rattle.std.proofs.lemmas.Bool.{ltb-false}
 use Rattle.std.proofs.lemmas.List.Elements.{All-head, All-tail, All-push}
 use Rattle.int_ops.specs.Arith.{IsInt}
 use Rattle.int_ops.proofs.Ints.{truth_int}
 use Rattle.int_ops.specs.declared.arith.UnOp.TheVariants.{Neg}
 use Rattle.int_ops.specs.declared.arith.BinOp.TheVariants.{Xor, Eq, And, Le}
-use Rattle.tc_code.specs.Code.{Code, instr_at, line_at}
+use Rattle.tc_code.specs.Code.{Code, instr_at}
 use Rattle.tc_code.specs.Expr as expr
 use Rattle.tc_code.specs.Expr.{Expr, HasInts}
 use Rattle.tc_code.specs.Lawful.{IsLawful, exprs_of}
@@ -23,9 +22,10 @@ use Rattle.sym_terms.specs.Terms.{same_node, with_node}
 use Rattle.sym_terms.specs.declared.node.Node.{Node}
 use Rattle.sym_terms.specs.declared.node.Node.TheVariants.{Constant, Symbol, Unary, Binary}
 use Rattle.sym_exec.specs.Making.{Made, AllMade, term_of_node, expr_term, with_expr, range_test, last_index, replaced_term}
-use Rattle.sym_exec.specs.Thread.{Doing, term_in, with_term, after_instr, wanted_of, after_step, after_all}
+use Rattle.sym_exec.specs.Thread.{Doing, term_in, with_term, after_instr, Route, route_of, after_step, after_all}
 use Rattle.sym_exec.specs.Executed.{Executed, fails_at, thread_started, with_thread, nothing, executed}
 use Rattle.sym_exec.specs.Ints.{HasInt}
+use Rattle.sym_exec.proofs.Sound.{stepped_by}
 use Rattle.sym_exec.proofs.Tells.{one_less}
 
 abbrev HaveInts : List Node → Type 0
@@ -110,25 +110,23 @@ instr_ints line wanted d (Cas k c e new) are is =
     replaced_ints v.nodes v.term x.term y.term (with_int y.nodes (Symbol d.loads) (second_ints d e new are is) tt)
 instr_ints line wanted d _ are is = are
 
-module _ (code : Code) (lawful : IsLawful code) where
-  -- after the steps of a thread
-  steps_ints : (f : ℕ) (outcomes : List Bool) (fails : Option ℕ) (places : List ℕ) (d : Doing) → HaveInts d.nodes
-      → HaveInts (after_all code f outcomes fails d places).nodes
-  steps_ints f outcomes fails [] d are = are
-  steps_ints f outcomes fails (place ∷ places) d are =
-      steps_ints f outcomes fails places (after_step code f outcomes fails d place) (by (instr_at code f place) refl)
-    where
-      by : (o : Option Instr) → instr_at code f place ≡ o → HaveInts (option_map_or (λ i.
-          record (after_instr (unwrap_or (line_at code f place) 0) (wanted_of outcomes fails d i) d i) { steps = d.steps + 1 }) o d).nodes
-      by None at = are
-      by (Some i) at = let p = placed code f place i lawful at in instr_ints _ _ d i are (p.lawful.ints place i p.at)
+-- after the steps of a thread
+steps_ints : (r : Route) → IsLawful r.code → (places : List ℕ) (d : Doing) → HaveInts d.nodes → HaveInts (after_all r d places).nodes
+steps_ints r lawful [] d are = are
+steps_ints r lawful (place ∷ places) d are =
+    steps_ints r lawful places (after_step r d place) (by (instr_at r.code r.function place) refl)
+  where
+    by : (o : Option Instr) → instr_at r.code r.function place ≡ o → HaveInts (stepped_by r d place o).nodes
+    by None at = are
+    by (Some i) at = let p = placed r.code r.function place i lawful at in instr_ints _ _ d i are (p.lawful.ints place i p.at)
 
+module _ (code : Code) (lawful : IsLawful code) where
   -- the constants of all threads are ints
   threads_ints : (paths : Paths) (ws : List Walk) (x : Executed) → HaveInts x.nodes → HaveInts (fold (with_thread code paths) x ws).nodes
   threads_ints paths [] x are = are
   threads_ints paths (w ∷ ws) x are =
       threads_ints paths ws (with_thread code paths x w)
-      (steps_ints w.function w.outcomes (fails_at paths (length x.symbolic.threads) w) w.places (thread_started code x w)
+      (steps_ints (route_of code w (fails_at paths (length x.symbolic.threads) w)) lawful w.places (thread_started code x w)
       (with_int x.nodes (Constant (pos 0)) are (truth_int false)))
 
   pub executed_ints : (paths : Paths) (nodes : List Node) → HaveInts nodes → HaveInts (executed code paths nodes).nodes

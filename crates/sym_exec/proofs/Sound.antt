@@ -28,7 +28,7 @@ use Rattle.sym_exec.specs.declared.symbolic.Cell.{Cell}
 use Rattle.sym_exec.specs.declared.symbolic.Cell.TheVariants.{Fixed, Element}
 use Rattle.sym_exec.specs.Making.{Made, AllMade, Grows, term_of_node, expr_term, with_expr, expr_terms, range_test, last_index, replaced_term}
 use Rattle.sym_exec.specs.Thread.{Handed, Doing, term_in, with_term, with_slot, with_test, with_store, symbol_in, with_load, reading, with_exchange, with_compare_exchange}
-use Rattle.sym_exec.specs.Thread.{with_handed_terms, after_instr, wanted_of, after_step, started, after_all}
+use Rattle.sym_exec.specs.Thread.{with_handed_terms, after_instr, wanted_of, Route, route_of, after_done, after_step, started, after_all}
 use Rattle.sym_exec.specs.helpers.Threads.{HaveTerms, names_within}
 use Rattle.sym_exec.specs.Thread.{AreOf, HandsOf, HasTerms}
 use Rattle.sym_exec.specs.Executed.{Course, Executed, handed_by, handed_to, arguments_for, fails_at, thread_started, thread_done, with_thread}
@@ -283,30 +283,28 @@ does_on line wanted d i s named =
       branches = (instr_counted line wanted d i).branches;
     }
 
-step_by : (code : Code) (f : ℕ) (outcomes : List Bool) (fails : Option ℕ) (d : Doing) (place : ℕ) (o : Option Instr) → instr_at code f place ≡ o
-    → IsLawful code → ints_of code f ≤ length d.slots → HasTerms d → StepsOn d (after_step code f outcomes fails d place)
-step_by code f outcomes fails d place None at lawful up s =
-    subst (λ o. StepsOn d (option_map_or (λ i.
-    record (after_instr (unwrap_or (line_at code f place) 0) (wanted_of outcomes fails d i) d i) { steps = d.steps + 1 }) o d)) (sym at) (stays_on d s)
-step_by code f outcomes fails d place (Some i) at lawful up s =
-    subst (λ o. StepsOn d (option_map_or (λ i.
-    record (after_instr (unwrap_or (line_at code f place) 0) (wanted_of outcomes fails d i) d i) { steps = d.steps + 1 }) o d)) (sym at)
-    (does_on (unwrap_or (line_at code f place) 0) (wanted_of outcomes fails d i) d i s (instr_named code f place (length d.slots) i lawful at up))
+-- a step, with an instruction at its place or without one
+abbrev pub stepped_by : Route → Doing → ℕ → Option Instr → Doing
+stepped_by r d place o = option_map_or (after_done r d place) o d
+
+step_by : (r : Route) (d : Doing) (place : ℕ) (o : Option Instr) → instr_at r.code r.function place ≡ o
+    → IsLawful r.code → ints_of r.code r.function ≤ length d.slots → HasTerms d → StepsOn d (after_step r d place)
+step_by r d place None at lawful up s = subst (λ o. StepsOn d (stepped_by r d place o)) (sym at) (stays_on d s)
+step_by r d place (Some i) at lawful up s =
+    subst (λ o. StepsOn d (stepped_by r d place o)) (sym at)
+    (does_on (unwrap_or (line_at r.code r.function place) 0) (wanted_of r.outcomes r.fails d i) d i s (instr_named r.code r.function place (length d.slots) i lawful at up))
 
 -- each step extends the execution
-pub step_goes : (code : Code) (f : ℕ) (outcomes : List Bool) (fails : Option ℕ) (d : Doing) (place : ℕ)
-    → IsLawful code → ints_of code f ≤ length d.slots → HasTerms d → StepsOn d (after_step code f outcomes fails d place)
-step_goes code f outcomes fails d place = step_by code f outcomes fails d place (instr_at code f place) refl
+pub step_goes : (r : Route) (d : Doing) (place : ℕ) → IsLawful r.code → ints_of r.code r.function ≤ length d.slots → HasTerms d → StepsOn d (after_step r d place)
+step_goes r d place = step_by r d place (instr_at r.code r.function place) refl
 
 -- all steps extend the execution
-pub all_go : (code : Code) (f : ℕ) (outcomes : List Bool) (fails : Option ℕ) (d : Doing) (places : List ℕ)
-    → IsLawful code → ints_of code f ≤ length d.slots → HasTerms d → GoesOn d (after_all code f outcomes fails d places)
-all_go code f outcomes fails d [] lawful up s = (stays_on d s).goes
-all_go code f outcomes fails d (place ∷ places) lawful up s =
-    let e = after_step code f outcomes fails d place in
-    let g = (step_goes code f outcomes fails d place lawful up s).goes in
-    both_go d e (after_all code f outcomes fails e places) g
-    (all_go code f outcomes fails e places lawful (omega (arith, up, g.size)) g.sound)
+pub all_go : (r : Route) (d : Doing) (places : List ℕ) → IsLawful r.code → ints_of r.code r.function ≤ length d.slots → HasTerms d → GoesOn d (after_all r d places)
+all_go r d [] lawful up s = (stays_on d s).goes
+all_go r d (place ∷ places) lawful up s =
+    let e = after_step r d place in
+    let g = (step_goes r d place lawful up s).goes in
+    both_go d e (after_all r e places) g (all_go r e places lawful (omega (arith, up, g.size)) g.sound)
 
 -- a thread begins with terms of the nodes
 pub start_sound : (ints : ℕ) (arguments : List ℕ) (loads : ℕ) (nodes : List Node) → AreOf nodes arguments → HasTerms (started ints arguments loads nodes)
@@ -364,7 +362,7 @@ thread_sound code paths x w lawful are =
     let d = thread_started code x w in
     let e = thread_done code paths x w in
     let s = start_sound (ints_of code w.function) arguments x.symbolic.loads nodes (arguments_sound x w.name are) in
-    let g = all_go code w.function w.outcomes (fails_at paths (length threads) w) d w.places lawful
+    let g = all_go (route_of code w (fails_at paths (length threads) w)) d w.places lawful
     (start_has (ints_of code w.function) arguments x.symbolic.loads nodes) s in
     let none : Node = Constant (pos 0) in
     let up : Grows nodes e.nodes = grows_both nodes d.nodes e.nodes (grows_made nodes none) g.grows in

@@ -35,7 +35,7 @@ use Rattle.sym_terms.specs.Values.{value_of}
 use Rattle.sym_terms.specs.declared.node.Node.{Node}
 use Rattle.sym_terms.specs.declared.node.Node.TheVariants.{Symbol, Unary, Binary}
 use Rattle.sym_exec.specs.Making.{Made, AllMade, Grows, term_of_node, expr_term, with_expr, expr_terms, range_test, last_index, replaced_term}
-use Rattle.sym_exec.specs.Thread.{Handed, Doing, AreOf, HasTerms, term_in, with_term, with_test, symbol_in, after_instr, wanted_of, after_step, after_all}
+use Rattle.sym_exec.specs.Thread.{Handed, Doing, AreOf, HasTerms, term_in, with_term, with_test, symbol_in, after_instr, wanted_of, Route, after_step, after_all}
 use Rattle.sym_exec.specs.helpers.Threads.{names_within}
 use Rattle.sym_exec.specs.Alone.{slots_by, condition, outcomes_of, given_by, given_of, values_in, Asked, asked_by, asked_of}
 use Rattle.sym_exec.specs.Ints.{exchanged}
@@ -44,7 +44,7 @@ use Rattle.sym_exec.specs.declared.symbolic.Test.{Test}
 use Rattle.sym_exec.specs.declared.symbolic.Access.{Access}
 use Rattle.sym_exec.specs.declared.symbolic.Cell.TheVariants.{Fixed, Element}
 use Rattle.sym_exec.proofs.Grown.{grows_none, grows_both, grows_made, stays_within, stay_of, expr_grows}
-use Rattle.sym_exec.proofs.Sound.{instr_goes, instr_named, step_goes, all_go, replaced_grows, exprs_made}
+use Rattle.sym_exec.proofs.Sound.{instr_goes, instr_named, stepped_by, step_goes, all_go, replaced_grows, exprs_made}
 use Rattle.sym_exec.proofs.Values.{HasValue, value_stays, values_stay, symbol_value, unary_value, binary_value, expr_value, range_value}
 use Rattle.sym_exec.proofs.Values.{truth_nonzero}
 
@@ -74,9 +74,6 @@ after_site t i [] true h p q = record { slots = p ∙ sym q; values = rw h refl 
 after_site t i [] false h p q = record { slots = sym q; values = rw h refl }
 after_site t i (v ∷ vs) true h p q = record { slots = p ∙ sym q; values = rw h refl }
 after_site t i (v ∷ vs) false h p q = record { slots = sym q; values = rw h refl }
-
-branch_slots : (t : Local) (e : Expr) (to : ℕ) (v w : ℤ) → (local_after t (Branch e to) v).slots ≡ (local_after t (Branch e to) w).slots
-branch_slots t e to v w = refl
 
 pub after_is : (t : Local) (i : Instr) (vs : List ℤ) → After t i vs (after_request t i vs (request t i))
 after_is t (Inside len i) vs = after_site t (Inside len i) vs (is_within len (value_in t i)) refl refl refl
@@ -511,23 +508,18 @@ cons_is : {A : Type 0} (o : Option A) (xs : List A) → cons_option o [] ++ xs �
 cons_is None xs = refl
 cons_is (Some x) xs = refl
 
-module _ (code : Code) (f : ℕ) (outcomes : List Bool) (fails : Option ℕ) where
-  -- a step, with an instruction at its place or without one
-  abbrev stepped_by : Doing → ℕ → Option Instr → Doing
-  stepped_by d place o = option_map_or (λ i.
-      record (after_instr (unwrap_or (line_at code f place) 0) (wanted_of outcomes fails d i) d i) { steps = d.steps + 1 }) o d
-
-  loads_by : (d : Doing) (place : ℕ) (o : Option Instr) → d.loads ≤ (stepped_by d place o).loads
+module _ (r : Route) where
+  loads_by : (d : Doing) (place : ℕ) (o : Option Instr) → d.loads ≤ (stepped_by r d place o).loads
   loads_by d place None = omega arith
   loads_by d place (Some i) =
-      let e = loads_after (unwrap_or (line_at code f place) 0) (wanted_of outcomes fails d i) d i in
+      let e = loads_after (unwrap_or (line_at r.code r.function place) 0) (wanted_of r.outcomes r.fails d i) d i in
       omega (arith, e)
 
-  loads_grow : (places : List ℕ) (d : Doing) → d.loads ≤ (after_all code f outcomes fails d places).loads
+  loads_grow : (places : List ℕ) (d : Doing) → d.loads ≤ (after_all r d places).loads
   loads_grow [] d = omega arith
   loads_grow (place ∷ places) d =
-      let e = after_step code f outcomes fails d place in
-      omega (arith, loads_by d place (instr_at code f place), loads_grow places e)
+      let e = after_step r d place in
+      omega (arith, loads_by d place (instr_at r.code r.function place), loads_grow places e)
 
 -- an index test of lawful code has a length of at most the number of cells
 pub short_is : (code : Code) (f place : ℕ) (i : Instr) → IsLawful code → instr_at code f place ≡ Some i → IsShort i
@@ -545,44 +537,44 @@ more fn old new all here later is gives =
     ap (λ xs. map fn xs ++ later) is ∙ ap (λ xs. xs ++ later) (map-append fn old new ∙ ap (λ xs. map fn old ++ xs) gives)
     ∙ append_assoc (map fn old) here later
 
-module _ (code : Code) (f : ℕ) (outcomes : List Bool) (fails : Option ℕ) (loads : List ℤ) (lawful : IsLawful code) where
+module _ (r : Route) (loads : List ℤ) (lawful : IsLawful r.code) where
   abbrev after : Doing → List ℕ → Doing
-  after d places = after_all code f outcomes fails d places
+  after d places = after_all r d places
 
   abbrev next : Doing → ℕ → Doing
-  next d place = after_step code f outcomes fails d place
+  next d place = after_step r d place
 
   -- what a step determines
   record StepTold (place : ℕ) (places : List ℕ) (d : Doing) (a : Alone) : Type 0 where
-    stands : StandsFor code f outcomes fails loads places (next d place) (goes_on code a)
+    stands : StandsFor r loads places (next d place) (goes_on r.code a)
     test : List Test
     tests : (next d place).tests ≡ d.tests ++ test
     comes : (later : List Node) → Grows (next d place).nodes later
-        → map (outcome_by later loads) test ≡ cons_option (option_and_then (condition a.local) (instr_of code a.local)) []
+        → map (outcome_by later loads) test ≡ cons_option (option_and_then (condition a.local) (instr_of r.code a.local)) []
     hands : List Handed
     creates : (next d place).creates ≡ d.creates ++ hands
     given : (later : List Node) → Grows (next d place).nodes later
-        → map (values_in later loads) hands ≡ option_map_or (given_by a.local) (instr_of code a.local) []
+        → map (values_in later loads) hands ≡ option_map_or (given_by a.local) (instr_of r.code a.local) []
     found : List Access
     accesses : (next d place).accesses ≡ d.accesses ++ found
     asked : (later : List Node) → Grows (next d place).nodes later → map (asked_in later loads) found
-        ≡ option_map_or (λ i. asked_by (get_or a.values 0 (pos 0)) (request a.local i)) (instr_of code a.local) []
+        ≡ option_map_or (λ i. asked_by (get_or a.values 0 (pos 0)) (request a.local i)) (instr_of r.code a.local) []
 
   -- with no instruction at the place, nothing is done
-  no_step : (place : ℕ) (places : List ℕ) (d : Doing) (a : Alone) → StandsFor code f outcomes fails loads (place ∷ places) d a
-      → instr_at code f place ≡ None → StepTold place places d a
+  no_step : (place : ℕ) (places : List ℕ) (d : Doing) (a : Alone) → StandsFor r loads (place ∷ places) d a
+      → instr_at r.code r.function place ≡ None → StepTold place places d a
   no_step place places d a s at =
-      let stays : next d place ≡ d = ap (λ o. stepped_by code f outcomes fails d place o) at in
-      let none : instr_of code a.local ≡ None = s.along.0 ∙ at in
-      let waits : goes_on code a ≡ a = ap (λ o. option_map_or (λ i. after_request a.local i a.values (request a.local i)) o a) none in
+      let stays : next d place ≡ d = ap (λ o. stepped_by r d place o) at in
+      let none : instr_of r.code a.local ≡ None = s.along.0 ∙ at in
+      let waits : goes_on r.code a ≡ a = ap (λ o. option_map_or (λ i. after_request a.local i a.values (request a.local i)) o a) none in
       record {
         stands = record {
           terms = subst (λ x. AreTerms x.nodes) (sym stays) s.terms;
           sound = subst HasTerms (sym stays) s.sound;
-          ints = subst (λ x. ints_of code f ≤ length x.slots) (sym stays) s.ints;
+          ints = subst (λ x. ints_of r.code r.function ≤ length x.slots) (sym stays) s.ints;
           slots = ap (λ x. x.local.slots) waits ∙ s.slots ∙ sym (ap (slots_by loads) stays);
           along = s.along.1;
-          takes = takes_next false loads d.loads (next d place).loads (after (next d place) places).loads a.values (goes_on code a).values
+          takes = takes_next false loads d.loads (next d place).loads (after (next d place) places).loads a.values (goes_on r.code a).values
               (ap (λ x. x.loads) stays ∙ omega arith) (ap (λ x. x.values) waits) s.takes;
           slot_ints = subst (λ x. All IsInt x.local.slots) (sym waits) s.slot_ints;
           taken_ints = subst (λ x. All IsInt x.values) (sym waits) s.taken_ints;
@@ -599,33 +591,33 @@ module _ (code : Code) (f : ℕ) (outcomes : List Bool) (fails : Option ℕ) (lo
       }
 
   -- an instruction at the place is done
-  one_step : (place : ℕ) (places : List ℕ) (d : Doing) (a : Alone) (i : Instr) → StandsFor code f outcomes fails loads (place ∷ places) d a
-      → instr_at code f place ≡ Some i → StepTold place places d a
+  one_step : (place : ℕ) (places : List ℕ) (d : Doing) (a : Alone) (i : Instr) → StandsFor r loads (place ∷ places) d a
+      → instr_at r.code r.function place ≡ Some i → StepTold place places d a
   one_step place places d a i s at =
-      let line = unwrap_or (line_at code f place) 0 in
-      let wanted = wanted_of outcomes fails d i in
+      let line = unwrap_or (line_at r.code r.function place) 0 in
+      let wanted = wanted_of r.outcomes r.fails d i in
       let e = after_instr line wanted d i in
       let v = get_or a.values 0 (pos 0) in
-      let does : next d place ≡ record e { steps = d.steps + 1 } = ap (λ o. stepped_by code f outcomes fails d place o) at in
-      let some : instr_of code a.local ≡ Some i = s.along.0 ∙ at in
-      let goes : goes_on code a ≡ after_request a.local i a.values (request a.local i) =
+      let does : next d place ≡ record e { steps = d.steps + 1 } = ap (λ o. stepped_by r d place o) at in
+      let some : instr_of r.code a.local ≡ Some i = s.along.0 ∙ at in
+      let goes : goes_on r.code a ≡ after_request a.local i a.values (request a.local i) =
       ap (λ o. option_map_or (λ j. after_request a.local j a.values (request a.local j)) o a) some in
       let left = after_is a.local i a.values in
-      let on = step_goes code f outcomes fails d place lawful s.ints s.sound in
+      let on = step_goes r d place lawful s.ints s.sound in
       let counted : (next d place).loads ≡ d.loads + cond (is_load i) 1 0 = ap (λ x. x.loads) does ∙ loads_after line wanted d i in
-      let up = loads_grow code f outcomes fails places (next d place) in
+      let up = loads_grow r places (next d place) in
       let takes : is_load i ≡ true → get_or loads d.loads (pos 0) ≡ v = λ is.
       let one : ◌≡◌ {A = ℕ} (cond (is_load i) 1 0) 1 = ap (λ b. cond b 1 0) is in
       let zero : d.loads + 0 ≡ d.loads = omega arith in
       ap (λ n. get_or loads n (pos 0)) (sym zero) ∙ s.takes 0 (omega (arith, up, counted, one)) in
       let t = told loads line wanted d i a.local v s.terms s.sound
-      (instr_named code f place (length d.slots) i lawful at s.ints) (short_is code f place i lawful at)
+      (instr_named r.code r.function place (length d.slots) i lawful at s.ints) (short_is r.code r.function place i lawful at)
       s.slots takes in
-      let numbers = ints_next code a.local i lawful some in
+      let numbers = ints_next r.code a.local i lawful some in
       let int = there_int a.values 0 s.taken_ints in
-      let k = asks loads line wanted d i a.local v s.terms s.sound (instr_named code f place (length d.slots) i lawful at s.ints) s.slots takes int
+      let k = asks loads line wanted d i a.local v s.terms s.sound (instr_named r.code r.function place (length d.slots) i lawful at s.ints) s.slots takes int
       (asks_ints a.local s.slot_ints i numbers) in
-      let h = hands_over loads line wanted d i a.local s.terms s.sound (instr_named code f place (length d.slots) i lawful at s.ints) s.slots in
+      let h = hands_over loads line wanted d i a.local s.terms s.sound (instr_named r.code r.function place (length d.slots) i lawful at s.ints) s.slots in
       record {
         stands = record {
           terms = subst (λ x. AreTerms x.nodes) (sym does) t.terms;
@@ -633,7 +625,7 @@ module _ (code : Code) (f : ℕ) (outcomes : List Bool) (fails : Option ℕ) (lo
           ints = omega (arith, s.ints, on.goes.size);
           slots = ap (λ x. x.local.slots) goes ∙ left.slots ∙ t.slots ∙ sym (ap (slots_by loads) does);
           along = s.along.1;
-          takes = takes_next (is_load i) loads d.loads (next d place).loads (after (next d place) places).loads a.values (goes_on code a).values
+          takes = takes_next (is_load i) loads d.loads (next d place).loads (after (next d place) places).loads a.values (goes_on r.code a).values
               counted (ap (λ x. x.values) goes ∙ left.values) s.takes;
           slot_ints = subst (All IsInt) (sym (ap (λ x. x.local.slots) goes ∙ left.slots)) (after_int a.local s.slot_ints i v numbers int);
           taken_ints = subst (All IsInt) (sym (ap (λ x. x.values) goes ∙ left.values))
@@ -652,14 +644,14 @@ module _ (code : Code) (f : ℕ) (outcomes : List Bool) (fails : Option ℕ) (lo
             ∙ sym (ap (λ o. option_map_or (λ j. asked_by v (request a.local j)) o []) some);
       }
 
-  step_told : (place : ℕ) (places : List ℕ) (d : Doing) (a : Alone) → StandsFor code f outcomes fails loads (place ∷ places) d a → StepTold place places d a
-  step_told place places d a s = by (instr_at code f place) refl
+  step_told : (place : ℕ) (places : List ℕ) (d : Doing) (a : Alone) → StandsFor r loads (place ∷ places) d a → StepTold place places d a
+  step_told place places d a s = by (instr_at r.code r.function place) refl
     where
-      by : (o : Option Instr) → instr_at code f place ≡ o → StepTold place places d a
+      by : (o : Option Instr) → instr_at r.code r.function place ≡ o → StepTold place places d a
       by None at = no_step place places d a s at
       by (Some i) at = one_step place places d a i s at
 
-  all_told : (places : List ℕ) (d : Doing) (a : Alone) → StandsFor code f outcomes fails loads places d a → Tells code f outcomes fails loads places d a
+  all_told : (places : List ℕ) (d : Doing) (a : Alone) → StandsFor r loads places d a → Tells r loads places d a
   all_told [] d a s = record {
     slots = s.slots;
     tests = sym (append-nil (map (outcome_by d.nodes loads) d.tests));
@@ -669,12 +661,12 @@ module _ (code : Code) (f : ℕ) (outcomes : List Bool) (fails : Option ℕ) (lo
   all_told (place ∷ places) d a s =
       let t = step_told place places d a s in
       let e = next d place in
-      let rest = all_told places e (goes_on code a) t.stands in
+      let rest = all_told places e (goes_on r.code a) t.stands in
       let last = (after e places).nodes in
-      let g : Grows e.nodes last = (all_go code f outcomes fails e places lawful t.stands.ints t.stands.sound).grows in
+      let g : Grows e.nodes last = (all_go r e places lawful t.stands.ints t.stands.sound).grows in
       let come = outcome_by last loads in
-      let later = outcomes_of code (length places) (goes_on code a) in
-      let here = option_and_then (condition a.local) (instr_of code a.local) in
+      let later = outcomes_of r.code (length places) (goes_on r.code a) in
+      let here = option_and_then (condition a.local) (instr_of r.code a.local) in
       record {
         slots = rest.slots;
         tests = rest.tests
@@ -682,13 +674,13 @@ module _ (code : Code) (f : ℕ) (outcomes : List Bool) (fails : Option ℕ) (lo
             ∙ ap (λ xs. xs ++ later) (map-append come d.tests t.test ∙ ap (λ xs. map come d.tests ++ xs) (t.comes last g))
             ∙ append_assoc (map come d.tests) (cons_option here []) later
             ∙ ap (λ xs. map come d.tests ++ xs) (cons_is here later);
-        creates = rest.creates ∙ more (values_in last loads) d.creates t.hands e.creates (option_map_or (given_by a.local) (instr_of code a.local) [])
-            (given_of code (length places) (goes_on code a)) t.creates (t.given last g);
+        creates = rest.creates ∙ more (values_in last loads) d.creates t.hands e.creates (option_map_or (given_by a.local) (instr_of r.code a.local) [])
+            (given_of r.code (length places) (goes_on r.code a)) t.creates (t.given last g);
         accesses = rest.accesses ∙ more (asked_in last loads) d.accesses t.found e.accesses
-            (option_map_or (λ i. asked_by (get_or a.values 0 (pos 0)) (request a.local i)) (instr_of code a.local) [])
-            (asked_of code (length places) (goes_on code a)) t.accesses (t.asked last g);
+            (option_map_or (λ i. asked_by (get_or a.values 0 (pos 0)) (request a.local i)) (instr_of r.code a.local) [])
+            (asked_of r.code (length places) (goes_on r.code a)) t.accesses (t.asked last g);
       }
 
-pub tells : (code : Code) (f : ℕ) (outcomes : List Bool) (fails : Option ℕ) (loads : List ℤ) (places : List ℕ) (d : Doing) (a : Alone)
-    → IsLawful code → StandsFor code f outcomes fails loads places d a → Tells code f outcomes fails loads places d a
-tells code f outcomes fails loads places d a lawful s = all_told code f outcomes fails loads lawful places d a s
+pub tells : (r : Route) (loads : List ℤ) (places : List ℕ) (d : Doing) (a : Alone) → IsLawful r.code → StandsFor r loads places d a
+    → Tells r loads places d a
+tells r loads places d a lawful s = all_told r loads lawful places d a s

@@ -15,7 +15,7 @@ use Rattle.run_laws.specs.Alone.{Alone, goes_on, after_steps}
 use Rattle.sym_terms.specs.Terms.{AreTerms}
 use Rattle.sym_terms.specs.Values.{value_of}
 use Rattle.sym_terms.specs.declared.node.Node.{Node}
-use Rattle.sym_exec.specs.Thread.{Handed, Doing, HasTerms, after_all}
+use Rattle.sym_exec.specs.Thread.{Handed, Doing, HasTerms, Route, after_all}
 use Rattle.sym_exec.specs.declared.symbolic.Access.{Access}
 use Rattle.sym_exec.specs.declared.symbolic.Cell.{Cell}
 use Rattle.sym_exec.specs.declared.symbolic.Cell.TheVariants.{Fixed, Element}
@@ -105,34 +105,31 @@ TakesFrom loads first end values =
     (k : ℕ) → first + k < end
     → slice_index_or loads (first + k) (pos 0) ≡ slice_index_or values k (pos 0)
 
-module _ (code : Code) (f : ℕ) (outcomes : List Bool) (fails : Option ℕ) (loads : List ℤ) where
+module _ (r : Route) (loads : List ℤ) where
   -- a symbolic execution that agrees with a thread, which follows the places
   pub record StandsFor (places : List ℕ) (d : Doing) (a : Alone) : Type 0 where
     pub terms : AreTerms d.nodes
     pub sound : HasTerms d
-    pub ints : ints_of code f ≤ length d.slots
+    pub ints : ints_of r.code r.function ≤ length d.slots
     -- each slot has the value of its term
     pub slots : a.local.slots ≡ slots_by loads d
-    pub along : GoesAlong code f places a
+    pub along : GoesAlong r.code r.function places a
     -- the execution's loads take the values that the thread takes
-    pub takes : TakesFrom loads d.loads (after_all code f outcomes fails d places).loads a.values
+    pub takes : TakesFrom loads d.loads (after_all r d places).loads a.values
     -- the thread's slots, and the values that it takes, are ints
     pub slot_ints : All IsInt a.local.slots
     pub taken_ints : All IsInt a.values
 
   -- after the steps at the places, slots, tests, creates and accesses agree with their terms
   pub record Tells (places : List ℕ) (d : Doing) (a : Alone) : Type 0 where
-    pub slots : (after_steps code (length places) a).local.slots ≡ slots_by loads
-        (after_all code f outcomes fails d places)
-    pub tests : map (outcome_by (after_all code f outcomes fails d places).nodes loads)
-        (after_all code f outcomes fails d places).tests
-        ≡ map (outcome_by (after_all code f outcomes fails d places).nodes loads) d.tests
-        ++ outcomes_of code (length places) a
-    pub creates : map (values_in (after_all code f outcomes fails d places).nodes loads)
-        (after_all code f outcomes fails d places).creates
-        ≡ map (values_in (after_all code f outcomes fails d places).nodes loads) d.creates
-        ++ given_of code (length places) a
-    pub accesses : map (asked_in (after_all code f outcomes fails d places).nodes loads)
-        (after_all code f outcomes fails d places).accesses
-        ≡ map (asked_in (after_all code f outcomes fails d places).nodes loads) d.accesses
-        ++ asked_of code (length places) a
+    pub slots : (after_steps r.code (length places) a).local.slots
+        ≡ slots_by loads (after_all r d places)
+    pub tests : map (outcome_by (after_all r d places).nodes loads) (after_all r d places).tests
+        ≡ map (outcome_by (after_all r d places).nodes loads) d.tests
+        ++ outcomes_of r.code (length places) a
+    pub creates : map (values_in (after_all r d places).nodes loads) (after_all r d places).creates
+        ≡ map (values_in (after_all r d places).nodes loads) d.creates
+        ++ given_of r.code (length places) a
+    pub accesses : map (asked_in (after_all r d places).nodes loads) (after_all r d places).accesses
+        ≡ map (asked_in (after_all r d places).nodes loads) d.accesses
+        ++ asked_of r.code (length places) a

@@ -9,7 +9,7 @@ use Rattle.tc_code.specs.Code.{Code}
 use Rattle.tc_code.specs.Step.{ints_of}
 use Rattle.path_walk.specs.Paths.{Walk, Paths}
 use Rattle.sym_terms.specs.declared.node.Node.{Node}
-use Rattle.sym_exec.specs.Thread.{Handed, Doing, started, after_all}
+use Rattle.sym_exec.specs.Thread.{Handed, Doing, started, route_of, after_all}
 use Rattle.sym_exec.specs.declared.symbolic.Test.{Test}
 use Rattle.sym_exec.specs.declared.symbolic.Access.{Access}
 
@@ -64,7 +64,7 @@ thread_started code x w =
 -- a thread's execution along its whole path
 abbrev pub thread_done : Code → Paths → Executed → Walk → Doing
 thread_done code paths x w =
-    after_all code w.function w.outcomes (fails_at paths (length x.symbolic.threads) w)
+    after_all (route_of code w (fails_at paths (length x.symbolic.threads) w))
     (thread_started code x w) w.places
 
 -- appends a thread's execution

@@ -7,6 +7,7 @@ use Rattle.tc_code.specs.Code.{Code, instr_at, line_at}
 use Rattle.tc_code.specs.Expr.{Expr}
 use Rattle.tc_code.specs.declared.instr.Instr.{Instr}
 use Rattle.tc_code.specs.declared.instr.Instr.TheVariants.{Set, Load, LoadAt, Store, StoreAt, Inside, Branch, Create, Assert, Nonzero, InRange, Swap, Cas}
+use Rattle.path_walk.specs.Paths.{Walk}
 use Rattle.sym_terms.specs.declared.node.Node.{Node}
 use Rattle.sym_terms.specs.declared.node.Node.TheVariants.{Constant, Symbol}
 use Rattle.sym_exec.specs.Making.{Made, term_of_node, expr_term, expr_terms, range_test, last_index, replaced_term}
@@ -158,12 +159,28 @@ wanted_of outcomes fails d (Branch e to) = slice_index_or outcomes d.branches tr
 wanted_of outcomes None d i = true
 wanted_of outcomes (Some k) d i = not (d.steps == k)
 
--- the execution after the instruction at a place of a function, if there is one
-abbrev pub after_step : Code → ℕ → List Bool → Option ℕ → Doing → ℕ → Doing
-after_step code f outcomes fails d place = option_map_or (λ i.
-    record (after_instr (unwrap_or (line_at code f place) 0) (wanted_of outcomes fails d i) d i)
-    { steps = d.steps + 1 }) (instr_at code f place) d
+-- what a path fixes: its function, the outcomes of its branches, and the step in which it fails
+pub record Route : Type 0 where
+  pub code : Code
+  pub function : ℕ
+  pub outcomes : List Bool
+  pub fails : Option ℕ
 
--- the execution after the steps at these places; `fails` is the step in which the thread fails
-abbrev pub after_all : Code → ℕ → List Bool → Option ℕ → Doing → List ℕ → Doing
-after_all code f outcomes fails d places = fold (after_step code f outcomes fails) d places
+-- the route of a walk that fails in this step, if in any
+abbrev pub route_of : Code → Walk → Option ℕ → Route
+route_of code w fails =
+    record { code = code; function = w.function; outcomes = w.outcomes; fails = fails }
+
+-- the execution after the step that does this instruction, which is at a place
+abbrev pub after_done : Route → Doing → ℕ → Instr → Doing
+after_done r d place i =
+    record (after_instr (unwrap_or (line_at r.code r.function place) 0)
+    (wanted_of r.outcomes r.fails d i) d i) { steps = d.steps + 1 }
+
+-- the execution after the instruction at a place, if there is one
+abbrev pub after_step : Route → Doing → ℕ → Doing
+after_step r d place = option_map_or (after_done r d place) (instr_at r.code r.function place) d
+
+-- the execution after the steps at these places
+abbrev pub after_all : Route → Doing → List ℕ → Doing
+after_all r d places = fold (after_step r) d places

@@ -1,5 +1,5 @@
 //! Laws about symbolic execution. Each law is the contract of a function with an empty body.
-ghost use Rattle.std.specs.Prelude.{◌≡◌, ◌<◌, ℕ, ℤ, Bool, List, Option, Some, length};
+ghost use Rattle.std.specs.Prelude.{◌≡◌, ◌<◌, ℕ, ℤ, List, Some, length};
 ghost use Rattle.std.specs.FinMap as fin;
 ghost use Rattle.std.specs.List.{All};
 ghost use Rattle.int_ops.specs.Arith.{IsInt};
@@ -22,7 +22,7 @@ ghost use Rattle.sym_exec.specs.Executed.{executed};
 ghost use Rattle.sym_exec.specs.Ints.{AreInts, HasInt, exchanged};
 ghost use Rattle.sym_exec.specs.Making.{replaced_term};
 ghost use Rattle.sym_exec.specs.Runs.{ThreadTells};
-ghost use Rattle.sym_exec.specs.Thread.{Doing};
+ghost use Rattle.sym_exec.specs.Thread.{Doing, Route};
 
 /// If a thread follows the places of a path, each slot has the value of its term, given the values
 /// that its loads take. Each branch and each site over expressions has its term's outcome: the
@@ -30,8 +30,8 @@ ghost use Rattle.sym_exec.specs.Thread.{Doing};
 ///
 /// This holds for any part of a path, from any execution that agrees with the thread at its start.
 pub fn executions_tell()
-    ensures { (code : Code) (f : ℕ) (outcomes : List Bool) (fails : Option ℕ) (loads : List ℤ) (places : List ℕ) (d : Doing) (a : Alone)
-        → IsLawful code → StandsFor code f outcomes fails loads places d a → Tells code f outcomes fails loads places d a }
+    ensures { (r : Route) (loads : List ℤ) (places : List ℕ) (d : Doing) (a : Alone)
+        → IsLawful r.code → StandsFor r loads places d a → Tells r loads places d a }
 {}
 
 /// The same holds in every run, under every memory model. If a thread was created with arguments

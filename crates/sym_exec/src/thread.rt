@@ -5,7 +5,7 @@ ghost use Rattle.tc_code.specs.Expr.{names_slots};
 ghost use Rattle.tc_code.specs.Lawful.{IsLawful};
 ghost use Rattle.tc_code.specs.Step.{ints_of};
 ghost use Rattle.sym_terms.specs.declared.node.Node.{Node};
-ghost use Rattle.sym_exec.specs.helpers.Threads.{names_within, seen};
+ghost use Rattle.sym_exec.specs.helpers.Threads.{names_within, doing_of};
 ghost use Rattle.sym_exec.specs.Thread.{AreOf, HasTerms};
 ghost use Rattle.sym_exec.specs.Making.{Grows};
 ghost use Rattle.sym_exec.specs.Thread as spec;
@@ -40,15 +40,15 @@ impl Thread {
     /// Sets a slot to a term.
     fn set(&mut self, slot: u32, term: Id)
         requires { slot < length self.old.slots.items }
-        ensures { (nodes : List Node) → seen self.new nodes ≡ spec.with_slot (seen self.old nodes) slot (record { term = term; nodes = nodes }) }
+        ensures { (nodes : List Node) → doing_of self.new nodes ≡ spec.with_slot (doing_of self.old nodes) slot (record { term = term; nodes = nodes }) }
     {
         self.slots[slot as usize] = term;
     }
 
     /// Appends a test of a term.
     fn test(&mut self, line: u32, wanted: bool, term: Id) -> Result<(), AllocError>
-        ensures { (nodes : List Node) → OnOk result (seen self.new nodes
-            ≡ spec.with_test (seen self.old nodes) line wanted (record { term = term; nodes = nodes })) }
+        ensures { (nodes : List Node) → OnOk result (doing_of self.new nodes
+            ≡ spec.with_test (doing_of self.old nodes) line wanted (record { term = term; nodes = nodes })) }
     {
         let step = self.steps;
         self.tests.push(Test {
@@ -62,7 +62,7 @@ impl Thread {
 
     /// Appends a store of a term to a cell.
     fn store(&mut self, cell: Cell, term: Id) -> Result<(), AllocError>
-        ensures { (nodes : List Node) → OnOk result (seen self.new nodes ≡ spec.with_store (seen self.old nodes) cell (record { term = term; nodes = nodes })) }
+        ensures { (nodes : List Node) → OnOk result (doing_of self.new nodes ≡ spec.with_store (doing_of self.old nodes) cell (record { term = term; nodes = nodes })) }
     {
         let step = self.steps;
         self.accesses.push(Access {
@@ -83,7 +83,7 @@ impl Thread {
         writes: Option<Id>,
     ) -> Result<(), AllocError>
         requires { slot < length self.old.slots.items }
-        ensures { (nodes : List Node) → OnOk result (seen self.new nodes ≡ spec.with_load (seen self.old nodes) slot cell symbol writes) }
+        ensures { (nodes : List Node) → OnOk result (doing_of self.new nodes ≡ spec.with_load (doing_of self.old nodes) slot cell symbol writes) }
     {
         let step = self.steps;
         self.accesses.push(Access {
@@ -100,7 +100,7 @@ impl Thread {
     /// Loads a cell into a slot.
     fn read(&mut self, terms: &mut Terms, slot: u32, cell: Cell) -> Result<(), AllocError>
         requires { slot < length self.old.slots.items }
-        ensures read { OnOk result (seen self.new terms.new ≡ spec.reading (seen self.old terms.old) slot cell) }
+        ensures read { OnOk result (doing_of self.new terms.new ≡ spec.reading (doing_of self.old terms.old) slot cell) }
         ensures grown { Grows terms.old terms.new }
     {
         let symbol = symbol(terms, self.loads)?;
@@ -111,7 +111,7 @@ impl Thread {
     fn term(&self, terms: &mut Terms, e: &Expr) -> Result<Id, AllocError>
         requires slots { AreOf terms.old self.now.slots.items }
         requires names { IsTrue (names_slots (length self.now.slots.items) e.now) }
-        ensures term { IfOk result (λ term. record { term = term; nodes = terms.new } ≡ spec.term_in (seen self.now terms.old) e.now) }
+        ensures term { IfOk result (λ term. record { term = term; nodes = terms.new } ≡ spec.term_in (doing_of self.now terms.old) e.now) }
         ensures within { IfOk result (λ term. term < length terms.new) }
         ensures grown { Grows terms.old terms.new }
     {
@@ -128,8 +128,8 @@ impl Thread {
     ) -> Result<(), AllocError>
         requires slots { AreOf terms.old self.old.slots.items }
         requires names { IsTrue (names_slots (length self.old.slots.items) e.now) }
-        ensures tested { OnOk result (seen self.new terms.new
-            ≡ spec.with_test (seen self.old terms.old) line wanted (spec.term_in (seen self.old terms.old) e.now)) }
+        ensures tested { OnOk result (doing_of self.new terms.new
+            ≡ spec.with_test (doing_of self.old terms.old) line wanted (spec.term_in (doing_of self.old terms.old) e.now)) }
         ensures grown { Grows terms.old terms.new }
     {
         let term = self.term(terms, e)?;
@@ -147,8 +147,8 @@ impl Thread {
     ) -> Result<(), AllocError>
         requires slots { AreOf terms.old self.old.slots.items }
         requires names { IsTrue (names_slots (length self.old.slots.items) e.now) }
-        ensures tested { OnOk result (seen self.new terms.new
-            ≡ spec.with_test (seen self.old terms.old) line wanted (range_of (spec.term_in (seen self.old terms.old) e.now) last)) }
+        ensures tested { OnOk result (doing_of self.new terms.new
+            ≡ spec.with_test (doing_of self.old terms.old) line wanted (range_of (spec.term_in (doing_of self.old terms.old) e.now) last)) }
         ensures grown { Grows terms.old terms.new }
     {
         let term = self.term(terms, e)?;
@@ -161,8 +161,8 @@ impl Thread {
         requires slot { slot < length self.old.slots.items }
         requires slots { AreOf terms.old self.old.slots.items }
         requires names { IsTrue (names_slots (length self.old.slots.items) e.now) }
-        ensures set { OnOk result (seen self.new terms.new
-            ≡ spec.with_slot (seen self.old terms.old) slot (spec.term_in (seen self.old terms.old) e.now)) }
+        ensures set { OnOk result (doing_of self.new terms.new
+            ≡ spec.with_slot (doing_of self.old terms.old) slot (spec.term_in (doing_of self.old terms.old) e.now)) }
         ensures grown { Grows terms.old terms.new }
     {
         let term = self.term(terms, e)?;
@@ -174,8 +174,8 @@ impl Thread {
     fn store_value(&mut self, terms: &mut Terms, cell: Cell, e: &Expr) -> Result<(), AllocError>
         requires slots { AreOf terms.old self.old.slots.items }
         requires names { IsTrue (names_slots (length self.old.slots.items) e.now) }
-        ensures stored { OnOk result (seen self.new terms.new
-            ≡ spec.with_store (seen self.old terms.old) cell (spec.term_in (seen self.old terms.old) e.now)) }
+        ensures stored { OnOk result (doing_of self.new terms.new
+            ≡ spec.with_store (doing_of self.old terms.old) cell (spec.term_in (doing_of self.old terms.old) e.now)) }
         ensures grown { Grows terms.old terms.new }
     {
         let term = self.term(terms, e)?;
@@ -192,8 +192,8 @@ impl Thread {
     ) -> Result<Cell, AllocError>
         requires slots { AreOf terms.old self.now.slots.items }
         requires names { IsTrue (names_slots (length self.now.slots.items) index.now) }
-        ensures cell { IfOk result (λ cell. cell ≡ Element first len (spec.term_in (seen self.now terms.old) index.now).term) }
-        ensures nodes { OnOk result (terms.new ≡ (spec.term_in (seen self.now terms.old) index.now).nodes) }
+        ensures cell { IfOk result (λ cell. cell ≡ Element first len (spec.term_in (doing_of self.now terms.old) index.now).term) }
+        ensures nodes { OnOk result (terms.new ≡ (spec.term_in (doing_of self.now terms.old) index.now).nodes) }
         ensures grown { Grows terms.old terms.new }
     {
         let index = self.term(terms, index)?;
@@ -209,8 +209,8 @@ impl Thread {
         requires slot { slot < length self.old.slots.items }
         requires slots { AreOf terms.old self.old.slots.items }
         requires names { IsTrue (names_slots (length self.old.slots.items) e.now) }
-        ensures swapped { OnOk result (seen self.new terms.new
-            ≡ spec.with_exchange (seen self.old terms.old) slot cell (spec.term_in (seen self.old terms.old) e.now)) }
+        ensures swapped { OnOk result (doing_of self.new terms.new
+            ≡ spec.with_exchange (doing_of self.old terms.old) slot cell (spec.term_in (doing_of self.old terms.old) e.now)) }
         ensures grown { Grows terms.old terms.new }
     {
         let term = self.term(terms, e)?;
@@ -231,8 +231,8 @@ impl Thread {
         requires slots { AreOf terms.old self.old.slots.items }
         requires expected { IsTrue (names_slots (length self.old.slots.items) expected.now) }
         requires new { IsTrue (names_slots (length self.old.slots.items) new.now) }
-        ensures replaced { OnOk result (seen self.new terms.new
-            ≡ spec.with_compare_exchange (seen self.old terms.old) slot cell expected.now new.now) }
+        ensures replaced { OnOk result (doing_of self.new terms.new
+            ≡ spec.with_compare_exchange (doing_of self.old terms.old) slot cell expected.now new.now) }
         ensures grown { Grows terms.old terms.new }
     {
         let expected = self.term(terms, expected)?;
@@ -246,7 +246,7 @@ impl Thread {
     fn hand(&mut self, alloc: Global, terms: &mut Terms, es: &Exprs) -> Result<(), AllocError>
         requires slots { AreOf terms.old self.old.slots.items }
         requires names { IsTrue (list_all (names_slots (length self.old.slots.items)) es.now) }
-        ensures handed { OnOk result (seen self.new terms.new ≡ spec.with_handed_terms (seen self.old terms.old) es.now) }
+        ensures handed { OnOk result (doing_of self.new terms.new ≡ spec.with_handed_terms (doing_of self.old terms.old) es.now) }
         ensures grown { Grows terms.old terms.new }
     {
         let step = self.steps;
@@ -271,7 +271,7 @@ impl Thread {
         requires slots { AreOf terms.old self.old.slots.items }
         requires names { IsTrue (names_within (length self.old.slots.items) instr.now) }
         requires room { self.old.branches + 1 < 2 ^ 64 }
-        ensures done { OnOk result (seen self.new terms.new ≡ spec.after_instr line wanted (seen self.old terms.old) instr.now) }
+        ensures done { OnOk result (doing_of self.new terms.new ≡ spec.after_instr line wanted (doing_of self.old terms.old) instr.now) }
         ensures grown { Grows terms.old terms.new }
     {
         match instr {
@@ -323,7 +323,7 @@ impl Thread {
     /// The wanted outcome of an instruction's test: a branch's as the path has it; a site passes
     /// unless the thread fails in this step.
     fn wanted(&self, outcomes: &[bool], fails: Option<usize>, instr: &Instr) -> bool
-        ensures { (nodes : List Node) → result ≡ spec.wanted_of outcomes.now fails (seen self.now nodes) instr.now }
+        ensures { (nodes : List Node) → result ≡ spec.wanted_of outcomes.now fails (doing_of self.now nodes) instr.now }
     {
         match instr {
             Instr::Branch { .. } => outcomes.get(self.branches).copied().unwrap_or(true),
@@ -341,13 +341,13 @@ impl Thread {
         fails: Option<usize>,
         place: usize,
     ) -> Result<(), AllocError>
-        requires sound { HasTerms (seen self.old terms.old) }
+        requires sound { HasTerms (doing_of self.old terms.old) }
         requires ints { ints_of code.now walk.now.function ≤ length self.old.slots.items }
         requires steps { self.old.steps + 1 < 2 ^ 64 }
         requires branches { self.old.branches + 1 < 2 ^ 64 }
-        ensures done { OnOk result (seen self.new terms.new
-            ≡ spec.after_step code.now walk.now.function walk.now.outcomes fails (seen self.old terms.old) place) }
-        ensures sound { OnOk result (HasTerms (seen self.new terms.new)) }
+        ensures done { OnOk result (doing_of self.new terms.new
+            ≡ spec.after_step (spec.route_of code.now walk.now fails) (doing_of self.old terms.old) place) }
+        ensures sound { OnOk result (HasTerms (doing_of self.new terms.new)) }
         ensures ints { OnOk result (length self.new.slots.items ≡ length self.old.slots.items) }
         ensures steps { OnOk result (self.new.steps ≤ self.old.steps + 1) }
         ensures branches { OnOk result (self.new.branches ≤ self.old.branches + 1) }
@@ -356,7 +356,9 @@ impl Thread {
         let Some(instr) = code.instr(walk.function(), place) else {
             return Ok(());
         };
-        let line = code.line(walk.function(), place).unwrap_or(0);
+        let Some(line) = code.line(walk.function(), place) else {
+            unreachable!()
+        };
         let wanted = self.wanted(walk.outcomes(), fails, instr);
         self.follow(alloc, terms, line, wanted, instr)?;
         self.steps += 1;
@@ -372,12 +374,12 @@ impl Thread {
         walk: &Walk,
         fails: Option<usize>,
     ) -> Result<(), AllocError>
-        requires sound { HasTerms (seen self.old terms.old) }
+        requires sound { HasTerms (doing_of self.old terms.old) }
         requires ints { ints_of code.now walk.now.function ≤ length self.old.slots.items }
         requires steps { self.old.steps ≡ 0 }
         requires branches { self.old.branches ≡ 0 }
-        ensures done { OnOk result (seen self.new terms.new
-            ≡ spec.after_all code.now walk.now.function walk.now.outcomes fails (seen self.old terms.old) walk.now.places) }
+        ensures done { OnOk result (doing_of self.new terms.new
+            ≡ spec.after_all (spec.route_of code.now walk.now fails) (doing_of self.old terms.old) walk.now.places) }
         ensures grown { Grows terms.old terms.new }
     {
         for place in walk.places() {
@@ -394,7 +396,7 @@ impl Thread {
         arguments: &[Id],
         loads: u32,
     ) -> Result<Thread, AllocError>
-        ensures started { IfOk result (λ thread. seen thread terms.new ≡ spec.started ints arguments.now loads terms.old) }
+        ensures started { IfOk result (λ thread. doing_of thread terms.new ≡ spec.started ints arguments.now loads terms.old) }
         ensures grown { Grows terms.old terms.new }
     {
         let zero = constant(terms, 0)?;

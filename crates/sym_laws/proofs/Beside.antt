@@ -10,7 +10,7 @@ use Rattle.sym_exec.specs.tc_base.States.{Local}
 use Rattle.sym_exec.specs.tc_base.declared.request.Request.{Request}
 use Rattle.sym_exec.specs.tc_base.declared.request.Request.TheVariants.{Fail}
 use Rattle.sym_exec.specs.int_ops.Arith.{IsInt}
-use Rattle.sym_exec.specs.tc_code.Code.{Code, instr_at}
+use Rattle.sym_exec.specs.tc_code.Code.{instr_at}
 use Rattle.sym_exec.specs.tc_code.declared.instr.Instr.{Instr}
 use Rattle.sym_exec.specs.tc_code.declared.instr.Instr.TheVariants.{Inside, Branch, Create, Holds, Ready, Assert, Nonzero, InRange}
 use Rattle.sym_exec.specs.tc_code.Lawful.{IsLawful}
@@ -24,7 +24,7 @@ use Rattle.path_laws.proofs.Local.{children_move}
 use Rattle.path_laws.proofs.States.{fail_is_site}
 use Rattle.sym_exec.specs.sym_terms.declared.node.Node.{Node}
 use Rattle.sym_exec.specs.Making.{Grows}
-use Rattle.sym_exec.specs.Thread.{Handed, Doing, after_instr, wanted_of}
+use Rattle.sym_exec.specs.Thread.{Handed, Doing, after_instr, wanted_of, Route}
 use Rattle.sym_exec.specs.Alone.{slots_by, condition, given_by, values_in, asked_by, asked_in, outcome_by}
 use Rattle.sym_exec.specs.declared.symbolic.Access.{Access}
 use Rattle.sym_exec.specs.declared.symbolic.Test.{Test}
@@ -131,7 +131,7 @@ given_long : (t : Local) (i : Instr) → length (given_by t i) ≡ length (cons_
 given_long t (Create h f es) = refl
 given_long t i = refl
 
-module _ (code : Code) (f : ℕ) (outcomes : List Bool) (fails : Option ℕ) (loads : List ℤ) where
+module _ (r : Route) (loads : List ℤ) where
   -- the effect of a thread's step on its execution
   pub record IsDone (d e : Doing) (t u : Local) (i : Instr) (v : ℤ) : Type 0 where
     pub slots : u.slots ≡ slots_by loads e
@@ -156,13 +156,13 @@ module _ (code : Code) (f : ℕ) (outcomes : List Bool) (fails : Option ℕ) (lo
     pub step : access.step ≡ d.steps
     pub takes : access.takes ≡ Some d.loads
 
-  module _ (lawful : IsLawful code) (d : Doing) (t : Local) (i : Instr) (place : ℕ) (fine : IsFine code f d)
-      (at : instr_at code f place ≡ Some i) where
+  module _ (lawful : IsLawful r.code) (d : Doing) (t : Local) (i : Instr) (place : ℕ) (fine : IsFine r.code r.function d)
+      (at : instr_at r.code r.function place ≡ Some i) where
     abbrev e : Doing
-    e = next code f outcomes fails d place
+    e = next r d place
 
-    abbrev step_adds : Adds i (wanted_of outcomes fails d i) d (uncounted code f outcomes fails d place i)
-    step_adds = adds (line_of code f outcomes fails place) (wanted_of outcomes fails d i) d i
+    abbrev step_adds : Adds i (wanted_of r.outcomes r.fails d i) d (uncounted r d place i)
+    step_adds = adds (line_of r place) (wanted_of r.outcomes r.fails d i) d i
 
     pub loads_by : is_load i ≡ true → Loads d e
     loads_by is =
@@ -171,7 +171,7 @@ module _ (code : Code) (f : ℕ) (outcomes : List Bool) (fails : Option ℕ) (lo
         let g = giver (λ (x : Access). x.takes) a.found d.loads one in
         record {
           access = g.0;
-          within = subst (IsOneOf g.0) (sym (ap (λ (x : Doing). x.accesses) (next_is code f outcomes fails d place i at) ∙ a.accesses))
+          within = subst (IsOneOf g.0) (sym (ap (λ (x : Doing). x.accesses) (next_is r d place i at) ∙ a.accesses))
               (in_back g.0 d.accesses a.found g.1);
           step = each_is (λ (x : Access). x.step ≡ d.steps) g.0 a.found a.accessed g.1;
           takes = g.2;
@@ -180,16 +180,16 @@ module _ (code : Code) (f : ℕ) (outcomes : List Bool) (fails : Option ℕ) (lo
     -- the step, if the thread uses these outcomes and fails where it should
     module _ (v : ℤ) (ahead : List Bool) (slots : t.slots ≡ slots_by loads d) (branches : d.branches ≡ length t.outcomes)
         (children : length d.creates ≡ t.children) (takes : is_load i ≡ true → get_or loads d.loads (pos 0) ≡ v)
-        (goes : outcomes ≡ (thread_after t i (request t i) v).outcomes ++ ahead) (passes : not (is_fail (request t i)) ≡ site_wanted fails d.steps)
+        (goes : r.outcomes ≡ (thread_after t i (request t i) v).outcomes ++ ahead) (passes : not (is_fail (request t i)) ≡ site_wanted r.fails d.steps)
         (took : IsInt v) (asked : AsksInts (request t i)) where
       pub is_done : IsDone d e t (thread_after t i (request t i) v) i v
       is_done =
-          let line = line_of code f outcomes fails place in
-          let wanted = wanted_of outcomes fails d i in
-          let x = uncounted code f outcomes fails d place i in
-          let is = next_is code f outcomes fails d place i at in
-          let named = instr_named code f place (length d.slots) i lawful at fine.ints in
-          let k = told loads line wanted d i t v fine.terms fine.sound named (short_is code f place i lawful at) slots takes in
+          let line = line_of r place in
+          let wanted = wanted_of r.outcomes r.fails d i in
+          let x = uncounted r d place i in
+          let is = next_is r d place i at in
+          let named = instr_named r.code r.function place (length d.slots) i lawful at fine.ints in
+          let k = told loads line wanted d i t v fine.terms fine.sound named (short_is r.code r.function place i lawful at) slots takes in
           let a = step_adds in
           let q = asks loads line wanted d i t v fine.terms fine.sound named slots takes took asked in
           let h = hands_over loads line wanted d i t fine.terms fine.sound named slots in
@@ -211,7 +211,7 @@ module _ (code : Code) (f : ℕ) (outcomes : List Bool) (fails : Option ℕ) (lo
             tests = ap (λ (y : Doing). y.tests) is ∙ a.tests;
             comes = λ later g. as_wanted (outcome_by later loads) wanted d.steps (condition t i) a.test
                 (ap (map (outcome_by later loads)) (sym same_test) ∙ k.comes later (up later g))
-                (λ b c. comes_as_wanted t outcomes fails d v ahead branches i b goes passes c) a.tested;
+                (λ b c. comes_as_wanted t r.outcomes r.fails d v ahead branches i b goes passes c) a.tested;
             found = a.found;
             accesses = ap (λ (y : Doing). y.accesses) is ∙ a.accesses;
             accessed = a.accessed;

@@ -28,7 +28,7 @@ use Rattle.sym_exec.specs.sym_terms.Terms.{AreTerms}
 use Rattle.sym_exec.specs.sym_terms.Values.{value_of}
 use Rattle.sym_exec.specs.sym_terms.declared.node.Node.{Node}
 use Rattle.sym_exec.specs.Making.{Grows}
-use Rattle.sym_exec.specs.Thread.{Handed, Doing, started}
+use Rattle.sym_exec.specs.Thread.{Handed, Doing, started, Route, route_of}
 use Rattle.sym_exec.specs.Executed.{Course, Executed, handed_by, arguments_for, fails_at, thread_done}
 use Rattle.sym_exec.specs.Alone.{slots_by, given_by, values_in}
 use Rattle.sym_exec.proofs.Begun.{start_slots}
@@ -42,7 +42,7 @@ use Rattle.sym_laws.proofs.Names.{parent_before, others_before}
 use Rattle.sym_laws.proofs.Steps.{Begins, next}
 use Rattle.sym_laws.proofs.Beside.{IsDone}
 use Rattle.sym_laws.proofs.Executed.{IsFoundAt, found_at_place, course_of, whole as found_from}
-use Rattle.sym_laws.proofs.Follows.{Follows, GoesOnPath, FoundAt, found_at_log, walks, walk_at, asked_more, others_asked, begins_at, done, next_is}
+use Rattle.sym_laws.proofs.Follows.{Follows, GoesOnPath, found_at_log, walks, walk_at, asked_more, others_asked, begins_at, done, next_is}
 
 -- a create hands over its arguments
 gives_arguments : (t : Local) (i : Instr) (f : ℕ) → request t i ≡ Start f → given_by t i ≡ arguments_of t i ∷ []
@@ -85,9 +85,6 @@ module _ (code : Code) (log : Log) (nodes : List Node) (lawful : IsLawful code) 
         accesses = refl;
         before = tt;
       }
-
-  abbrev at_log : ℕ → ThreadPath → Type 0
-  at_log j p = FoundAt code log nodes lawful is terms j p
 
   abbrev found_of : (ws : List Walk) → Executed
   found_of ws = found_from code lawful (paths_of code log) nodes terms ws
@@ -156,13 +153,13 @@ module _ (code : Code) (log : Log) (nodes : List Node) (lawful : IsLawful code) 
       abbrev d : Doing
       d = upto t.steps
 
-      abbrev fails : Option ℕ
-      fails = fails_at (paths_of code log) j (walk_of code log p)
+      abbrev route : Route
+      route = route_of code (walk_of code log p) (fails_at (paths_of code log) j (walk_of code log p))
 
       abbrev e : Doing
-      e = next code (walk_of code log p).function (walk_of code log p).outcomes fails d t.instruction
+      e = next route d t.instruction
 
-      abbrev step : IsDone code (walk_of code log p).function (walk_of code log p).outcomes fails loads d e t u i v
+      abbrev step : IsDone route loads d e t u i v
       step = done code log nodes lawful is terms j p there loads h t i v o goes follows agrees
 
       abbrev begins : Begins (upto u.steps) whole

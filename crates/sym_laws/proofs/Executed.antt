@@ -13,7 +13,7 @@ use Rattle.sym_exec.specs.sym_terms.Terms.{AreTerms}
 use Rattle.sym_exec.specs.sym_terms.declared.node.Node.{Node}
 use Rattle.sym_exec.specs.sym_terms.declared.node.Node.TheVariants.{Constant}
 use Rattle.sym_exec.specs.Making.{Grows}
-use Rattle.sym_exec.specs.Thread.{Doing, HandsOf}
+use Rattle.sym_exec.specs.Thread.{Doing, HandsOf, route_of}
 use Rattle.sym_exec.specs.Executed.{Course, Executed, arguments_for, fails_at, thread_started, thread_done, with_thread, nothing}
 use Rattle.sym_exec.specs.helpers.Threads.{HaveTerms}
 use Rattle.sym_exec.proofs.Grown.{grows_none, grows_both, grows_made}
@@ -61,7 +61,7 @@ module _ (code : Code) (lawful : IsLawful code) (paths : Paths) where
   done_next : (x : Executed) (w : Walk) → IsWell x
       → IsNext code w.function (thread_started code x w) (thread_done code paths x w)
   done_next x w well =
-      all_on code w.function w.outcomes (fails_there x w) lawful w.places (thread_started code x w) (start_fine x w well)
+      all_on (route_of code w (fails_there x w)) lawful w.places (thread_started code x w) (start_fine x w well)
 
   pub one_on : (x : Executed) (w : Walk) → IsWell x → GoesOn x (with_thread code paths x w) 1
   one_on x w well =

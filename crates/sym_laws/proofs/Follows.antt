@@ -30,7 +30,7 @@ use Rattle.sym_exec.specs.path_walk.Paths.{Walk, walk_of, paths_of}
 use Rattle.sym_exec.specs.sym_terms.Terms.{AreTerms}
 use Rattle.sym_exec.specs.sym_terms.declared.node.Node.{Node}
 use Rattle.sym_exec.specs.Making.{Grows}
-use Rattle.sym_exec.specs.Thread.{Doing, after_step, after_all}
+use Rattle.sym_exec.specs.Thread.{Doing, after_step, after_all, Route, route_of}
 use Rattle.sym_exec.specs.Executed.{has_failed, fails_at, thread_started, thread_done}
 use Rattle.sym_exec.specs.Alone.{slots_by, asked_by, asked_in, outcome_by}
 use Rattle.sym_exec.specs.declared.symbolic.Access.{Access}
@@ -103,8 +103,8 @@ module _ (code : Code) (log : Log) (nodes : List Node) (lawful : IsLawful code) 
   abbrev pub walks : List Walk
   walks = (paths_of code log).threads
 
-  abbrev fails_of : ℕ → ThreadPath → Option ℕ
-  fails_of j p = fails_at (paths_of code log) j (walk p)
+  abbrev path_route : ℕ → ThreadPath → Route
+  path_route j p = route_of code (walk p) (fails_at (paths_of code log) j (walk p))
 
   pub walk_at : (j : ℕ) (p : ThreadPath) → slice_get log.threads j ≡ Some p → slice_get walks j ≡ Some (walk p)
   walk_at j p at = slice_get-map walk log.threads j ∙ ap (option_map walk) at
@@ -131,19 +131,19 @@ module _ (code : Code) (log : Log) (nodes : List Node) (lawful : IsLawful code) 
 
     pub fine_at : (k : ℕ) → IsFine code (walk p).function (upto k)
     fine_at k =
-        (all_on code (walk p).function (walk p).outcomes (fails_of j p) lawful (take k (walk p).places) start
+        (all_on (path_route j p) lawful (take k (walk p).places) start
         (start_fine code lawful (paths_of code log) (found_before code log nodes j) (walk p) here.well)).fine
 
     -- the first steps of an execution begin all of it
     pub begins_at : (k : ℕ) → Begins (upto k) whole
     begins_at k =
         let w = walk p in
-        let after = after_all code w.function w.outcomes (fails_of j p) in
-        let rest = all_on code w.function w.outcomes (fails_of j p) lawful (drop k w.places) (upto k) (fine_at k) in
+        let after = after_all (path_route j p) in
+        let rest = all_on (path_route j p) lawful (drop k w.places) (upto k) (fine_at k) in
         let all : after (upto k) (drop k w.places) ≡ whole =
-        sym (fold-append (after_step code w.function w.outcomes (fails_of j p)) start (take k w.places) (drop k w.places))
+        sym (fold-append (after_step (path_route j p)) start (take k w.places) (drop k w.places))
         ∙ ap (after start) (take-append-drop k w.places)
-        ∙ ap (λ n. after_all code w.function w.outcomes (fails_at (paths_of code log) n w) start w.places) (sym here.count) in
+        ∙ ap (λ n. after_all (route_of code w (fails_at (paths_of code log) n w)) start w.places) (sym here.count) in
         subst (Begins (upto k)) all rest.begins
 
     pub grows_at : (k : ℕ) → Grows (upto k).nodes (found code log nodes).nodes
@@ -172,9 +172,9 @@ module _ (code : Code) (log : Log) (nodes : List Node) (lawful : IsLawful code) 
       one_more = steps_by t i (request t i) v
 
       abbrev follow : Doing → ℕ → Doing
-      follow = after_step code (walk p).function (walk p).outcomes (fails_of j p)
+      follow = after_step (path_route j p)
 
-      pub next_is : upto u.steps ≡ next code (walk p).function (walk p).outcomes (fails_of j p) d t.instruction
+      pub next_is : upto u.steps ≡ next (path_route j p) d t.instruction
       next_is =
           ap upto one_more
           ∙ ap (fold follow start)
@@ -184,19 +184,19 @@ module _ (code : Code) (log : Log) (nodes : List Node) (lawful : IsLawful code) 
       placed : instr_at code (walk p).function t.instruction ≡ Some i
       placed = ap (λ f. instr_at code f t.instruction) function_is ∙ goes.at
 
-      passes : not (is_fail (request t i)) ≡ site_wanted (fails_of j p) d.steps
+      passes : not (is_fail (request t i)) ≡ site_wanted (path_route j p).fails d.steps
       passes =
           fails_as_wanted (has_failed log.failing j) (is_fail (request t i)) t.steps (length (walk p).places) p.path.steps (ap length places_are ∙ goes.long)
           goes.within (goes.fails ∙ ap (λ b. b && t.steps + 1 == p.path.steps) (failing_is log is j p there))
-          ∙ ap (site_wanted (fails_of j p)) (sym follows.steps)
+          ∙ ap (site_wanted (path_route j p).fails) (sym follows.steps)
 
       abbrev e : Doing
-      e = next code (walk p).function (walk p).outcomes (fails_of j p) d t.instruction
+      e = next (path_route j p) d t.instruction
 
       -- a load takes the value of its symbol
       takes : is_load i ≡ true → get_or loads d.loads (pos 0) ≡ v
       takes load =
-          let l = loads_by code (walk p).function (walk p).outcomes (fails_of j p) loads lawful d t i t.instruction (fine_at t.steps) placed load in
+          let l = loads_by (path_route j p) loads lawful d t i t.instruction (fine_at t.steps) placed load in
           let b = begins_at u.steps in
           let within : IsOneOf l.access whole.accesses =
           subst (IsOneOf l.access) (sym b.accesses)
@@ -205,9 +205,9 @@ module _ (code : Code) (log : Log) (nodes : List Node) (lawful : IsLawful code) 
           get_seam h deed [] ∙ ap (λ k. Some (Did p.name k (request t i) v o)) (sym (l.step ∙ follows.steps)) in
           agrees (course_of (walk p) whole) l.access d.loads (request t i) v o (j, here.course) within l.takes (length h, last)
 
-      pub done : IsDone code (walk p).function (walk p).outcomes (fails_of j p) loads d e t u i v
+      pub done : IsDone (path_route j p) loads d e t u i v
       done =
-          is_done code (walk p).function (walk p).outcomes (fails_of j p) loads lawful d t i t.instruction (fine_at t.steps) placed v goes.later follows.slots
+          is_done (path_route j p) loads lawful d t i t.instruction (fine_at t.steps) placed v goes.later follows.slots
           follows.branches follows.children takes goes.outcomes passes goes.took goes.asks
 
       grows_next : Grows e.nodes (found code log nodes).nodes

@@ -12,12 +12,13 @@ use Rattle.sym_exec.specs.tc_code.Code.{Code, instr_at}
 use Rattle.sym_exec.specs.tc_code.declared.instr.Instr.{Instr}
 use Rattle.sym_exec.specs.path_walk.Paths.{Walk, Paths}
 use Rattle.sym_exec.specs.sym_terms.declared.node.Node.{Node}
-use Rattle.sym_exec.specs.Thread.{Doing, wanted_of, after_all}
+use Rattle.sym_exec.specs.Thread.{Doing, wanted_of, after_all, Route, route_of}
 use Rattle.sym_exec.specs.Executed.{Executed, fails_at, thread_started, thread_done, with_thread, nothing}
 use Rattle.sym_exec.specs.declared.symbolic.Access.{Access}
+use Rattle.sym_exec.proofs.Sound.{stepped_by}
 use Rattle.sym_exec.proofs.Tells.{is_load, loads_after}
 use Rattle.sym_laws.specs.Loads.{Load, loads_by, loads_of}
-use Rattle.sym_laws.proofs.Steps.{adds, next, stepped_by, line_of, uncounted}
+use Rattle.sym_laws.proofs.Steps.{adds, next, line_of, uncounted}
 
 -- numbers count up by one, from the first up to another
 abbrev pub CountsFrom : ℕ → List ℕ → ℕ → Type 0
@@ -82,37 +83,37 @@ one_counts : (b : Bool) (n m : ℕ) → m ≡ n + cond b 1 0 → CountsFrom n (c
 one_counts true n m is = (refl, sym is)
 one_counts false n m is = omega (arith, is)
 
-module _ (code : Code) (f : ℕ) (outcomes : List Bool) (fails : Option ℕ) where
-  by_instr : (d : Doing) (place : ℕ) (i : Instr) → CountsOn d (record (uncounted code f outcomes fails d place i) { steps = d.steps + 1 })
+module _ (r : Route) where
+  by_instr : (d : Doing) (place : ℕ) (i : Instr) → CountsOn d (record (uncounted r d place i) { steps = d.steps + 1 })
   by_instr d place i =
-      let a = adds (line_of code f outcomes fails place) (wanted_of outcomes fails d i) d i in
-      let e = loads_after (line_of code f outcomes fails place) (wanted_of outcomes fails d i) d i in
+      let a = adds (line_of r place) (wanted_of r.outcomes r.fails d i) d i in
+      let e = loads_after (line_of r place) (wanted_of r.outcomes r.fails d i) d i in
       record {
         found = a.found;
         accesses = a.accesses;
-        counts = subst (λ xs. CountsFrom d.loads xs (uncounted code f outcomes fails d place i).loads) (sym a.taken)
-            (one_counts (is_load i) d.loads (uncounted code f outcomes fails d place i).loads e);
+        counts = subst (λ xs. CountsFrom d.loads xs (uncounted r d place i).loads) (sym a.taken)
+            (one_counts (is_load i) d.loads (uncounted r d place i).loads e);
       }
 
-  step_counts : (d : Doing) (place : ℕ) → CountsOn d (next code f outcomes fails d place)
-  step_counts d place = by (instr_at code f place) refl
+  step_counts : (d : Doing) (place : ℕ) → CountsOn d (next r d place)
+  step_counts d place = by (instr_at r.code r.function place) refl
     where
-      by : (o : Option Instr) → instr_at code f place ≡ o → CountsOn d (next code f outcomes fails d place)
-      by None at = subst (CountsOn d) (sym (ap (stepped_by code f outcomes fails d place) at)) (counts_itself d)
-      by (Some i) at = subst (CountsOn d) (sym (ap (stepped_by code f outcomes fails d place) at)) (by_instr d place i)
+      by : (o : Option Instr) → instr_at r.code r.function place ≡ o → CountsOn d (next r d place)
+      by None at = subst (CountsOn d) (sym (ap (stepped_by r d place) at)) (counts_itself d)
+      by (Some i) at = subst (CountsOn d) (sym (ap (stepped_by r d place) at)) (by_instr d place i)
 
-  all_count : (places : List ℕ) (d : Doing) → CountsOn d (after_all code f outcomes fails d places)
+  all_count : (places : List ℕ) (d : Doing) → CountsOn d (after_all r d places)
   all_count [] d = counts_itself d
   all_count (place ∷ places) d =
-      let e = next code f outcomes fails d place in
-      counts_on d e (after_all code f outcomes fails e places) (step_counts d place) (all_count places e)
+      let e = next r d place in
+      counts_on d e (after_all r e places) (step_counts d place) (all_count places e)
 
 -- with one thread more
 thread_counts : (code : Code) (paths : Paths) (x : Executed) (w : Walk) → CountsFrom 0 (numbers (loads_of x.symbolic)) x.symbolic.loads
     → CountsFrom 0 (numbers (loads_of (with_thread code paths x w).symbolic)) (with_thread code paths x w).symbolic.loads
 thread_counts code paths x w so =
     let d = thread_done code paths x w in
-    let c = all_count code w.function w.outcomes (fails_at paths (length x.symbolic.threads) w) w.places (thread_started code x w) in
+    let c = all_count (route_of code w (fails_at paths (length x.symbolic.threads) w)) w.places (thread_started code x w) in
     let is : numbers (loads_of (with_thread code paths x w).symbolic) ≡ numbers (loads_of x.symbolic) ++ filter_map takes c.found =
     ap numbers (flat_map-append (λ c. loads_by c.name c.accesses) x.symbolic.threads _
     ∙ ap (λ ls. loads_of x.symbolic ++ ls) (append-nil (loads_by w.name d.accesses)))

@@ -3,7 +3,6 @@ use Rattle.std.proofs.Common.{◌≡◌, ◌∙◌, ℕ, ◌+◌, ◌≤◌, ℤ
 use Rattle.std.proofs.Common.{Option, Some, None, refl, ap, sym, subst, arith, append-nil, append_assoc}
 use Rattle.std.specs.Prelude.{unwrap_or}
 use Rattle.std.specs.List.{AllByRecursion as Each, filter_map, cons_option}
-use Rattle.std.specs.Option.{option_map_or}
 use Rattle.sym_exec.specs.tc_base.States.{Local}
 use Rattle.sym_exec.specs.tc_code.Code.{Code, instr_at, line_at}
 use Rattle.sym_exec.specs.tc_code.declared.instr.Instr.{Instr}
@@ -12,13 +11,13 @@ use Rattle.sym_exec.specs.tc_code.Lawful.{IsLawful}
 use Rattle.sym_exec.specs.tc_code.Step.{ints_of}
 use Rattle.sym_exec.specs.sym_terms.Terms.{AreTerms}
 use Rattle.sym_exec.specs.Making.{Grows}
-use Rattle.sym_exec.specs.Thread.{Handed, Doing, HasTerms, after_instr, wanted_of, after_step, after_all}
+use Rattle.sym_exec.specs.Thread.{Handed, Doing, HasTerms, after_instr, wanted_of, after_step, after_all, Route}
 use Rattle.sym_exec.specs.Alone.{slots_by}
 use Rattle.sym_exec.specs.declared.symbolic.Access.{Access}
 use Rattle.sym_exec.specs.declared.symbolic.Cell.{Cell}
 use Rattle.sym_exec.specs.declared.symbolic.Test.{Test}
 use Rattle.sym_exec.proofs.Grown.{grows_none, grows_both}
-use Rattle.sym_exec.proofs.Sound.{instr_named, step_goes}
+use Rattle.sym_exec.proofs.Sound.{instr_named, step_goes, stepped_by}
 use Rattle.sym_exec.proofs.Tells.{is_load, told, short_is}
 use Rattle.sym_laws.proofs.Lists.{each_append, each_weaker}
 
@@ -177,37 +176,32 @@ pub record IsNext (code : Code) (f : ℕ) (d e : Doing) : Type 0 where
   pub fine : IsFine code f e
   pub begins : Begins d e
 
-module _ (code : Code) (f : ℕ) (outcomes : List Bool) (fails : Option ℕ) where
-  -- a step at a place with an instruction or without one
-  abbrev pub stepped_by : Doing → ℕ → Option Instr → Doing
-  stepped_by d place o = option_map_or (λ i.
-      record (after_instr (unwrap_or (line_at code f place) 0) (wanted_of outcomes fails d i) d i) { steps = d.steps + 1 }) o d
-
+module _ (r : Route) where
   abbrev pub line_of : ℕ → ℕ
-  line_of place = unwrap_or (line_at code f place) 0
+  line_of place = unwrap_or (line_at r.code r.function place) 0
 
   -- the effect of the instruction at the place, before the step is counted
   abbrev pub uncounted : Doing → ℕ → Instr → Doing
-  uncounted d place i = after_instr (line_of place) (wanted_of outcomes fails d i) d i
+  uncounted d place i = after_instr (line_of place) (wanted_of r.outcomes r.fails d i) d i
 
   abbrev pub next : Doing → ℕ → Doing
-  next d place = after_step code f outcomes fails d place
+  next d place = after_step r d place
 
-  pub next_is : (d : Doing) (place : ℕ) (i : Instr) → instr_at code f place ≡ Some i → next d place ≡ record (uncounted d place i) { steps = d.steps + 1 }
-  next_is d place i at = ap (stepped_by d place) at
+  pub next_is : (d : Doing) (place : ℕ) (i : Instr) → instr_at r.code r.function place ≡ Some i → next d place ≡ record (uncounted d place i) { steps = d.steps + 1 }
+  next_is d place i at = ap (stepped_by r d place) at
 
-  module _ (lawful : IsLawful code) where
-    stays : (d : Doing) (place : ℕ) → IsFine code f d → instr_at code f place ≡ None → IsNext code f d (next d place)
-    stays d place fine at = subst (IsNext code f d) (sym (ap (stepped_by d place) at)) (record { fine = fine; begins = begins_itself d })
+  module _ (lawful : IsLawful r.code) where
+    stays : (d : Doing) (place : ℕ) → IsFine r.code r.function d → instr_at r.code r.function place ≡ None → IsNext r.code r.function d (next d place)
+    stays d place fine at = subst (IsNext r.code r.function d) (sym (ap (stepped_by r d place) at)) (record { fine = fine; begins = begins_itself d })
 
-    goes : (d : Doing) (place : ℕ) (i : Instr) → IsFine code f d → instr_at code f place ≡ Some i → IsNext code f d (next d place)
+    goes : (d : Doing) (place : ℕ) (i : Instr) → IsFine r.code r.function d → instr_at r.code r.function place ≡ Some i → IsNext r.code r.function d (next d place)
     goes d place i fine at =
         let e = uncounted d place i in
-        let named = instr_named code f place (length d.slots) i lawful at fine.ints in
-        let t = told [] (line_of place) (wanted_of outcomes fails d i) d i (with_slots (slots_by [] d)) (get_or [] d.loads (pos 0)) fine.terms fine.sound named
-        (short_is code f place i lawful at) refl (λ is. refl) in
-        let a = adds (line_of place) (wanted_of outcomes fails d i) d i in
-        let s = step_goes code f outcomes fails d place lawful fine.ints fine.sound in
+        let named = instr_named r.code r.function place (length d.slots) i lawful at fine.ints in
+        let t = told [] (line_of place) (wanted_of r.outcomes r.fails d i) d i (with_slots (slots_by [] d)) (get_or [] d.loads (pos 0)) fine.terms fine.sound named
+        (short_is r.code r.function place i lawful at) refl (λ is. refl) in
+        let a = adds (line_of place) (wanted_of r.outcomes r.fails d i) d i in
+        let s = step_goes r d place lawful fine.ints fine.sound in
         let is = next_is d place i at in
         record {
           fine = record {
@@ -220,7 +214,7 @@ module _ (code : Code) (f : ℕ) (outcomes : List Bool) (fails : Option ℕ) whe
             steps = let e = ap (λ (x : Doing). x.steps) is in omega (arith, e);
             test = a.test;
             tests = ap (λ (x : Doing). x.tests) is ∙ a.tests;
-            tested = each_weaker (λ x. (x.step ≡ d.steps) × (x.wanted ≡ wanted_of outcomes fails d i)) (λ x. d.steps ≤ x.step) a.test
+            tested = each_weaker (λ x. (x.step ≡ d.steps) × (x.wanted ≡ wanted_of r.outcomes r.fails d i)) (λ x. d.steps ≤ x.step) a.test
                 (λ x h. omega (arith, h.0)) a.tested;
             found = a.found;
             accesses = ap (λ (x : Doing). x.accesses) is ∙ a.accesses;
@@ -230,17 +224,17 @@ module _ (code : Code) (f : ℕ) (outcomes : List Bool) (fails : Option ℕ) whe
           };
         }
 
-    pub steps_on : (d : Doing) (place : ℕ) → IsFine code f d → IsNext code f d (next d place)
-    steps_on d place fine = by (instr_at code f place) refl
+    pub steps_on : (d : Doing) (place : ℕ) → IsFine r.code r.function d → IsNext r.code r.function d (next d place)
+    steps_on d place fine = by (instr_at r.code r.function place) refl
       where
-        by : (o : Option Instr) → instr_at code f place ≡ o → IsNext code f d (next d place)
+        by : (o : Option Instr) → instr_at r.code r.function place ≡ o → IsNext r.code r.function d (next d place)
         by None at = stays d place fine at
         by (Some i) at = goes d place i fine at
 
     -- all steps keep an execution fine and only extend it
-    pub all_on : (places : List ℕ) (d : Doing) → IsFine code f d → IsNext code f d (after_all code f outcomes fails d places)
+    pub all_on : (places : List ℕ) (d : Doing) → IsFine r.code r.function d → IsNext r.code r.function d (after_all r d places)
     all_on [] d fine = record { fine = fine; begins = begins_itself d }
     all_on (place ∷ places) d fine =
         let one = steps_on d place fine in
         let rest = all_on places (next d place) one.fine in
-        record { fine = rest.fine; begins = begins_both d (next d place) (after_all code f outcomes fails (next d place) places) one.begins rest.begins }
+        record { fine = rest.fine; begins = begins_both d (next d place) (after_all r (next d place) places) one.begins rest.begins }

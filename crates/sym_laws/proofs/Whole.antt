@@ -23,7 +23,7 @@ use Rattle.path_laws.specs.Prefixes.{AreOnPaths}
 use Rattle.path_laws.proofs.Prefixes.{beginnings_on, own_under, so_far}
 use Rattle.sym_exec.specs.sym_terms.Terms.{AreTerms}
 use Rattle.sym_exec.specs.sym_terms.declared.node.Node.{Node}
-use Rattle.sym_exec.specs.Thread.{Doing, after_all}
+use Rattle.sym_exec.specs.Thread.{Doing, after_all, route_of}
 use Rattle.sym_exec.specs.Executed.{Course, fails_at, thread_started, thread_done}
 use Rattle.sym_exec.specs.Alone.{outcome_by}
 use Rattle.sym_laws.specs.Valued.{IsOneOf, AgreesWith, IsMet, asked_of, found, found_before, execution}
@@ -57,9 +57,9 @@ module _ {B : Type 0} (ops : BufferOps B) (code : Code) (log : Log) (nodes : Lis
         let path : so.on.path ≡ p.path = same_Some so.on.path p.path (sym so.on.there ∙ own_under log is j p at) in
         let long : length w.places ≡ t.local.steps =
         ap (λ o. length (places_in code log p.name (unwrap_or o 0))) so.function ∙ so.count ∙ ap (λ (x : Path). x.steps) path ∙ sym steps in
-        ap (after_all code w.function w.outcomes (fails_at (paths_of code log) j w) (thread_started code (found_before code log nodes j) w))
+        ap (after_all (route_of code w (fails_at (paths_of code log) j w)) (thread_started code (found_before code log nodes j) w))
         (take_all t.local.steps w.places (omega (arith, long)))
-        ∙ ap (λ n. after_all code w.function w.outcomes (fails_at (paths_of code log) n w) (thread_started code (found_before code log nodes j) w) w.places)
+        ∙ ap (λ n. after_all (route_of code w (fails_at (paths_of code log) n w)) (thread_started code (found_before code log nodes j) w) w.places)
         (sym (found_at_log code log nodes lawful is terms j p at).count)
 
     met_at : IsMet (found code log nodes).nodes loads h (course_of (walk_of code log p) whole)

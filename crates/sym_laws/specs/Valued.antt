@@ -10,7 +10,7 @@ use Rattle.sym_exec.specs.tc_code.Code.{Code}
 use Rattle.path_laws.specs.run_history.History.{Deed, Did, same}
 use Rattle.sym_exec.specs.path_walk.Paths.{Walk, paths_of}
 use Rattle.sym_exec.specs.sym_terms.declared.node.Node.{Node}
-use Rattle.sym_exec.specs.Thread.{Doing, after_all}
+use Rattle.sym_exec.specs.Thread.{Doing, route_of, after_all}
 use Rattle.sym_exec.specs.Executed.{Course, Symbolic, Executed, fails_at, thread_started, with_thread, nothing, executed}
 use Rattle.sym_exec.specs.Alone.{slots_by, outcome_by, Asked, asked_by, asked_in}
 use Rattle.sym_exec.specs.declared.symbolic.Access.{Access}
@@ -66,7 +66,7 @@ module _ (code : Code) (log : Log) (nodes : List Node) where
   -- the execution of the first k steps of the log's thread j
   abbrev pub execution : ℕ → Walk → ℕ → Doing
   execution j w k =
-      after_all code w.function w.outcomes (fails_at (paths_of code log) j w)
+      after_all (route_of code w (fails_at (paths_of code log) j w))
       (thread_started code (found_before j) w) (take k w.places)
 
   module _ (loads : List ℤ) (h : List Deed) where

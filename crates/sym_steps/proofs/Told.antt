@@ -48,7 +48,7 @@ use Rattle.sym_laws.proofs.path_laws.of_events.Sites.{last_is_site}
 use Rattle.order_events.specs.sym_terms.declared.node.Node.{Node}
 use Rattle.sym_laws.specs.sym_exec.Making.{Grows}
 use Rattle.sym_laws.specs.sym_exec.helpers.Threads.{names_within}
-use Rattle.sym_laws.specs.sym_exec.Thread.{Doing, after_step, after_instr, wanted_of}
+use Rattle.sym_laws.specs.sym_exec.Thread.{Doing, Route, route_of, after_step, after_instr, wanted_of}
 use Rattle.sym_laws.specs.sym_exec.Executed.{Course, has_failed, fails_at, thread_started, thread_done}
 use Rattle.sym_laws.specs.sym_exec.Alone.{Asked, asked_by, condition, outcome_by}
 use Rattle.sym_laws.specs.sym_exec.declared.symbolic.Access.{Access}
@@ -175,13 +175,16 @@ module _ {B : Type 0} (setting : Setting B) (nodes : List Node) (loads : List �
     place : slice_get w.places k ≡ Some t.instruction
     place = ap (slice_get w.places) x.steps ∙ x.place
 
+    abbrev along_path : Route
+    along_path = route_of code w failing_step
+
     -- the execution with the next step
     abbrev e : Doing
-    e = next code w.function w.outcomes failing_step d t.instruction
+    e = next along_path d t.instruction
 
     one_more : upto (suc k) ≡ e
     one_more =
-        let step = after_step code w.function w.outcomes failing_step in
+        let step = after_step along_path in
         let start = thread_started code (found_before code log nodes j) w in
         ap (fold step start)
         (take-suc w.places k t.instruction few ∙ ap (λ q. take k w.places ++ q ∷ []) (get_or_from_slice_get w.places k t.instruction t.instruction place))
@@ -197,13 +200,13 @@ module _ {B : Type 0} (setting : Setting B) (nodes : List Node) (loads : List �
     wanted = wanted_of w.outcomes failing_step d i
 
     abbrev line : ℕ
-    line = line_of code w.function w.outcomes failing_step t.instruction
+    line = line_of along_path t.instruction
 
     abbrev plain : Doing
     plain = after_instr line wanted d i
 
     is_next : e ≡ record plain { steps = d.steps + 1 }
-    is_next = next_is code w.function w.outcomes failing_step d t.instruction i x.at
+    is_next = next_is along_path d t.instruction i x.at
 
     grows_plain : Grows plain.nodes later
     grows_plain = subst (λ (y : Doing). Grows y.nodes later) is_next grows

@@ -18,7 +18,7 @@ use Rattle.order_formula.specs.declared.literal.Literal.{Literal}
 use Rattle.order_formula.specs.Groups.{HoldsIn, IsExactly}
 use Rattle.order_formula.specs.Truth.{body_at, case_at, literal_at}
 use Rattle.order_formula.specs.Worlds.{World, is_ended}
-use Rattle.order_events.specs.lawful_order.Events.{Of, all_events, all_sleeps, ender_of}
+use Rattle.order_events.specs.lawful_order.Events.{Placed, all_events, all_sleeps, ender_of}
 use Rattle.order_events.specs.lawful_order.Lawful.{IsWorldOf}
 use Rattle.order_events.specs.lawful_order.Stuck.{IsHeld, SleepsOn, RunsOn, CannotGoOn, StuckRule}
 use Rattle.condition_order.specs.declared.wait.Ender.{Ender}
@@ -112,7 +112,7 @@ module _ (paths : Paths) where
     true_cases true is = refl
     true_cases false is = is
 
-    literal_in : (t k s : ℕ) (x : Of Sleep) (g : Ender) → slice_get (all_sleeps paths) s ≡ Some x → x.thread ≡ t → x.it.step ≡ k
+    literal_in : (t k s : ℕ) (x : Placed Sleep) (g : Ender) → slice_get (all_sleeps paths) s ≡ Some x → x.thread ≡ t → x.it.step ≡ k
         → Contains (enders (all_events paths) x.it.condition) g → Contains (asleep t k) (not_ended_literal s g)
     literal_in t k s x g sleep thread step there =
         in_each (sleeping (all_events paths) t k) s x (not_ended_literal s g) (all_sleeps paths) sleep

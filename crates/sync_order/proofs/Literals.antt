@@ -17,7 +17,7 @@ use Rattle.order_formula.specs.declared.formula.Conjunct.{Conjunct}
 use Rattle.order_formula.specs.declared.group.Group.{Group}
 use Rattle.order_formula.specs.declared.group.Group.TheVariants.{Child, Mutex}
 use Rattle.order_formula.specs.declared.literal.Literal.{Literal}
-use Rattle.order_events.specs.lawful_order.Events.{Of, all_events, all_sleeps, HasEvent, HasRegion, Creates, Joins}
+use Rattle.order_events.specs.lawful_order.Events.{Placed, all_events, all_sleeps, HasEvent, HasRegion, Creates, Joins}
 use Rattle.condition_order.specs.Conditions.{enders}
 use Rattle.condition_order.specs.declared.wait.Ender.{Ender}
 use Rattle.sync_order.specs.Children.{is_exit, exit_before, children_formula}
@@ -51,7 +51,7 @@ pub record AreLiterals (paths : Paths) (Step : (t k : ℕ) → Type 0) (L : Lite
   pub taken : (t : ℕ) (r : Region) → HasRegion paths t r → Step t r.«from»
   pub left : (t k : ℕ) (r : Region) → HasRegion paths t r → r.to ≡ Some k → Step t k
   pub before : (t k u j : ℕ) → Step t k → Step u j → L (comes_before (all_events paths) t k u j)
-  pub unended : (s : ℕ) (x : Of Sleep) (g : Ender) → slice_get (all_sleeps paths) s ≡ Some x → Contains (enders (all_events paths) x.it.condition) g
+  pub unended : (s : ℕ) (x : Placed Sleep) (g : Ender) → slice_get (all_sleeps paths) s ≡ Some x → Contains (enders (all_events paths) x.it.condition) g
       → L (not_ended_literal s g)
 
 module _ (paths : Paths) (Step : (t k : ℕ) → Type 0) (L : Literal → Type 0) (are : AreLiterals paths Step L) where
@@ -69,7 +69,7 @@ module _ (paths : Paths) (Step : (t k : ℕ) → Type 0) (L : Literal → Type 0
         subst L x.2 (are.before m.place x.0.step m.thread m.link.step (are.event m.place x.0 (m.walk, m.at, e.0)) (are.join m.thread m.link m.joins))))
   ]
 
-  in_left : (r s : Of Region) → HasRegion paths r.thread r.it → HasRegion paths s.thread s.it → (l : Literal)
+  in_left : (r s : Placed Region) → HasRegion paths r.thread r.it → HasRegion paths s.thread s.it → (l : Literal)
       → Contains (left_before (all_events paths) r s) l → L l
   in_left r s has_r has_s l i =
       let k = of_map (release_literal (all_events paths) r s) l (option_to_list r.it.to) i in

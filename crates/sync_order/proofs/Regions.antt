@@ -15,7 +15,7 @@ use Rattle.order_formula.specs.declared.literal.Literal.{Literal}
 use Rattle.order_formula.specs.Groups.{HoldsIn, IsExactly}
 use Rattle.order_formula.specs.Truth.{body_at, literal_at}
 use Rattle.order_formula.specs.Worlds.{World}
-use Rattle.order_events.specs.lawful_order.Events.{Of, HasRegion, all_events}
+use Rattle.order_events.specs.lawful_order.Events.{Placed, HasRegion, all_events}
 use Rattle.order_events.specs.lawful_order.Mutexes.{IsLeftBefore, MutexRule}
 use Rattle.sync_order.specs.Mutexes.{exclude, all_regions, release_literal, left_before, excludes, exclusive, mutexes_formula}
 use Rattle.sync_order.proofs.Groups.{same_mutex}
@@ -25,10 +25,10 @@ use Rattle.sync_order.proofs.Pairs.{in_pairs, in_of_pairs}
 use Rattle.order_events.proofs.Parts.{of_one, in_option, of_option, in_if, of_if, one_holds, some_holds, step_before, before_holds}
 
 -- two regions have different threads or different beginnings
-abbrev Differ : Of Region → Of Region → Type 0
+abbrev Differ : Placed Region → Placed Region → Type 0
 Differ r s = (r.thread ≢ s.thread) ⊎ (r.it.«from» ≢ s.it.«from»)
 
-differ_true : (r s : Of Region) → r.it.mutex ≡ s.it.mutex → Differ r s → exclude r s ≡ true
+differ_true : (r s : Placed Region) → r.it.mutex ≡ s.it.mutex → Differ r s → exclude r s ≡ true
 differ_true r s one differ =
     and_from (r.it.mutex == s.it.mutex) (not (r.thread == s.thread && r.it.«from» == s.it.«from»)) (eq-eqb r.it.mutex s.it.mutex one)
     (not_from_false (r.thread == s.thread && r.it.«from» == s.it.«from») (elim differ [
@@ -36,7 +36,7 @@ differ_true r s one differ =
       | inr apart ↦ and_right (r.thread == s.thread) (r.it.«from» == s.it.«from») (ne_eqb r.it.«from» s.it.«from» apart)
     ]))
 
-true_differ : (r s : Of Region) → exclude r s ≡ true → (r.it.mutex ≡ s.it.mutex) × Differ r s
+true_differ : (r s : Placed Region) → exclude r s ≡ true → (r.it.mutex ≡ s.it.mutex) × Differ r s
 true_differ r s is =
     let both = and_parts (r.it.mutex == s.it.mutex) (not (r.thread == s.thread && r.it.«from» == s.it.«from»)) is in (
       eqb-true r.it.mutex s.it.mutex both.0,
@@ -48,17 +48,17 @@ true_differ r s is =
 
 module _ (paths : Paths) where
   -- the list has exactly the regions of threads
-  region_in : (r : Of Region) → HasRegion paths r.thread r.it → Contains (all_regions paths) r
+  region_in : (r : Placed Region) → HasRegion paths r.thread r.it → Contains (all_regions paths) r
   region_in r has = in_all_from (λ q. q.regions) 0 r.thread r.thread paths.threads has.0 r.it has.1 has.2 (omega arith)
 
-  has_region : (r : Of Region) → Contains (all_regions paths) r → HasRegion paths r.thread r.it
+  has_region : (r : Placed Region) → Contains (all_regions paths) r → HasRegion paths r.thread r.it
   has_region r i =
       let o = of_all_from (λ q. q.regions) 0 paths.threads r i in
       let place : o.place ≡ r.thread = omega (arith, o.thread) in
       (o.owner, subst (λ k. slice_get paths.threads k ≡ Some o.owner) place o.at, o.among)
 
   -- the formula has one conjunct for two regions
-  pair_in : (i j : ℕ) (r s : Of Region) → slice_get (all_regions paths) i ≡ Some r → slice_get (all_regions paths) j ≡ Some s → i < j
+  pair_in : (i j : ℕ) (r s : Placed Region) → slice_get (all_regions paths) i ≡ Some r → slice_get (all_regions paths) j ≡ Some s → i < j
       → exclude r s ≡ true → Contains (mutexes_formula paths) (excludes (all_events paths) r s)
   pair_in i j r s first second less is =
       in_pairs (exclusive (all_events paths)) i j r s (excludes (all_events paths) r s) (all_regions paths) first second less
@@ -66,8 +66,8 @@ module _ (paths : Paths) where
 
   -- the formula has no other conjuncts
   pub record IsPair (z : Conjunct) : Type 0 where
-    pub first : Of Region
-    pub second : Of Region
+    pub first : Placed Region
+    pub second : Placed Region
     pub has_first : HasRegion paths first.thread first.it
     pub has_second : HasRegion paths second.thread second.it
     pub one : first.it.mutex ≡ second.it.mutex
@@ -93,7 +93,7 @@ module _ (paths : Paths) where
   mutexes_group z i = let p = is_pair z i in (p.first.it.mutex, ap (λ (y : Conjunct). y.group) (sym p.made))
 
   module _ (nodes : List Node) (w : World) where
-    left_holds : (r s : Of Region) → IsLeftBefore paths w r.thread r.it s.thread s.it
+    left_holds : (r s : Placed Region) → IsLeftBefore paths w r.thread r.it s.thread s.it
         → (l : Literal) × Contains (left_before (all_events paths) r s) l × (literal_at nodes w l ≡ true)
     left_holds r s left = (
       release_literal (all_events paths) r s left.0,
@@ -101,16 +101,16 @@ module _ (paths : Paths) where
       before_holds nodes w paths r.thread left.0 s.thread s.it.«from» left.2,
     )
 
-    holds_left : (r s : Of Region) (l : Literal) → Contains (left_before (all_events paths) r s) l → literal_at nodes w l ≡ true
+    holds_left : (r s : Placed Region) (l : Literal) → Contains (left_before (all_events paths) r s) l → literal_at nodes w l ≡ true
         → IsLeftBefore paths w r.thread r.it s.thread s.it
     holds_left r s l there holds =
         let k = of_map (release_literal (all_events paths) r s) l (option_to_list r.it.to) there in
         (k.0, of_option r.it.to k.0 k.1, step_before nodes w paths r.thread k.0 s.thread s.it.«from» (ap (literal_at nodes w) k.2 ∙ holds))
 
-    abbrev OneIsLeft : Of Region → Of Region → Type 0
+    abbrev OneIsLeft : Placed Region → Placed Region → Type 0
     OneIsLeft r s = IsLeftBefore paths w r.thread r.it s.thread s.it ⊎ IsLeftBefore paths w s.thread s.it r.thread r.it
 
-    pair_holds : (r s : Of Region) → OneIsLeft r s → body_at nodes w (excludes (all_events paths) r s).body ≡ true
+    pair_holds : (r s : Placed Region) → OneIsLeft r s → body_at nodes w (excludes (all_events paths) r s).body ≡ true
     pair_holds r s one =
         let g = Mutex r.it.mutex in
         let left = left_before (all_events paths) r s in
@@ -124,7 +124,7 @@ module _ (paths : Paths) where
               one_holds nodes w g l.0 (left ++ right) (Contains-append_right left right l.0 l.1) l.2
         ]
 
-    holds_pair : (r s : Of Region) → body_at nodes w (excludes (all_events paths) r s).body ≡ true → OneIsLeft r s
+    holds_pair : (r s : Placed Region) → body_at nodes w (excludes (all_events paths) r s).body ≡ true → OneIsLeft r s
     holds_pair r s holds =
         let left = left_before (all_events paths) r s in
         let right = left_before (all_events paths) s r in
@@ -136,7 +136,7 @@ module _ (paths : Paths) where
 
     module _ (m : ℕ) where
       -- the pair of two regions has the one first that comes first in the list
-      rule_at : HoldsIn nodes w (mutexes_formula paths) (Mutex m) → (r s : Of Region) → HasRegion paths r.thread r.it → HasRegion paths s.thread s.it
+      rule_at : HoldsIn nodes w (mutexes_formula paths) (Mutex m) → (r s : Placed Region) → HasRegion paths r.thread r.it → HasRegion paths s.thread s.it
           → r.it.mutex ≡ m → s.it.mutex ≡ m → Differ r s → OneIsLeft r s
       rule_at all r s has_r has_s of_r of_s differ =
           let i = in_at (all_regions paths) r (region_in r has_r) in
@@ -145,8 +145,8 @@ module _ (paths : Paths) where
             | inl same ↦
                 let one : r ≡ s = same_Some r s (sym i.1 ∙ ap (slice_get (all_regions paths)) same ∙ j.1) in
                 absurd (elim differ [
-                  | inl apart ↦ apart (ap (λ (o : Of Region). o.thread) one)
-                  | inr apart ↦ apart (ap (λ (o : Of Region). o.it.«from») one)
+                  | inl apart ↦ apart (ap (λ (o : Placed Region). o.thread) one)
+                  | inr apart ↦ apart (ap (λ (o : Placed Region). o.it.«from») one)
                 ])
             | inr other ↦ elim other [
               | inl less ↦ holds_pair r s

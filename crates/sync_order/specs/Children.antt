@@ -10,7 +10,7 @@ use Rattle.path_walk.specs.declared.event.Link.{Link}
 use Rattle.order_formula.specs.declared.literal.Literal.{Literal}
 use Rattle.order_formula.specs.declared.formula.Conjunct.{Conjunct}
 use Rattle.order_formula.specs.declared.group.Group.TheVariants.{Child}
-use Rattle.order_events.specs.lawful_order.Events.{Of, all_events}
+use Rattle.order_events.specs.lawful_order.Events.{Placed, all_events}
 use Rattle.order_events.specs.Parts.{of_each, comes_before, one_of}
 
 -- whether an event is the exit of its thread
@@ -28,7 +28,7 @@ abbrev pub of_children : {X : Type 0} → List Walk → (parent : Walk) → ℕ 
 of_children threads parent number f =
     of_each (λ c q. if is_child parent number q then f c q else []) threads
 
-module _ (events : List (Of Event)) where
+module _ (events : List (Placed Event)) where
   -- the create of the child c comes before its event x
   abbrev pub created_before : (t : ℕ) → Link → (c : ℕ) → Event → Conjunct
   created_before t l c x = one_of (Child c) (comes_before events t l.step c x.step ∷ [])

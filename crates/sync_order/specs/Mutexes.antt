@@ -7,7 +7,7 @@ use Rattle.path_walk.specs.declared.event.Region.{Region}
 use Rattle.order_formula.specs.declared.literal.Literal.{Literal}
 use Rattle.order_formula.specs.declared.formula.Conjunct.{Conjunct}
 use Rattle.order_formula.specs.declared.group.Group.TheVariants.{Mutex}
-use Rattle.order_events.specs.lawful_order.Events.{Of, all_from, all_events}
+use Rattle.order_events.specs.lawful_order.Events.{Placed, all_from, all_events}
 use Rattle.order_events.specs.Parts.{comes_before, one_of}
 
 -- the results of f for every two elements, in the order of the list, concatenated
@@ -16,27 +16,27 @@ of_pairs f [] = []
 of_pairs f (x ∷ xs) = flat_map (f x) xs ++ of_pairs f xs
 
 -- whether two regions are distinct and of the same mutex
-abbrev pub exclude : Of Region → Of Region → Bool
+abbrev pub exclude : Placed Region → Placed Region → Bool
 exclude r s = r.it.mutex == s.it.mutex && not (r.thread == s.thread && r.it.«from» == s.it.«from»)
 
-module _ (events : List (Of Event)) where
+module _ (events : List (Placed Event)) where
   -- the step k of the first region's thread comes before the second region begins
-  abbrev pub release_literal : Of Region → Of Region → ℕ → Literal
+  abbrev pub release_literal : Placed Region → Placed Region → ℕ → Literal
   release_literal r s k = comes_before events r.thread k s.thread s.it.«from»
 
   -- the first region ends before the second begins; no literal if the first has no end
-  abbrev pub left_before : Of Region → Of Region → List Literal
+  abbrev pub left_before : Placed Region → Placed Region → List Literal
   left_before r s = map (release_literal r s) (option_to_list r.it.to)
 
   -- one of two regions ends before the other begins
-  abbrev pub excludes : Of Region → Of Region → Conjunct
+  abbrev pub excludes : Placed Region → Placed Region → Conjunct
   excludes r s = one_of (Mutex r.it.mutex) (left_before r s ++ left_before s r)
 
-  abbrev pub exclusive : Of Region → Of Region → List Conjunct
+  abbrev pub exclusive : Placed Region → Placed Region → List Conjunct
   exclusive r s = if exclude r s then excludes r s ∷ [] else []
 
 -- all regions, one thread after another
-abbrev pub all_regions : Paths → List (Of Region)
+abbrev pub all_regions : Paths → List (Placed Region)
 all_regions paths = all_from (λ q. q.regions) 0 paths.threads
 
 abbrev pub mutexes_formula : Paths → List Conjunct

@@ -12,7 +12,7 @@ use Rattle.order_formula.specs.declared.literal.Literal.{Literal}
 use Rattle.order_formula.specs.declared.formula.Body.TheVariants.{Any}
 use Rattle.order_formula.specs.declared.formula.Conjunct.{Conjunct}
 use Rattle.order_formula.specs.declared.group.Group.TheVariants.{Stuck}
-use Rattle.order_events.specs.lawful_order.Events.{Of, all_events, all_sleeps}
+use Rattle.order_events.specs.lawful_order.Events.{Placed, all_events, all_sleeps}
 use Rattle.order_events.specs.Parts.{of_each}
 use Rattle.condition_order.specs.declared.wait.Ender.{Ender}
 use Rattle.condition_order.specs.Conditions.{enders, fails}
@@ -30,17 +30,17 @@ cases_if b = if b then [] ∷ [] else []
 abbrev pub not_ended_literal : (s : ℕ) → Ender → Literal
 not_ended_literal s g = fails (Ends s g.event)
 
-module _ (events : List (Of Event)) where
+module _ (events : List (Placed Event)) where
   -- no ender of the condition c ends the sleep s
   abbrev pub unended : (s c : ℕ) → List Literal
   unended s c = map (not_ended_literal s) (enders events c)
 
   -- no ender ends the sleep s, if the step `step` of the thread t begins it
-  abbrev pub sleeping : (t step : ℕ) → (s : ℕ) → Of Sleep → List Literal
+  abbrev pub sleeping : (t step : ℕ) → (s : ℕ) → Placed Sleep → List Literal
   sleeping t k s x = if x.thread == t && x.it.step == k then unended s x.it.condition else []
 
   -- no ender ends the sleep that a thread's step begins
-  abbrev pub sleeps_on : List (Of Sleep) → (t step : ℕ) → List Literal
+  abbrev pub sleeps_on : List (Placed Sleep) → (t step : ℕ) → List Literal
   sleeps_on sleeps t k = of_each (sleeping t k) sleeps
 
 module _ (threads : List Walk) where

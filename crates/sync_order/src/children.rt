@@ -1,7 +1,7 @@
 //! The create of a thread comes before its events, and its exit before the join.
 ghost use Rattle.std.specs.Prelude.{◌≡◌, ◌++◌, flat_map, map, IfOk, OnOk};
 ghost use Rattle.order_events.specs.Parts.{of_each};
-ghost use Rattle.sync_order.specs.Children.{create_conjuncts, created_before, exited_before, is_child, is_exit, join_conjuncts, links_formula};
+ghost use Rattle.sync_order.specs.Children.{create_conjuncts, created_before, exited_before, is_exit, join_conjuncts, links_formula};
 
 use order_events::{Events, one_of};
 use order_formula::{Conjunct, Group};
@@ -72,7 +72,7 @@ fn push_created(
     ensures { OnOk result (conjuncts.new.items ≡ conjuncts.old.items ++ create_conjuncts events.now threads.now place walk.now link) }
 {
     for (child, thread) in threads.iter().enumerate() {
-        if is_child(walk, link.child, thread) {
+        if thread.is_child_of(walk, link.child) {
             push_created_before(
                 alloc,
                 events,
@@ -120,7 +120,7 @@ fn push_joined(
     ensures { OnOk result (conjuncts.new.items ≡ conjuncts.old.items ++ join_conjuncts events.now threads.now place walk.now link) }
 {
     for (child, thread) in threads.iter().enumerate() {
-        if is_child(walk, link.child, thread) {
+        if thread.is_child_of(walk, link.child) {
             conjuncts.push(exited_before(alloc, events, place, link, child, thread)?)?;
         }
     }
@@ -152,14 +152,4 @@ pub(crate) fn is_exit(kind: EventKind) -> bool
     ensures { result ≡ is_exit kind }
 {
     matches!(kind, EventKind::Exit)
-}
-
-/// Whether `thread` is the child `number` of `parent`.
-pub(crate) fn is_child(parent: &Walk, number: u32, thread: &Walk) -> bool
-    ensures { result ≡ is_child parent.now number thread.now }
-{
-    match thread.name().children().split_last() {
-        Some((last, front)) => *last == number && front == parent.name().children(),
-        None => false,
-    }
 }

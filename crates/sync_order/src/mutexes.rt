@@ -1,29 +1,12 @@
 //! A mutex is released before it is taken again.
-ghost use Rattle.std.specs.Prelude.{◌≡◌, ◌++◌, flat_map, map, option_to_list, IfOk, OnOk};
+ghost use Rattle.std.specs.Prelude.{◌≡◌, ◌++◌, flat_map, option_to_list, IfOk, OnOk};
 ghost use Rattle.order_events.specs.lawful_order.Events.{all_from};
 ghost use Rattle.sync_order.specs.Mutexes.{exclude, excludes, exclusive, left_before, of_pairs};
 
-use order_events::{Events, one_of};
+use order_events::{Events, Placed, one_of, push_items};
 use order_formula::{Conjunct, Group, Literal};
 use path_walk::{Region, Walk};
 use std::alloc::{AllocError, Global};
-use std::marker::Model;
-
-/// A region of a thread, with the thread's index in the paths.
-#[derive(Debug, Drop)]
-struct PlacedRegion {
-    thread: usize,
-    region: Region,
-}
-
-impl Model for PlacedRegion {
-    ghost use Rattle.order_events.specs.lawful_order.Events.{Of};
-    ghost use Rattle.path_walk.specs.declared.event.Region.{Region};
-
-    ghost Value = { Of Region };
-
-    ghost view = { λ p. record { thread = p.thread; it = p.region } };
-}
 
 /// Appends the conjuncts of every two regions of the same mutex.
 pub(crate) fn push_mutexes(
@@ -40,38 +23,21 @@ pub(crate) fn push_mutexes(
 }
 
 /// All regions, one thread after another.
-fn all_regions(alloc: Global, threads: &[Walk]) -> Result<Vec<PlacedRegion>, AllocError>
+fn all_regions(alloc: Global, threads: &[Walk]) -> Result<Vec<Placed<Region>>, AllocError>
     ensures { IfOk result (λ all. all.items ≡ all_from (λ q. q.regions) 0 threads.now) }
 {
     let mut all = Vec::new(alloc);
     for (thread, walk) in threads.iter().enumerate() {
-        push_regions(&mut all, thread, walk.regions())?;
+        push_items(&mut all, thread, walk.regions())?;
     }
     Ok(all)
-}
-
-/// Appends the regions of a thread.
-fn push_regions(
-    all: &mut Vec<PlacedRegion>,
-    thread: usize,
-    regions: &[Region],
-) -> Result<(), AllocError>
-    ensures { OnOk result (all.new.items ≡ all.old.items ++ map (λ x. record { thread = thread; it = x }) regions.now) }
-{
-    for region in regions {
-        all.push(PlacedRegion {
-            thread,
-            region: *region,
-        })?;
-    }
-    Ok(())
 }
 
 /// Appends the conjuncts of each region with all later ones.
 fn push_pairs(
     alloc: Global,
     events: &Events,
-    regions: &[PlacedRegion],
+    regions: &[Placed<Region>],
     conjuncts: &mut Vec<Conjunct>,
 ) -> Result<(), AllocError>
     ensures { OnOk result (conjuncts.new.items ≡ conjuncts.old.items ++ of_pairs (exclusive events.now) regions.now) }
@@ -86,8 +52,8 @@ fn push_pairs(
 fn push_exclusive(
     alloc: Global,
     events: &Events,
-    region: &PlacedRegion,
-    others: &[PlacedRegion],
+    region: &Placed<Region>,
+    others: &[Placed<Region>],
     conjuncts: &mut Vec<Conjunct>,
 ) -> Result<(), AllocError>
     ensures { OnOk result (conjuncts.new.items ≡ conjuncts.old.items ++ flat_map (exclusive events.now region.now) others.now) }
@@ -101,19 +67,19 @@ fn push_exclusive(
 }
 
 /// Whether two regions are distinct and of the same mutex.
-fn exclude(region: &PlacedRegion, other: &PlacedRegion) -> bool
+fn exclude(region: &Placed<Region>, other: &Placed<Region>) -> bool
     ensures { result ≡ exclude region.now other.now }
 {
-    region.region.mutex == other.region.mutex
-        && !(region.thread == other.thread && region.region.from == other.region.from)
+    region.it.mutex == other.it.mutex
+        && !(region.thread == other.thread && region.it.from == other.it.from)
 }
 
 /// One of two regions ends before the other begins.
 fn excludes(
     alloc: Global,
     events: &Events,
-    region: &PlacedRegion,
-    other: &PlacedRegion,
+    region: &Placed<Region>,
+    other: &Placed<Region>,
 ) -> Result<Conjunct, AllocError>
     ensures { IfOk result (λ conjunct. conjunct ≡ excludes events.now region.now other.now) }
 {
@@ -124,13 +90,13 @@ fn excludes(
     if let Some(way) = left_before(events, other, region) {
         ways.push(way)?;
     }
-    one_of(alloc, Group::Mutex(region.region.mutex), ways.as_slice())
+    one_of(alloc, Group::Mutex(region.it.mutex), ways.as_slice())
 }
 
 /// The literal that a region's end, if it has one, comes before the beginning of another.
-fn left_before(events: &Events, region: &PlacedRegion, other: &PlacedRegion) -> Option<Literal>
+fn left_before(events: &Events, region: &Placed<Region>, other: &Placed<Region>) -> Option<Literal>
     ensures { option_to_list result ≡ left_before events.now region.now other.now }
 {
-    let to = region.region.to?;
-    Some(events.before(region.thread, to, other.thread, other.region.from))
+    let to = region.it.to?;
+    Some(events.before(region.thread, to, other.thread, other.it.from))
 }

@@ -5,7 +5,7 @@ ghost use Rattle.order_events.specs.lawful_order.Events.{all_events, all_sleeps}
 ghost use Rattle.sync_order.specs.Children.{is_exit};
 ghost use Rattle.sync_order.specs.Stuck.{cannot_go_on, cases_if, has_exited, is_held, is_open, sleeps_on, stuck_formula, not_ended_literal};
 
-use crate::children::{is_child, is_exit};
+use crate::children::is_exit;
 use condition_order::{Ender, enders};
 use order_events::{Events, Sleeps};
 use order_formula::{Atom, Body, Case, Cases, Conjunct, Group, Literal};
@@ -113,7 +113,7 @@ fn has_exited(threads: &[Walk], parent: &Walk, number: u32) -> bool
     ensures { result ≡ has_exited threads.now parent.now number }
 {
     for walk in threads {
-        if is_child(parent, number, walk) && has_exit(walk.events()) {
+        if walk.is_child_of(parent, number) && has_exit(walk.events()) {
             return true;
         }
     }
@@ -144,8 +144,8 @@ fn sleeps_on(
 {
     let mut literals = Vec::new(alloc);
     for (number, placed) in sleeps.all().iter().enumerate() {
-        if placed.thread == thread && placed.sleep.step == step {
-            let enders = enders(alloc, events, placed.sleep.condition)?;
+        if placed.thread == thread && placed.it.step == step {
+            let enders = enders(alloc, events, placed.it.condition)?;
             push_unended(number as u32, enders.as_slice(), &mut literals)?;
         }
     }

@@ -1,5 +1,5 @@
 //! Names of threads.
-ghost use Rattle.std.specs.Prelude.{◌≡◌, ◌≤◌, ℕ, ◌+◌, List, [], ◌∷◌, ◌++◌, IfOk, nat_eq, Some};
+ghost use Rattle.std.specs.Prelude.{◌≡◌, ◌≤◌, ℕ, ◌+◌, List, [], ◌∷◌, ◌++◌, IfOk, bytes_eq, nat_eq, Some};
 ghost use Rattle.std.specs.Ordering.{nat_cmp, as_partial_cmp};
 ghost use Rattle.std.specs.Cmp.Lexicographic.{slice_cmp, pointwise};
 ghost use Rattle.std.specs.Cmp.Rules.{comparing};
@@ -47,6 +47,16 @@ impl ThreadName {
         let mut name = self.clone()?;
         name.children.push(number)?;
         Ok(name)
+    }
+
+    /// Whether this is the name of the parent's child of that number.
+    pub fn is_child_of(&self, parent: &ThreadName, number: u32) -> bool
+        ensures { result ≡ bytes_eq self.now (child parent.now number) }
+    {
+        match self.children().split_last() {
+            Some((last, front)) => *last == number && front == parent.children(),
+            None => false,
+        }
     }
 
     /// The numbers of the creates, from main on.

@@ -35,7 +35,6 @@ use Rattle.tc_io.specs.Outside.{
   capped_sum,
   without_reading,
   FailedAfter,
-  FailedToOpen,
   Opened,
   GavePiece,
   FailedToGivePiece,
@@ -77,10 +76,6 @@ no_more_than_all (Some files) name bytes (Some xs) count e within =
     let all : bytes_at files name ≡ bytes ++ xs = cc in
     omega (arith, ap length all ∙ length-append bytes xs, within)
 
-none_of_all : (held : Option Files) (name : List ℕ) → IfSome held (λ files. 0 ≤ length (bytes_at files name))
-none_of_all None name = tt
-none_of_all (Some files) name = omega arith
-
 -- a reading that was just opened has given nothing
 pub begins : (old new : ShelfTells) (name : List ℕ) → Opened old new name → GaveSoFar old new name []
 begins old new name opened =
@@ -107,10 +102,6 @@ gave_all old s new name bytes so_far gave =
     let more = subst (GaveSoFar old new name) (append-nil bytes) (gives old s new name bytes [] so_far gave) in
     let all = all_at_end old.held name bytes new.reading more.1 (gave.2 refl) in
     (more.0 ∙ ap (λ reading. record old { taken = capped_sum old.taken (length bytes); open_name = Some name; reading = reading }) all.0, all.1)
-
--- a reading that couldn't be opened failed
-pub open_failed : (old new : ShelfTells) (name : List ℕ) → FailedToOpen old new name → FailedReading old new name
-open_failed old new name failed = (0, none_of_all old.held name, failed)
 
 -- a reading that couldn't give a piece failed
 pub piece_failed : (old s new : ShelfTells) (name bytes : List ℕ) (most : ℕ) → GaveSoFar old s name bytes → FailedToGivePiece s new most

@@ -4,7 +4,7 @@ use Rattle.std.specs.Prelude.{not}
 use Rattle.std.specs.List.{count_by, prefix_len, suffix_len}
 use Rattle.std.proofs.lemmas.Bool.{cases_Bool, cond-true, cond-false, not_from_true, not_from_false}
 use Rattle.std.proofs.lemmas.List.{append-nil, reverse-append}
-use Rattle.std.proofs.lemmas.List.Sums.{sum_by-append, count_by-le-length, suffix_len-le-length}
+use Rattle.std.proofs.lemmas.List.Sums.{sum_by-append, suffix_len-le-length}
 use Rattle.tc_lexer.specs.declared.place.Place.{Place}
 use Rattle.tc_lexer.specs.Pieces.{is_line_feed}
 use Rattle.tc_lexer.specs.Places.{place_after}
@@ -45,10 +45,6 @@ place_after-append [] before = ap place_after (append-nil before)
 place_after-append (b ∷ bs) before =
     ap place_after (sym (append_assoc before (b ∷ []) bs))
     ∙ (place_after-append bs (before ++ b ∷ []) ∙ ap (λ (p : Place). place_from p bs) (place_more before b))
-
--- the line of a place is at most 1 plus the number of bytes before it
-pub place_after-line : (before : List ℕ) → (place_after before).line ≤ 1 + length before
-place_after-line before = omega (arith, count_by-le-length is_line_feed before)
 
 pub place_after-col : (before : List ℕ) → (place_after before).col ≤ 1 + length before
 place_after-col before = omega (arith, suffix_len-le-length is_other before)

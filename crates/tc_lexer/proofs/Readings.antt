@@ -132,9 +132,6 @@ pub record IsRead (language : ℕ) (text : List ℕ) (tokens : List SpannedToken
   pub within : start ≤ length text
   pub place_is : place ≡ place_after (take start text)
 
-pub read_none : (language : ℕ) (text : List ℕ) → IsRead language text [] 0 (record { line = 1; col = 1 })
-read_none language text = record { pieces = []; read = refl; tokens_are = refl; within = omega arith; place_is = refl }
-
 read_before : (language : ℕ) (text : List ℕ) (ps : List Piece) (start : ℕ) → start ≤ length text → ArePieces language text ps (drop start text)
     → all_written ps ≡ take start text
 read_before language text ps start h x =

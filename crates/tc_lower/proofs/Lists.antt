@@ -1,7 +1,7 @@
 -- Lists of instructions.
-use Rattle.std.proofs.Common.{◌≡◌, ℕ, suc, ◌+◌, ◌-◌, ◌<◌, ◌≤◌, List, [], ◌∷◌, ◌++◌, length, map, take, drop, set, get_or}
-use Rattle.std.proofs.Common.{ap, sym, ◌∙◌, append_assoc, arith, add-one, length-append}
-use Rattle.std.proofs.Math.Seq.{drop-cons, take-length, set-append_seam}
+use Rattle.std.proofs.Common.{◌≡◌, ℕ, suc, ◌+◌, ◌-◌, ◌<◌, List, [], ◌∷◌, ◌++◌, length, map, drop, set, get_or}
+use Rattle.std.proofs.Common.{ap, sym, ◌∙◌, append_assoc, add-one, length-append}
+use Rattle.std.proofs.Math.Seq.{drop-cons, set-append_seam}
 use Rattle.std.proofs.lemmas.List.{map-set, length-map, length-replicate}
 
 -- laws of lists that are written one after another
@@ -32,10 +32,3 @@ drop-here xs k x within is =
 pub drop-next : {A B : Type 0} (f : A → B) (xs : List A) (k : ℕ) (x : A) → k < length xs → x ≡ get_or xs k x
     → map f (drop k xs) ≡ f x ∷ map f (drop (k + 1) xs)
 drop-next f xs k x within is = ap (map f) (drop-here xs k x within is)
-
--- a list that isn't empty is its first element and the rest
-pub rest_is : {A : Type 0} (rest : List A) (x : A) → 1 ≤ length rest → rest ≡ get_or rest 0 x ∷ take (length rest - 1) (drop 1 rest)
-rest_is [] x some = absurd (omega (arith, some))
-rest_is (y ∷ ys) x some =
-    let e : length (y ∷ ys) - 1 ≡ length ys = omega arith in
-    ap (λ zs. y ∷ zs) (sym (rw e (take-length ys)))

@@ -7,7 +7,6 @@ use Rattle.std.proofs.Common.{
   ◌≤◌,
   ◌^◌,
   List,
-  [],
   ◌∷◌,
   ◌++◌,
   length,
@@ -15,9 +14,7 @@ use Rattle.std.proofs.Common.{
   get_or,
   Option,
   ap,
-  sym,
   ◌∙◌,
-  append_assoc,
   arith,
   length-append,
 }
@@ -52,30 +49,3 @@ module _ (scope : Name → Option Thing) (start w : Writer) (values : List Expr)
       let parts : start.draft ++ (arguments scope (length start.draft) start.free all).instrs ≡ w.draft ++ (first.instrs ++ others.instrs) =
       so_far.instrs ∙ ap (λ es. w.draft ++ (arguments scope (length w.draft) w.free es).instrs) next_is in
       omega (arith, fits, simp length-append at (ap length parts))
-
-  -- after the next argument, it is among what was written
-  pub argument_next : (new : Writer) (v : Expr)
-      → new.draft ≡ w.draft ++ (evaluated scope (length w.draft) w.free x).instrs
-      → new.free ≡ (evaluated scope (length w.draft) w.free x).free
-      → v ≡ (evaluated scope (length w.draft) w.free x).value → new.free ≤ length new.draft + PROGRAM_BYTES
-      → ArgumentsSoFar scope start new (values ++ v ∷ []) all (drop (k + 1) xs)
-  argument_next new v draft free value room =
-      let first = evaluated scope (length w.draft) w.free x in
-      let later = (drop (k + 1) xs) in
-      let place : length new.draft ≡ length w.draft + length first.instrs = ap length draft ∙ length-append w.draft first.instrs in
-      let others : arguments scope (length w.draft + length first.instrs) first.free later ≡ arguments scope (length new.draft) new.free later =
-      ap (λ n. arguments scope n first.free later) (sym place) ∙ ap (λ n. arguments scope (length new.draft) n later) (sym free) in
-      record {
-        instrs =
-            so_far.instrs ∙ ap (λ es. w.draft ++ (arguments scope (length w.draft) w.free es).instrs) next_is
-            ∙ ap (λ o. w.draft ++ (first.instrs ++ o.instrs)) others
-            ∙ sym (append_assoc w.draft first.instrs _)
-            ∙ ap (λ d. d ++ (arguments scope (length new.draft) new.free later).instrs) (sym draft);
-        free = so_far.free ∙ ap (λ es. (arguments scope (length w.draft) w.free es).free) next_is ∙ ap (λ o. o.free) others;
-        found =
-            so_far.found ∙ ap (λ es. values ++ (arguments scope (length w.draft) w.free es).values) next_is
-            ∙ ap (λ o. values ++ (first.value ∷ o.values)) others
-            ∙ ap (λ e. values ++ (e ∷ (arguments scope (length new.draft) new.free later).values)) (sym value)
-            ∙ sym (append_assoc values (v ∷ []) _);
-        room = room;
-      }

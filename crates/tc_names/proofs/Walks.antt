@@ -3,7 +3,6 @@ use Rattle.std.proofs.Common.{
   ◌≡◌,
   ℕ,
   ◌+◌,
-  ◌<◌,
   ◌≤◌,
   List,
   [],
@@ -56,28 +55,6 @@ pub record OwnSoFar (source : List ℕ) (own : List Declaration) (count : ℕ) (
   pub same : declarations_fault source [] own ≡ declarations_fault source (take count own) rest
   pub left : drop count own ≡ rest
 
-pub own_step : (source : List ℕ) (own : List Declaration) (count : ℕ) (rest : List Declaration) (d : Declaration) (later : List Declaration)
-    → OwnSoFar source own count rest → rest ≡ d ∷ later → twice_fault source (take count own) d.name ≡ None → OwnSoFar source own (count + 1) later
-own_step source own count rest d later o e clear =
-    let n = next own count d later (o.left ∙ e) in
-    record {
-      same = o.same ∙ ap (λ (ds : List Declaration). declarations_fault source (take count own) ds) e
-          ∙ ap (λ (f : Option NameFault). f then declarations_fault source (take count own ++ d ∷ []) later) clear
-          ∙ ap (λ (ds : List Declaration). declarations_fault source ds later) (sym n.taken);
-      left = n.left;
-    }
-
-pub own_fails : (source : List ℕ) (own : List Declaration) (count : ℕ) (rest : List Declaration) (d : Declaration) (later : List Declaration)
-    (f : NameFault) → OwnSoFar source own count rest → rest ≡ d ∷ later → twice_fault source (take count own) d.name ≡ Some f
-    → declarations_fault source [] own ≡ Some f
-own_fails source own count rest d later f o e bad =
-    o.same ∙ ap (λ (ds : List Declaration). declarations_fault source (take count own) ds) e
-    ∙ ap (λ (g : Option NameFault). g then declarations_fault source (take count own ++ d ∷ []) later) bad
-
-pub own_within : (source : List ℕ) (own : List Declaration) (count : ℕ) (rest : List Declaration) (d : Declaration) (later : List Declaration)
-    → OwnSoFar source own count rest → rest ≡ d ∷ later → count < length own
-own_within source own count rest d later o e = (next own count d later (o.left ∙ e)).within
-
 -- the rest of a list after its first element
 pub later_is : {A : Type 0} (x : A) (xs : List A) → take (length (x ∷ xs) - 1) (drop 1 (x ∷ xs)) ≡ xs
 later_is x xs = let e : length (x ∷ xs) - 1 ≡ length xs = omega arith in rw e (take-length xs)
@@ -102,21 +79,6 @@ globals_step source all globals count rest g later o e clear =
           ∙ ap (λ (ds : List Declaration). globals_fault source ds later) (sym n.taken);
       left = n.left;
     }
-
-pub globals_fail : (source : List ℕ) (all : List Declaration) (globals : List Global) (count : ℕ) (rest : List Global) (g : Global)
-    (later : List Global) (f : NameFault) → GlobalsSoFar source all globals count rest → rest ≡ g ∷ later
-    → (twice_fault source (take count all) (global_name g) then size_fault g) ≡ Some f → globals_fault source [] globals ≡ Some f
-globals_fail source all globals count rest g later f o e bad =
-    let more = globals_fault source (take count all ++ global_declaration g ∷ []) later in
-    o.same ∙ ap (λ (gs : List Global). globals_fault source (take count all) gs) e
-    ∙ sym (then-assoc (twice_fault source (take count all) (global_name g)) (size_fault g) more)
-    ∙ ap (λ (h : Option NameFault). h then more) bad
-
-pub globals_within : (source : List ℕ) (all : List Declaration) (globals : List Global) (count : ℕ) (rest : List Global) (g : Global)
-    (later : List Global) → GlobalsSoFar source all globals count rest → rest ≡ g ∷ later → count < length all
-globals_within source all globals count rest g later o e =
-    (next all count (global_declaration g) (map global_declaration later ++ drop (length globals) all) (o.left
-    ∙ ap (λ (gs : List Global). map global_declaration gs ++ drop (length globals) all) e)).within
 
 pub globals_on : (source : List ℕ) (all : List Declaration) (globals : List Global) (count : ℕ) (rest : List Global) (d : Global)
     → GlobalsSoFar source all globals count rest → 1 ≤ length rest
@@ -145,28 +107,6 @@ threads_step source all earlier threads count rest t later o e clear good =
           ∙ ap (λ (ds : List Declaration). threads_fault source all ds later) (sym n.taken);
       left = n.left;
     }
-
-pub threads_fail : (source : List ℕ) (all earlier : List Declaration) (threads : List Thread) (count : ℕ) (rest : List Thread) (t : Thread)
-    (later : List Thread) (f : NameFault) → ThreadsSoFar source all earlier threads count rest → rest ≡ t ∷ later
-    → twice_fault source (take count all) t.name ≡ Some f → threads_fault source all earlier threads ≡ Some f
-threads_fail source all earlier threads count rest t later f o e bad =
-    let more = threads_fault source all (take count all ++ thread_declaration t ∷ []) later in
-    o.same ∙ ap (λ (ts : List Thread). threads_fault source all (take count all) ts) e
-    ∙ ap (λ (g : Option NameFault). g then (body_fault source all t.parameters t.body then more)) bad
-
-pub threads_fail_inside : (source : List ℕ) (all earlier : List Declaration) (threads : List Thread) (count : ℕ) (rest : List Thread) (t : Thread)
-    (later : List Thread) (f : NameFault) → ThreadsSoFar source all earlier threads count rest → rest ≡ t ∷ later
-    → twice_fault source (take count all) t.name ≡ None → body_fault source all t.parameters t.body ≡ Some f → threads_fault source all earlier threads ≡ Some f
-threads_fail_inside source all earlier threads count rest t later f o e clear bad =
-    let more = threads_fault source all (take count all ++ thread_declaration t ∷ []) later in
-    o.same ∙ ap (λ (ts : List Thread). threads_fault source all (take count all) ts) e
-    ∙ ap (λ (g : Option NameFault). g then (body_fault source all t.parameters t.body then more)) clear
-    ∙ ap (λ (g : Option NameFault). g then more) bad
-
-pub threads_within : (source : List ℕ) (all earlier : List Declaration) (threads : List Thread) (count : ℕ) (rest : List Thread) (t : Thread)
-    (later : List Thread) → ThreadsSoFar source all earlier threads count rest → rest ≡ t ∷ later → count < length all
-threads_within source all earlier threads count rest t later o e =
-    (next all count (thread_declaration t) (map thread_declaration later) (o.left ∙ ap (λ (ts : List Thread). map thread_declaration ts) e)).within
 
 pub threads_on : (source : List ℕ) (all earlier : List Declaration) (threads : List Thread) (count : ℕ) (rest : List TreeThread) (d : TreeThread)
     → ThreadsSoFar source all earlier threads count (map thread_of rest) → 1 ≤ length rest → d ≡ get_or rest 0 d

@@ -1,5 +1,5 @@
 -- The composition of the parts' results.
-use Rattle.std.proofs.Common.{◌≡◌, ◌≢◌, ℕ, zero, suc, ◌-◌, ◌<◌, ◌≤◌, List, [], ◌∷◌, ◌++◌, length, None, refl, sym, ap, ◌∙◌, subst, arith, get_or}
+use Rattle.std.proofs.Common.{◌≡◌, ◌≢◌, ℕ, zero, suc, ◌-◌, ◌<◌, ◌≤◌, List, [], ◌∷◌, ◌++◌, length, refl, sym, ap, ◌∙◌, subst, arith, get_or}
 use Rattle.std.proofs.Common.{Err}
 use Rattle.std.proofs.lemmas.List.{length-map}
 use Rattle.tc_lexer.specs.declared.token.Token.{Token}
@@ -25,10 +25,9 @@ use Rattle.tc_names.specs.declared.fault.NameFault.TheVariants as name
 use Rattle.tc_names.specs.Names.{names_fault}
 use Rattle.tc_names.specs.Answers.{TellsUnlessMemory}
 use Rattle.tc_parser.specs.declared.fault.ParseFault.{ParseFault}
-use Rattle.tc_parser.specs.declared.fault.ParseFault.TheVariants.{Count, Syntax, Memory}
-use Rattle.tc_parser.specs.declared.fault.What.TheVariants.{Cells, Mutexes, Conditions}
-use Rattle.tc_parser.specs.Programs.{IsNested, long_stretch, AreOfProgram, IsTokensFault, IsProgramFault, place_at}
-use Rattle.tc_parser.specs.helpers.Parts.{IsCountFault, IsReadFault, fault_of}
+use Rattle.tc_parser.specs.declared.fault.ParseFault.TheVariants.{Memory}
+use Rattle.tc_parser.specs.Programs.{AreOfProgram, IsTokensFault, IsProgramFault, place_at}
+use Rattle.tc_parser.specs.helpers.Parts.{fault_of}
 
 -- ---- a text has no more declarations than bytes
 
@@ -78,12 +77,6 @@ few_globals language text tokens p read spelled = omega (
 
 -- ---- faults of the parts
 
-pub tree_fault : (text : List ℕ) (tokens : List Token) (fault : ParseFault) → AreTokens 3 text tokens → IsNested tokens → long_stretch tokens ≡ None
-    → IsReadFault text tokens fault → fault ≢ Memory → IsProgramFault 3 text fault
-tree_fault text tokens (Syntax place) read nested parted is h = record { tokens = tokens; read = read; is = (nested, parted, is) }
-tree_fault text tokens Memory read nested parted is h = absurd (h refl)
-tree_fault text tokens _ read nested parted is h = absurd is
-
 pub name_fault : (text : List ℕ) (tokens : List Token) (p : Program) (fault : NameFault) → AreTokens 3 text tokens → AreOfProgram 3 tokens p
     → TellsUnlessMemory {A = Unit {0}} (Err fault) (names_fault text p) → fault_of fault ≢ Memory → IsProgramFault 3 text (fault_of fault)
 name_fault text tokens p (name.Unknown place) read are is h = record { tokens = tokens; read = read; is = record { program = p; are_of = are; is = is } }
@@ -91,16 +84,6 @@ name_fault text tokens p (name.Twice place) read are is h = record { tokens = to
 name_fault text tokens p (name.Kind place) read are is h = record { tokens = tokens; read = read; is = record { program = p; are_of = are; is = is } }
 name_fault text tokens p (name.Arguments place) read are is h = record { tokens = tokens; read = read; is = record { program = p; are_of = are; is = is } }
 name_fault text tokens p name.Memory read are is h = absurd (h refl)
-
-pub count_fault : (text : List ℕ) (tokens : List Token) (p : Program) (fault : ParseFault) → AreTokens 3 text tokens → AreOfProgram 3 tokens p
-    → names_fault text p ≡ None → IsCountFault p.globals fault → IsProgramFault 3 text fault
-count_fault text tokens p (Count Cells n) read are names is =
-    record { tokens = tokens; read = read; is = (p, record { are_of = are; names = names }, is.0, is.1) }
-count_fault text tokens p (Count Mutexes n) read are names is =
-    record { tokens = tokens; read = read; is = (p, record { are_of = are; names = names }, is.0, is.1, is.2) }
-count_fault text tokens p (Count Conditions n) read are names is =
-    record { tokens = tokens; read = read; is = (p, record { are_of = are; names = names }, is.0, is.1, is.2, is.3) }
-count_fault text tokens p _ read are names is = absurd is
 
 -- ---- places
 

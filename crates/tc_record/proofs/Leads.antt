@@ -1,10 +1,9 @@
--- The moves of a seeded run lead to its state, and are at most as many as its words.
-use Rattle.std.proofs.Common.{◌≡◌, ◌∙◌, ◌≤◌, ℕ, zero, suc, ◌+◌, List, [], ◌∷◌, length, Option, Some, None, refl, ap, sym, arith}
+-- The moves of a seeded run lead to its state.
+use Rattle.std.proofs.Common.{◌≡◌, ◌∙◌, ℕ, List, [], ◌∷◌, Option, Some, None, refl, ap}
 use Rattle.std.specs.Prelude.{option_and_then}
 use Rattle.std.specs.Option.{option_map_or}
-use Rattle.rand_core.specs.Steps.{first_words, stream_of}
-use Rattle.rand_core.specs.Stream.{Stream, next_u64}
-use Rattle.rand_xoshiro.specs.SplitMix64.{mix_u64, splitmix_steps}
+use Rattle.rand_core.specs.Steps.{first_words}
+use Rattle.rand_xoshiro.specs.SplitMix64.{mix_u64}
 use Rattle.tc_base.specs.Buffers.{BufferOps}
 use Rattle.tc_base.specs.States.{State}
 use Rattle.tc_base.specs.declared.moves.Move.{Move}
@@ -15,7 +14,6 @@ use Rattle.tc_record.specs.declared.end.End.{End}
 use Rattle.tc_record.specs.declared.end.End.TheVariants as end
 use Rattle.tc_record.specs.Ends.{end_at, end_without_moves}
 use Rattle.tc_record.specs.Seeded.{Ended, run_ended_at, with_moves_before, chosen_move, run_by_move, seeded_from, seeded_run}
-use Rattle.tc_record.proofs.Runs.{words, words_of_seed}
 
 module _ {B : Type 0} (ops : BufferOps B) (code : Code) where
   abbrev Leads : State B → Ended B → Type 0
@@ -46,35 +44,3 @@ module _ {B : Type 0} (ops : BufferOps B) (code : Code) where
   -- the moves of a seeded run lead to its state
   pub run_leads : (seed steps : ℕ) → run ops code (seeded_run ops code seed steps).moves ≡ Some (seeded_run ops code seed steps).state
   run_leads seed steps = leads_from (first_words mix_u64 steps seed) (opening ops code)
-
-  few_either : (k : ℕ) (u : State B) (m : Move) (o : Option End) (r : Ended B) → length r.moves ≤ k
-      → length (with_moves_before (m ∷ []) (option_map_or (run_ended_at u) o r)).moves ≤ k + 1
-  few_either k u m None r h = omega (arith, h)
-  few_either k u m (Some e) r h = omega arith
-
-  module _ (k : ℕ) (s : State B) (on : State B → Ended B) (few : (u : State B) → length (on u).moves ≤ k) where
-    few_made : (m : Move) (o : Option (State B))
-        → length (option_map_or (λ u. with_moves_before (m ∷ []) (option_map_or (run_ended_at u) (end_at u) (on u))) o (run_ended_at s end.StepLimit)).moves ≤ k + 1
-    few_made m None = omega arith
-    few_made m (Some u) = few_either k u m (end_at u) (on u) (few u)
-
-    few_chosen : (o : Option Move) (e : End) → length (option_map_or (run_by_move ops code s on) o (run_ended_at s e)).moves ≤ k + 1
-    few_chosen None e = omega arith
-    few_chosen (Some m) e = few_made m (step ops code s m)
-
-  few_from : (ws : List ℕ) (s : State B) → length (seeded_from ops code s ws).moves ≤ length ws
-  few_from [] s = omega arith
-  few_from (w ∷ ws) s =
-      omega (arith, few_chosen (length ws) s (λ u. seeded_from ops code u ws) (few_from ws) (chosen_move ops code s w) (end_without_moves s))
-
-  so_many : (k : ℕ) (s : Stream) → length (words k s) ≡ k
-  so_many zero s = refl
-  so_many (suc k) s = ap suc (so_many k (next_u64 s).1)
-
-  -- there are at most as many moves as allowed
-  pub run_is_short : (seed steps : ℕ) → length (seeded_run ops code seed steps).moves ≤ steps
-  run_is_short seed steps =
-      let few = few_from (first_words mix_u64 steps seed) (opening ops code) in
-      let count : length (first_words mix_u64 steps seed) ≡ steps =
-      ap length (sym (words_of_seed steps seed)) ∙ so_many steps (stream_of splitmix_steps seed) in
-      omega (arith, few, count)

@@ -15,8 +15,6 @@ use Rattle.tc_record.specs.declared.end.End.{End}
 use Rattle.tc_record.specs.declared.end.End.TheVariants as end
 use Rattle.tc_record.specs.declared.seeded.Seeded.{Seeded}
 use Rattle.tc_record.specs.declared.seeded.Seeded.TheVariants.{Failed, Finished, Deadlock, StepLimit}
-use Rattle.tc_record.specs.declared.seeded.Recorded.{Recorded}
-use Rattle.tc_record.specs.declared.seeded.Recorded.TheVariants as recorded
 use Rattle.tc_record.specs.declared.seeded.SeededFault.{SeededFault}
 use Rattle.tc_record.specs.declared.seeded.SeededFault.TheVariants.{Limit, Memory}
 use Rattle.tc_record.specs.Ends.{limit_of, end_at, end_without_moves}
@@ -69,40 +67,23 @@ module _ {B : Type 0} (ops : BufferOps B) (code : Code) where
 abbrev pub HasLog : {B : Type 0} → Ended B → Type 0
 HasLog run = (run.end ≡ end.Failed) ⊎ (run.end ≡ end.Deadlock)
 
--- an answer that matches the run: its end, its moves, and its log if it has one
-abbrev pub IsAnswer : {B : Type 0} → Model → Ended B → Result Seeded SeededFault → Type 0
-IsAnswer model run (Ok (Failed log moves)) =
-    (run.end ≡ end.Failed) × (moves.items ≡ run.moves) × IsLogOf model run.state log
-IsAnswer model run (Ok (Finished moves)) = (run.end ≡ end.Finished) × (moves.items ≡ run.moves)
-IsAnswer model run (Ok (Deadlock log moves)) =
-    (run.end ≡ end.Deadlock) × (moves.items ≡ run.moves) × IsLogOf model run.state log
-IsAnswer model run (Ok (StepLimit moves)) = (run.end ≡ end.StepLimit) × (moves.items ≡ run.moves)
-IsAnswer model run (Err (Limit which found most)) =
-    (run.end ≡ end.Over which) × (found ≡ limit_of which + 1) × (most ≡ limit_of which)
-IsAnswer model run (Err Memory) = Unit {0}
-
--- the same for an answer with the line of a failure
-abbrev pub IsRecordOf : {B : Type 0} → Model → Code → Ended B → Result Recorded SeededFault → Type 0
-IsRecordOf model code run (Ok (recorded.Failed log moves line)) =
+-- an answer that matches the run: its end, its moves, its log if it has one, and the failing line
+abbrev pub IsAnswer : {B : Type 0} → Model → Code → Ended B → Result Seeded SeededFault → Type 0
+IsAnswer model code run (Ok (Failed log moves line)) =
     (run.end ≡ end.Failed) × (moves.items ≡ run.moves) × IsLogOf model run.state log
     × (failing_line code run.state ≡ Some line)
-IsRecordOf model code run (Ok (recorded.Finished moves)) =
+IsAnswer model code run (Ok (Finished moves)) =
     (run.end ≡ end.Finished) × (moves.items ≡ run.moves)
-IsRecordOf model code run (Ok (recorded.Deadlock log moves)) =
+IsAnswer model code run (Ok (Deadlock log moves)) =
     (run.end ≡ end.Deadlock) × (moves.items ≡ run.moves) × IsLogOf model run.state log
-IsRecordOf model code run (Ok (recorded.StepLimit moves)) =
+IsAnswer model code run (Ok (StepLimit moves)) =
     (run.end ≡ end.StepLimit) × (moves.items ≡ run.moves)
-IsRecordOf model code run (Err (Limit which found most)) =
+IsAnswer model code run (Err (Limit which found most)) =
     (run.end ≡ end.Over which) × (found ≡ limit_of which + 1) × (most ≡ limit_of which)
-IsRecordOf model code run (Err Memory) = Unit {0}
+IsAnswer model code run (Err Memory) = Unit {0}
 
 -- P holds of the log and the moves, if the answer is a failure or a deadlock
 abbrev pub IfLogged : Result Seeded SeededFault → (StoredLog → List Move → Type 0) → Type 0
-IfLogged (Ok (Failed log moves)) P = P log moves.items
+IfLogged (Ok (Failed log moves line)) P = P log moves.items
 IfLogged (Ok (Deadlock log moves)) P = P log moves.items
 IfLogged _ P = Unit {0}
-
-abbrev pub IfRecorded : Result Recorded SeededFault → (StoredLog → List Move → Type 0) → Type 0
-IfRecorded (Ok (recorded.Failed log moves line)) P = P log moves.items
-IfRecorded (Ok (recorded.Deadlock log moves)) P = P log moves.items
-IfRecorded _ P = Unit {0}

@@ -13,6 +13,6 @@ pub use end::Which;
 pub use laws::{
     ended_runs_have_logs, ended_runs_have_texts, ended_runs_reproduce_logs, recorded_logs_fit,
 };
-pub use recording::{record_run, run_seeded};
-pub use seeded::{Recorded, Seeded, SeededFault};
+pub use recording::run_seeded;
+pub use seeded::{Seeded, SeededFault};
 pub use words::seed_words;

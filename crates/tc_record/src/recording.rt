@@ -5,14 +5,13 @@ ghost use Rattle.path_log.specs.Texts.{is_of_format};
 ghost use Rattle.path_laws.specs.path_walk.Fits.{Fits};
 ghost use Rattle.tc_record.specs.Logged.{is_small};
 ghost use Rattle.tc_record.specs.Seeded as spec;
-ghost use Rattle.tc_record.specs.Seeded.{seeded_run, IsAnswer, IfLogged, IsRecordOf, IfRecorded};
-ghost use Rattle.tc_record.specs.helpers.Recorded.{without_line};
+ghost use Rattle.tc_record.specs.Seeded.{seeded_run, IsAnswer, IfLogged};
 ghost use Rattle.tc_record.specs.helpers.Turns.{IsTurn, IsEndAt};
 
 use crate::end::{End, end_at, end_without_moves};
 use crate::failing::line_of;
 use crate::logged::log_of;
-use crate::seeded::{Recorded, Seeded, SeededFault};
+use crate::seeded::{Seeded, SeededFault};
 use rand_core::{Rng, SeedableRng};
 use rand_xoshiro::SplitMix64;
 use std::alloc::{AllocError, Global};
@@ -33,7 +32,7 @@ pub fn run_seeded<M: MemoryModel>(
     seed: u64,
     steps: u32,
 ) -> Result<Seeded, SeededFault>
-    ensures answer { IsAnswer M.MODEL (seeded_run M.ops code.now seed steps) result }
+    ensures answer { IsAnswer M.MODEL code.now (seeded_run M.ops code.now seed steps) result }
     // The moves that were made reproduce the log of a failure or a deadlock, and the log fits the
     // text format.
     ensures reproduced { IfLogged result (λ stored moves. Reproduces M.ops code.now stored.log moves) }
@@ -42,39 +41,6 @@ pub fn run_seeded<M: MemoryModel>(
     ensures small { IfLogged result (λ stored moves. IsTrue (is_small stored.log)) }
     // The log fits the code.
     ensures fits { IfLogged result (λ stored moves. Fits code.now stored.log) }
-{
-    drop_line(record_run::<M>(alloc, code, seed, steps))
-}
-
-/// The result of a run without the line of its failure.
-fn drop_line(recorded: Result<Recorded, SeededFault>) -> Result<Seeded, SeededFault>
-    ensures { result ≡ without_line recorded }
-{
-    match recorded {
-        Ok(Recorded::Failed(log, moves, _)) => Ok(Seeded::Failed(log, moves)),
-        Ok(Recorded::Finished(moves)) => Ok(Seeded::Finished(moves)),
-        Ok(Recorded::Deadlock(log, moves)) => Ok(Seeded::Deadlock(log, moves)),
-        Ok(Recorded::StepLimit(moves)) => Ok(Seeded::StepLimit(moves)),
-        Err(fault) => Err(fault),
-    }
-}
-
-/// Runs a program as [`run_seeded`] does, and also returns the line of a failure.
-pub fn record_run<M: MemoryModel>(
-    alloc: Global,
-    code: &Code,
-    seed: u64,
-    steps: u32,
-) -> Result<Recorded, SeededFault>
-    ensures answer { IsRecordOf M.MODEL code.now (seeded_run M.ops code.now seed steps) result }
-    // The moves that were made reproduce the log of a failure or a deadlock, and the log fits the
-    // text format.
-    ensures reproduced { IfRecorded result (λ stored moves. Reproduces M.ops code.now stored.log moves) }
-    ensures of_format { IfRecorded result (λ stored moves. IsTrue (is_of_format stored.log)) }
-    // The log is within the limits of recorded runs.
-    ensures small { IfRecorded result (λ stored moves. IsTrue (is_small stored.log)) }
-    // The log fits the code.
-    ensures fits { IfRecorded result (λ stored moves. Fits code.now stored.log) }
 {
     // A code is lawful by its type, so the logs of its runs fit it.
     let _ = code.functions();
@@ -87,7 +53,7 @@ pub fn record_run<M: MemoryModel>(
             return answer(alloc, code, &state, made, end);
         }
     }
-    Ok(Recorded::StepLimit(made))
+    Ok(Seeded::StepLimit(made))
 }
 
 /// Makes the move that a word chooses, and returns what ends the run, if anything.
@@ -137,16 +103,16 @@ fn answer<M: MemoryModel>(
     state: &State<M>,
     made: Vec<Move>,
     end: End,
-) -> Result<Recorded, SeededFault>
+) -> Result<Seeded, SeededFault>
     requires leads { run M.ops code.now made.items ≡ Some state.now }
     requires ends { IsEndAt M.ops code.now state.now (Some end) }
-    ensures { IsRecordOf M.MODEL code.now (record { moves = made.items; state = state.now; end = end }) result }
+    ensures { IsAnswer M.MODEL code.now (record { moves = made.items; state = state.now; end = end }) result }
 {
     match end {
         End::Over(which) => Err(SeededFault::Limit(which, which.limit() + 1, which.limit())),
-        End::Failed => Ok(Recorded::Failed(log_of(alloc, state)?, made, line_of(code, state))),
-        End::Finished => Ok(Recorded::Finished(made)),
-        End::Deadlock => Ok(Recorded::Deadlock(log_of(alloc, state)?, made)),
-        End::StepLimit => Ok(Recorded::StepLimit(made)),
+        End::Failed => Ok(Seeded::Failed(log_of(alloc, state)?, made, line_of(code, state))),
+        End::Finished => Ok(Seeded::Finished(made)),
+        End::Deadlock => Ok(Seeded::Deadlock(log_of(alloc, state)?, made)),
+        End::StepLimit => Ok(Seeded::StepLimit(made)),
     }
 }

@@ -10,20 +10,6 @@ use tc_base::Move;
 /// How a seeded run ended, with the moves that it made.
 #[derive(Debug, Drop)]
 pub enum Seeded {
-    /// A thread failed. The log, which the moves reproduce, has no digest.
-    Failed(Log, Vec<Move>),
-    /// Every thread exited.
-    Finished(Vec<Move>),
-    /// No move was enabled, but some thread had not exited. The log, which the moves reproduce, has
-    /// no digest.
-    Deadlock(Log, Vec<Move>),
-    /// The run made as many moves as it may make.
-    StepLimit(Vec<Move>),
-}
-
-/// How a seeded run ended, with the line of a failure.
-#[derive(Debug, Drop)]
-pub enum Recorded {
     /// A thread failed at an instruction of this line. The log, which the moves reproduce, has no
     /// digest.
     Failed(Log, Vec<Move>, u32),

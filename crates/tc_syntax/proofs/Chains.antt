@@ -1,5 +1,5 @@
 -- The steps of the readers' loops.
-use Rattle.std.proofs.Common.{◌≡◌, ◌≢◌, ℕ, ◌+◌, ◌<◌, ◌≤◌, List, [], ◌∷◌, ◌++◌, length, Option, Some, None, refl, sym, ap, subst, ◌∙◌, arith, false}
+use Rattle.std.proofs.Common.{◌≡◌, ◌≢◌, ℕ, ◌+◌, ◌<◌, ◌≤◌, List, [], ◌∷◌, ◌++◌, length, Option, Some, None, refl, sym, ap, ◌∙◌, arith}
 use Rattle.tc_lexer.specs.declared.place.Place.{Place}
 use Rattle.tc_lexer.specs.declared.token.Keyword.TheVariants as keyword
 use Rattle.tc_lexer.specs.declared.token.Sign.TheVariants as sign
@@ -62,34 +62,20 @@ use Rattle.tc_syntax.specs.helpers.Reading.{
   fault,
   next_level,
   level_of,
-  infix_of,
-  statement,
-  followed,
-  step,
 }
-use Rattle.tc_syntax.specs.declared.reader.Stop.{Stop}
-use Rattle.tc_syntax.specs.declared.reader.Stop.TheVariants.{Memory, Left}
 use Rattle.tc_syntax.specs.helpers.Read.{
-  Stops,
-  Ends,
-  begins_statement,
-  is_some,
   IsRead,
   IsTight,
-  IsOperand,
   IsStatement,
   IsPassed,
   IsAny,
   IsWellThread,
-  begins_global,
-  begins_local,
   branch_then,
   block_then,
   IsWellBranch,
   IsWellBlock,
 }
 use Rattle.tc_syntax.proofs.Signs.{operator_is, sign_read, no_operator}
-use Rattle.tc_syntax.proofs.Attached.{level_small}
 
 -- ---- expressions
 
@@ -101,25 +87,6 @@ pub record IsSoFar (least : ℕ) (ws : List Word) (e : Expression) (rest : List 
   pub next : next_level rest ≤ tightness e
   pub moves : (s : List Expected) → fault (Some (Operand ∷ Operators ∷ s)) ws ≡ fault (Some (Operators ∷ s)) rest
   pub shorter : length rest < length ws
-
-level_of_small : (o : Option Operator) → level_of o ≤ 10
-level_of_small None = omega arith
-level_of_small (Some op) = level_small op
-
-pub next_small : (ws : List Word) → next_level ws ≤ 10
-next_small [] = omega arith
-next_small (w ∷ ws) = level_of_small (infix_of w)
-
-pub first_operand : (least : ℕ) (ws : List Word) (e : Expression) (rest : List Word) → least ≤ 11 → IsOperand [] (Operand ∷ []) ws e rest
-    → IsSoFar least ws e rest
-first_operand least ws e rest h o = record {
-  spelled = o.spelled;
-  grouped = o.grouped;
-  tight = omega (arith, h, o.tight);
-  next = omega (arith, next_small rest, o.tight);
-  moves = λ s. o.moves (Operators ∷ s);
-  shorter = o.shorter;
-}
 
 next_sign : (op : Operator) (rest : List Word) → next_level (ASign (binary_sign op) ∷ rest) ≡ level op
 next_sign op rest = ap level_of (operator_is op)
@@ -143,17 +110,6 @@ one_more_operand least ws e rest op start f after c is h r =
 pub operand_goes : (least : ℕ) (ws : List Word) (e : Expression) (rest : List Word) (op : Operator) (start : List Word) → IsSoFar least ws e rest
     → rest ≡ ASign (binary_sign op) ∷ start → (s : List Expected) → fault (Some (Operand ∷ Operators ∷ s)) ws ≡ fault (Some (Operand ∷ Operators ∷ s)) start
 operand_goes least ws e rest op start c is s = c.moves s ∙ ap (λ (us : List Word). fault (Some (Operators ∷ s)) us) is ∙ sign_read op s start
-
--- before an operator of a lower level, the expression is as long as possible
-pub as_tight : (least : ℕ) (ws : List Word) (e : Expression) (rest : List Word) → IsSoFar least ws e rest → next_level rest < least → IsTight least ws e rest
-as_tight least ws e rest c h = record {
-  spelled = c.spelled;
-  grouped = c.grouped;
-  tight = c.tight;
-  longest = h;
-  moves = c.moves;
-  shorter = c.shorter;
-}
 
 pub whole : (ws : List Word) (e : Expression) (rest : List Word) → IsTight 1 ws e rest
     → IsRead expression_then IsGrouped [] (Operand ∷ Operators ∷ []) ws e rest
@@ -219,12 +175,6 @@ one_more_argument ws es rest start e after c is r = record {
   shorter = omega (arith, c.shorter, ap length is, r.shorter);
 }
 
--- after a comma, the fault is that of the next argument and the rest
-pub comma_goes : (ws : List Word) (es : List Expression) (rest start : List Word) → AreSome ws es rest → rest ≡ ASign sign.Comma ∷ start
-    → (s : List Expected) → fault (Some (Arguments ∷ Just sign.CloseParen ∷ s)) ws ≡ fault
-    (Some (Operand ∷ Operators ∷ Others ∷ Just sign.CloseParen ∷ s)) start
-comma_goes ws es rest start c is s = c.moves s ∙ ap (λ (us : List Word). fault (Some (Others ∷ Just sign.CloseParen ∷ s)) us) is
-
 -- without a comma, no argument is expected
 pub no_comma : (ws : List Word) → ((us : List Word) → ws ≡ ASign sign.Comma ∷ us → ⊥) → (s : List Expected) → fault (Some (Others ∷ s)) ws ≡ fault (Some s) ws
 no_comma [] not s = refl
@@ -251,17 +201,6 @@ one_more_statement ws ss rest a after c r = record {
   moves = λ s. c.moves s ∙ r.moves s;
   shorter = omega (arith, c.shorter, r.shorter);
 }
-
--- a word with which no statement begins ends the statements
-none_begins : (w : Word) (ws : List Word) (o : Option (List Expected)) → statement w ≡ o → is_some (statement w) ≡ false → (s : List Expected)
-    → fault (Some (Statements ∷ s)) (w ∷ ws) ≡ fault (Some s) (w ∷ ws)
-none_begins w ws None e h s = ap (λ (o : Option (List Expected)). fault
-    (elim (followed o (Statements ∷ [])) [ Some es ↦ Some (es ++ s) | None ↦ step s w ]) ws) e
-none_begins w ws (Some es) e h s = let no : is_some (Some es) ≡ false = subst (λ (o : Option (List Expected)). is_some o ≡ false) e h in absurd cc
-
-pub no_statement : (ws : List Word) → begins_statement ws ≡ false → (s : List Expected) → fault (Some (Statements ∷ s)) ws ≡ fault (Some s) ws
-no_statement [] h s = refl
-no_statement (w ∷ ws) h s = none_begins w ws (statement w) refl h s
 
 -- an assigned value is an expression if it is nothing else
 pub value_goes : (ws : List Word) → ((us : List Word) → ws ≡ AKeyword keyword.Create ∷ us → ⊥)
@@ -436,31 +375,6 @@ parameters_snoc (y ∷ xs) x rest h = ap (λ (us : List Word). AKeyword keyword.
 
 -- ---- the ends of lists in programs
 
-pub no_global : (ws : List Word) → begins_global ws ≡ false → (s : List Expected) → fault (Some (Globals ∷ s)) ws ≡ fault (Some (Threads ∷ s)) ws
-no_global [] h s = refl
-no_global (AKeyword keyword.Int ∷ ws) h s = absurd cc
-no_global (AKeyword keyword.Mutex ∷ ws) h s = absurd cc
-no_global (AKeyword keyword.Cond ∷ ws) h s = absurd cc
-no_global (_ ∷ ws) h s = refl
-
-pub no_local : (ws : List Word) → begins_local ws ≡ false → (s : List Expected) → fault (Some (Locals ∷ s)) ws ≡ fault (Some s) ws
-no_local [] h s = refl
-no_local (AKeyword keyword.Int ∷ ws) h s = absurd cc
-no_local (AKeyword keyword.Tid ∷ ws) h s = absurd cc
-no_local (_ ∷ ws) h s = refl
-
-pub no_parameter : (ws : List Word) → ((us : List Word) → ws ≡ AKeyword keyword.Int ∷ us → ⊥) → (s : List Expected)
-    → fault (Some (Parameters ∷ s)) ws ≡ fault (Some s) ws
-no_parameter [] not s = refl
-no_parameter (AKeyword keyword.Int ∷ us) not s = absurd (not us refl)
-no_parameter (_ ∷ us) not s = refl
-
-pub no_other_parameter : (ws : List Word) → ((us : List Word) → ws ≡ ASign sign.Comma ∷ us → ⊥) → (s : List Expected)
-    → fault (Some (OtherParameters ∷ s)) ws ≡ fault (Some s) ws
-no_other_parameter [] not s = refl
-no_other_parameter (ASign sign.Comma ∷ us) not s = absurd (not us refl)
-no_other_parameter (_ ∷ us) not s = refl
-
 -- neither a thread nor main follows
 pub no_main : (ws : List Word) → ((us : List Word) → ws ≡ AKeyword keyword.Thread ∷ us → ⊥) → ((us : List Word) → ws ≡ AKeyword keyword.Main ∷ us → ⊥)
     → (s : List Expected) → fault (Some (Threads ∷ s)) ws ≡ Some (length ws)
@@ -491,22 +405,6 @@ one_more_parameter ws xs rest start end x after c is is' is'' =
       moves = λ s. c.moves s ∙ ap (λ (us : List Word). fault (Some (OtherParameters ∷ s)) us) all;
       shorter = omega (arith, c.shorter, ap length all);
     }
-
--- words that fit after the declarations of a program begin with a thread or main
-pub threads_end : (ws : List Word) (gs : List Global) (rest : List Word) → IsPassed globals_then IsAny Globals Globals ws gs rest
-    → begins_global rest ≡ false → IsPassed globals_then IsAny Globals Threads ws gs rest
-threads_end ws gs rest c h = record {
-  spelled = c.spelled;
-  good = tt;
-  moves = λ s. c.moves s ∙ no_global rest h s;
-  shorter = c.shorter;
-}
-
--- where the rest of a program stops, the program stops
-pub ends_after : (ws rest : List Word) (x : Expected) (stop : Stop)
-    → ((s : List Expected) → fault (Some (Globals ∷ s)) ws ≡ fault (Some (x ∷ s)) rest) → Stops (x ∷ []) rest stop → Ends ws stop
-ends_after ws rest x Memory m h = tt
-ends_after ws rest x (Left n) m h = m [] ∙ h []
 
 -- words after main
 pub too_many : (rest : List Word) → length rest ≢ 0 → fault (Some []) rest ≡ Some (length rest)

@@ -1,7 +1,6 @@
 -- Signs and their operators.
 use Rattle.std.proofs.Common.{
   ◌≡◌,
-  ◌≢◌,
   ℕ,
   nat_eq,
   get_or,
@@ -9,24 +8,19 @@ use Rattle.std.proofs.Common.{
   [],
   ◌∷◌,
   ◌++◌,
-  Bool,
   Option,
   Some,
   None,
   true,
-  false,
   refl,
   sym,
   ap,
   ◌∙◌,
-  inl,
-  inr,
   ◌<◌,
   ◌≤◌,
   arith,
 }
-use Rattle.std.proofs.lemmas.Bool.{eqb-true, eq-eqb}
-use Rattle.std.proofs.lemmas.Bool.Decides.{eqb_tells}
+use Rattle.std.proofs.lemmas.Bool.{eqb-true}
 use Rattle.tc_lexer.specs.declared.token.Sign.{Sign}
 use Rattle.tc_lexer.specs.declared.token.Sign.TheVariants.{
   OpenParen,
@@ -66,20 +60,17 @@ use Rattle.tc_tree.specs.declared.word.Word.{Word}
 use Rattle.tc_tree.specs.declared.word.Word.TheVariants.{Sign as ASign}
 use Rattle.tc_syntax.specs.helpers.Reading.{
   Expected,
-  Just,
   Operand,
   Operators,
   sign_code,
   operator_of,
   infix_of,
   more_operators,
-  same,
   step,
   fault,
   level_of,
   next_level,
 }
-use Rattle.tc_syntax.specs.helpers.Read.{Moves}
 
 -- the signs in the order of their codes
 signs : List Sign
@@ -123,12 +114,6 @@ at_code OrOr = refl
 
 pub same_code : (k s : Sign) → nat_eq (sign_code k) (sign_code s) ≡ true → k ≡ s
 same_code k s e = sym (at_code k) ∙ ap sign_at (eqb-true (sign_code k) (sign_code s) e) ∙ at_code s
-
-pub other_code : (k s : Sign) → k ≢ s → nat_eq (sign_code k) (sign_code s) ≡ false
-other_code k s h = elim (eqb_tells (sign_code k) (sign_code s)) [ inl e ↦ absurd (h (same_code k s e.0)) | inr e ↦ e.0 ]
-
-pub own_code : (k : Sign) → nat_eq (sign_code k) (sign_code k) ≡ true
-own_code k = eq-eqb (sign_code k) (sign_code k) refl
 
 pub operator_is : (op : Operator) → operator_of (binary_sign op) ≡ Some op
 operator_is operator.Multiply = refl
@@ -216,8 +201,3 @@ pub sign_read : (op : Operator) (s : List Expected) (rest : List Word)
     → fault (Some (Operators ∷ s)) (ASign (binary_sign op) ∷ rest) ≡ fault (Some (Operand ∷ Operators ∷ s)) rest
 sign_read op s rest = ap (λ (o : Option Operator). fault
     (elim (more_operators o) [ Some es ↦ Some (es ++ s) | None ↦ step s (ASign (binary_sign op)) ]) rest) (operator_is op)
-
--- an expected sign
-pub sign_moves : (k : Sign) (ws rest : List Word) → ws ≡ ASign k ∷ rest → Moves (Just k ∷ []) ws rest
-sign_moves k ws rest e s = ap (λ (z : List Word). fault (Some (Just k ∷ s)) z) e
-    ∙ ap (λ (b : Bool). fault (elim (same b) [ Some es ↦ Some (es ++ s) | None ↦ None ]) rest) (own_code k)

@@ -1,5 +1,5 @@
 //! Threads by name.
-ghost use Rattle.std.specs.Prelude.{◌≡◌, ◌↔◌, ◌+◌, ◌<◌, ◌^◌, length, IsTrue, IfOk, IfSome, OnOk, OnErr, option_map, Some, None, IsSomeAnd, true, false, pos};
+ghost use Rattle.std.specs.Prelude.{◌≡◌, ◌+◌, ◌<◌, ◌^◌, length, IfOk, IfSome, OnOk, OnErr, option_map, Some, None, IsSomeAnd, true, false, pos};
 ghost use Rattle.std.specs.FinMap as map;
 ghost use Rattle.std.specs.List.{All};
 ghost use Rattle.std.specs.Option.{option_map_or};
@@ -141,7 +141,7 @@ impl<M: MemoryModel> Threads<M> {
         ensures { result ≡ option_map_or (λ t. t.local.has_exited) (map.get self.now (child parent.now number)) false }
     {
         for (name, thread) in &self.by_name {
-            if is_child(name, parent, number) {
+            if name.is_child_of(parent, number) {
                 return thread.local().has_exited();
             }
         }
@@ -168,15 +168,5 @@ impl<M: MemoryModel> Threads<M> {
             unreachable!()
         };
         thread.drain(form)
-    }
-}
-
-/// Whether a name is that of a thread's child with this number.
-fn is_child(name: &ThreadName, parent: &ThreadName, number: u32) -> bool
-    ensures { IsTrue result ↔ (child parent.now number ≡ name.now) }
-{
-    match name.children().split_last() {
-        Some((last, front)) => *last == number && front == parent.children(),
-        None => false,
     }
 }

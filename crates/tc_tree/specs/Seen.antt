@@ -72,5 +72,8 @@ abbrev pub thread_of : TreeThread → Thread
 thread_of t = record { name = t.name; parameters = t.parameters.items; body = body_of t.body }
 
 abbrev pub program_of : TreeProgram → Program
-program_of t =
-    record { globals = t.globals.items; threads = map thread_of t.threads.items; main = body_of t.main }
+program_of t = record {
+  globals = t.globals.items;
+  threads = map thread_of t.threads.items;
+  main = body_of t.main;
+}

@@ -1,8 +1,9 @@
 -- No outcome has the status of a fault.
+use Rattle.clap_debug_cli.specs.clap_solve.schedule_file.declared.schedule.Schedule.{Schedule}
 use Rattle.std.proofs.Common.{ℕ, Result, Ok, Err, Bool, true, false}
 use Rattle.std.specs.Prelude.{if◌then◌else◌}
-use Rattle.clap_debug_cli.specs.clap_solve.declared.answer.Answer.{Answer}
-use Rattle.clap_debug_cli.specs.clap_solve.declared.answer.Answer.TheVariants as answer
+use Rattle.clap_debug_cli.specs.clap_solve.cdcl_core.declared.answer.Answer.{Answer}
+use Rattle.clap_debug_cli.specs.clap_solve.cdcl_core.declared.answer.Answer.TheVariants as answer
 use Rattle.clap_debug_cli.specs.least_switch.declared.answer.Least.{Least}
 use Rattle.clap_debug_cli.specs.least_switch.declared.answer.Least.TheVariants as least
 use Rattle.clap_debug_cli.specs.schedule_replay.declared.verdict.Verdict.{Verdict as Replayed}
@@ -54,7 +55,7 @@ pub sound_ran : (x : Ran) → IsSound (ran_said x).0
 sound_ran (ran.Logged _ _) = tt
 sound_ran (ran.Unlogged e) = sound_ending e
 
-pub sound_answer : (budget : ℕ) (x : Answer) → IsSound (answer_said budget x).0
+pub sound_answer : (budget : ℕ) (x : Answer Schedule) → IsSound (answer_said budget x).0
 sound_answer budget (answer.Found _) = tt
 sound_answer budget (answer.Impossible _) = tt
 sound_answer budget (answer.Spent _) = tt

@@ -10,6 +10,8 @@
 //! - `verdict`: a model : a log : a program; whether a search over the clauses of the formula finds values, `possible` or
 //!   `impossible`; the world that they tell has to be lawful;
 //! - `learnt`: the same; the verdict of a search that tries false first, and how many clauses it learns;
+//! - `solved`: the same; what `solve` answers within a budget of one learnt clause: `possible` if the values of the first run
+//!   leave nothing to learn;
 //! - `fewest`: the same; how many moves and switches a schedule has that has the fewest switches, or `impossible`; a derivation that
 //!   none has fewer is checked;
 //! - `formula`: the same; how many events, loads and conjuncts there are;
@@ -19,6 +21,7 @@
 mod fewest;
 mod given;
 mod sizes;
+mod solved;
 mod verdicts;
 mod worlds;
 
@@ -38,6 +41,7 @@ impl Parts for Tried {
             "world" => worlds::judged(alloc, given),
             "verdict" => verdicts::verdict(alloc, given),
             "learnt" => verdicts::learnt(alloc, given),
+            "solved" => solved::solved(alloc, given),
             "fewest" => fewest::fewest(alloc, given),
             "formula" => sizes::formula(alloc, given),
             "clauses" => sizes::clauses(alloc, given),

@@ -2,7 +2,7 @@
 use crate::given::{posed, split, system};
 use anyhow::{Result, bail};
 use bit_blast::Blasted;
-use cdcl_core::{Progress, Search, Solved, solve_cnf};
+use cdcl_core::{Answer, Progress, Search, solve_cnf};
 use cnf_core::Cnf;
 use order_formula::World;
 use std::alloc::Global;
@@ -49,14 +49,14 @@ fn searched(alloc: Global, clauses: &Cnf) -> Result<String> {
 /// The world of some values that satisfy the clauses, if there are such values.
 fn found(alloc: Global, blasted: &Blasted) -> Result<Option<World>> {
     match solve_cnf(alloc, blasted.clauses(), &[], BUDGET)? {
-        Solved::Sat(values) => {
+        Answer::Found(values) => {
             if blasted.clauses().vars() == 0 {
                 bail!("values of no variables");
             }
             Ok(Some(blasted.world(alloc, &values)?))
         }
-        Solved::Unsat(_) => Ok(None),
-        Solved::Spent(_) => bail!("the budget is spent"),
+        Answer::Impossible(_) => Ok(None),
+        Answer::Spent(_) => bail!("the budget is spent"),
     }
 }
 

@@ -1,7 +1,7 @@
 //! Searches; every answer and derivation is checked.
 use crate::lists::{pigeons, random, read};
 use anyhow::{Context, Result, bail};
-use cdcl_core::{Progress, Search, Solved, solve_cnf};
+use cdcl_core::{Answer, Progress, Search, solve_cnf};
 use cnf_core::{Assignment, Cnf, satisfies};
 use refute_check::{Checked, Derivation, Line, check};
 use std::alloc::{AllocError, Global};
@@ -128,7 +128,7 @@ fn added(derivation: &Derivation) -> u32 {
 }
 
 /// The answer of `solve_cnf`.
-fn solved(alloc: Global, cnf: &Cnf, budget: &str) -> Result<Solved> {
+fn solved(alloc: Global, cnf: &Cnf, budget: &str) -> Result<Answer<Assignment>> {
     let budget = budget.parse::<u32>()?;
     if budget == 0 || budget > MOST {
         bail!("so many clauses can't be learnt");
@@ -153,8 +153,8 @@ pub(crate) fn first(alloc: Global, given: &str) -> Result<String> {
 }
 
 /// The values of an answer, as literals that are true.
-fn values_text(alloc: Global, solved: Solved) -> Result<String> {
-    let Solved::Sat(values) = solved else {
+fn values_text(alloc: Global, solved: Answer<Assignment>) -> Result<String> {
+    let Answer::Found(values) = solved else {
         bail!("no values");
     };
     let mut text = String::new(alloc);
@@ -169,16 +169,16 @@ fn values_text(alloc: Global, solved: Solved) -> Result<String> {
 pub(crate) fn solve(alloc: Global, given: &str) -> Result<String> {
     let (cnf, budget) = parts_of(alloc, given)?;
     match solved(alloc, &cnf, budget)? {
-        Solved::Sat(values) => {
+        Answer::Found(values) => {
             let right = is_satisfied(&cnf, &values);
             let count = values.into_values().len();
             Ok(format!(in alloc; "satisfied {right}, {count} values")?)
         }
-        Solved::Unsat(derivation) => {
+        Answer::Impossible(derivation) => {
             let lines = lines_text(alloc, &cnf, &derivation)?;
             Ok(format!(in alloc; "unsatisfiable, {lines}")?)
         }
-        Solved::Spent(derivation) => {
+        Answer::Spent(derivation) => {
             let lines = lines_text(alloc, &cnf, &derivation)?;
             Ok(format!(in alloc; "spent, {} lines added, {lines}", added(&derivation))?)
         }
@@ -233,9 +233,9 @@ fn is_so_in_steps(alloc: Global, cnf: &Cnf) -> Result<bool> {
 /// Whether a list is found satisfiable at once.
 fn is_so_at_once(alloc: Global, cnf: &Cnf) -> Result<bool> {
     match &solve_cnf(alloc, cnf, &[], 1000)? {
-        Solved::Sat(values) if is_satisfied(cnf, values) => Ok(true),
-        Solved::Sat(_) => bail!("a wrong assignment at once"),
-        Solved::Unsat(_) => Ok(false),
-        Solved::Spent(_) => bail!("no answer at once"),
+        Answer::Found(values) if is_satisfied(cnf, values) => Ok(true),
+        Answer::Found(_) => bail!("a wrong assignment at once"),
+        Answer::Impossible(_) => Ok(false),
+        Answer::Spent(_) => bail!("no answer at once"),
     }
 }

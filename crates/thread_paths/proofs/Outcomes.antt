@@ -1,5 +1,5 @@
 -- Outcomes and their order.
-use Rattle.std.proofs.Common.{◌≡◌, ◌∙◌, ℕ, zero, suc, ◌+◌, ◌^◌, ◌<◌, ◌≤◌, inl, inr, Bool, true, false, List, [], ◌∷◌, ◌++◌, length, refl, ap, sym, arith, lit<, append_assoc, append-nil}
+use Rattle.std.proofs.Common.{◌≡◌, ◌∙◌, ℕ, zero, suc, ◌+◌, ◌^◌, ◌<◌, ◌≤◌, inl, inr, Bool, true, false, List, [], ◌∷◌, ◌++◌, length, refl, ap, sym, arith, lit<, append_assoc}
 use Rattle.std.specs.Prelude.{◌⊎◌}
 use Rattle.std.proofs.Math.Dec.{leb-zero}
 use Rattle.std.proofs.Math.Nat.{pow-suc}
@@ -11,14 +11,6 @@ use Rattle.thread_paths.specs.helpers.Descents.{leaves_behind, worth, TurnsTo}
 -- all outcomes are true, so none can be turned
 abbrev pub AreTrue : List Bool → Type 0
 AreTrue t = (q : List Bool) → leaves_behind t q ≡ false
-
-pub none_true : AreTrue []
-none_true q = refl
-
-pub more_true : (t : List Bool) → AreTrue t → AreTrue (true ∷ t)
-more_true t all [] = refl
-more_true t all (true ∷ q) = all q
-more_true t all (false ∷ q) = refl
 
 pub all_from : (q : List Bool) (s : ℕ) → is_from [] 0 q s ≡ true
 all_from [] s = leb-zero s
@@ -66,17 +58,6 @@ pub record IsPopped (before o : List Bool) : Type 0 where
   pub whole : before ≡ o ++ tail
   pub trues : AreTrue tail
 
-pub none_popped : (o : List Bool) → IsPopped o o
-none_popped o = record { tail = []; whole = sym (append-nil o); trues = none_true }
-
--- one more true was removed
-pub pop_true : (before o o' : List Bool) (last : Bool) → IsPopped before o → o ≡ o' ++ last ∷ [] → last ≡ true → IsPopped before o'
-pop_true before o o' last popped is so = record {
-  tail = true ∷ popped.tail;
-  whole = popped.whole ∙ ap (λ x. x ++ popped.tail) is ∙ append_assoc o' (last ∷ []) popped.tail ∙ ap (λ b. o' ++ b ∷ popped.tail) so;
-  trues = more_true popped.tail popped.trues;
-}
-
 -- a false is turned into a true
 pub pop_false : (before o o' after : List Bool) (last : Bool) → IsPopped before o → o ≡ o' ++ last ∷ [] → last ≡ false → after ≡ o' ++ true ∷ []
     → TurnsTo before after
@@ -93,10 +74,6 @@ pop_false before o o' after last popped is so turns =
     value_more before after c t m is turns few =
         let less = turned_more c t m (omega (arith, few, ap length is)) in
         omega (arith, less, ap (worth m) is, ap (worth m) turns)
-
--- no outcome can be turned
-pub pop_none : (before o : List Bool) → IsPopped before o → o ≡ [] → (q : List Bool) → leaves_behind before q ≡ false
-pop_none before o popped none q = ap (λ x. leaves_behind x q) (popped.whole ∙ ap (λ x. x ++ popped.tail) none) ∙ popped.trues q
 
 -- outcomes that come after all that begin this way come after these
 pub behind_from : (o : List Bool) (n : ℕ) (q : List Bool) (s : ℕ) → leaves_behind o q ≡ true → is_from o n q s ≡ true

@@ -1,5 +1,5 @@
 -- A search, from one descent to the next.
-use Rattle.std.proofs.Common.{◌≡◌, ◌∙◌, ℕ, ◌+◌, ◌-◌, ◌^◌, ◌<◌, ◌≤◌, inl, inr, Bool, true, false, ◌&&◌, List, [], ◌∷◌, length, Option, Some, None, refl, ap, sym, arith}
+use Rattle.std.proofs.Common.{◌≡◌, ◌∙◌, ℕ, ◌+◌, ◌-◌, ◌^◌, ◌<◌, ◌≤◌, inl, inr, Bool, true, false, ◌&&◌, List, [], ◌∷◌, length, Option, Some, None, refl, ap, arith}
 use Rattle.std.specs.Prelude.{◌⊎◌}
 use Rattle.std.proofs.lemmas.Bool.{lt-leb}
 use Rattle.tc_code.specs.tc_base.Paths.{Path}
@@ -46,10 +46,6 @@ module _ (code : Code) (live : Liveness) (scope : Scope) where
   excused_out cut Turn q turn = inr (inl turn)
   excused_out cut Against q against = inr (inr against)
 
-pub none_behind : (o : List Bool) → leaves_behind o [] ≡ false
-none_behind [] = refl
-none_behind (b ∷ o) = refl
-
 -- a path without steps comes after no path
 pub none_later : (stays : Bool) (o : List Bool) (n : ℕ) → (stays && is_from o (n + 1) [] 0) ≡ false
 none_later stays [] n = ap (λ v. stays && v) (lt-leb (n + 1) 0 (omega arith)) ∙ and_none stays
@@ -63,9 +59,6 @@ module _ (code : Code) (live : Liveness) (scope : Scope) (start : List Bool) (fi
     pub others : (q : List Bool) (s : ℕ) → takes code scope q s ≡ true → is_from start first q s ≡ true
         → (is_from o least q s ≡ true) ⊎ IsMissed code live scope cut (path q s)
     pub steps : (takes code scope [] 0 && is_from o least [] 0) ≡ false
-
-  pub all_left : (cut : Cut) → length start ≤ scope.most → (takes code scope [] 0 && is_from start first [] 0) ≡ false → IsLeft start first cut
-  all_left cut few steps = record { few = few; back = λ q s from. from; others = λ q s may from. inl from; steps = steps }
 
   module _ (o : List Bool) (least : ℕ) (cut : Cut) (left : IsLeft o least cut) (o' : List Bool) where
     -- a path was found
@@ -117,19 +110,6 @@ module _ (code : Code) (live : Liveness) (scope : Scope) (start : List Bool) (fi
 
       -- the next outcomes
       module _ (next : List Bool) (turns : TurnsTo o' next) where
-        next_by : (q : List Bool) (s : ℕ) → (leaves_behind o' q ≡ true) ⊎ IsMissed code live scope (cut_by cut why) (path q s)
-            → (is_from next 0 q s ≡ true) ⊎ IsMissed code live scope (cut_by cut why) (path q s)
-        next_by q s (inl is) = inl (sym (turns.same q s) ∙ is)
-        next_by q s (inr out) = inr out
-
-        pub next_left : IsLeft next 0 (cut_by cut why)
-        next_left = record {
-          few = omega (arith, turns.few, spent.few);
-          back = λ q s from. left.back q s (spent.behind q s (turns.same q s ∙ from));
-          others = λ q s may from. next_by q s (all_others q s may from);
-          steps = ap (λ v. takes code scope [] 0 && v) (sym (turns.same [] 0) ∙ none_behind o') ∙ and_none (takes code scope [] 0);
-        }
-
         -- fewer are left
         pub fewer : 2 ^ scope.most - worth scope.most next < 2 ^ scope.most - worth scope.most o
         fewer =

@@ -19,11 +19,6 @@ use Rattle.thread_paths.proofs.Nodes.{pushed_node, too_many, dead, next_node, fo
 use Rattle.thread_paths.proofs.Values.{leads_last}
 use Rattle.thread_paths.proofs.Against.{at_against}
 
--- at most all outcomes are used
-pub used_within : (code : Code) (scope : Scope) (start : List Bool) (first n : ℕ) (at : At) (o : List Bool) (past : Past)
-    → IsNode code scope start first n at o past → at.used ≤ length o
-used_within code scope start first n at o past node = omega (arith, node.count, ap length node.whole, length-append node.done node.rest)
-
 -- a branch that was opened has an outcome
 pub has_outcome : (most : ℕ) (i : Instr) (at at' : At) (o o' : List Bool) (x : Option At) → x ≡ Some at' → IsOpened most i at o o' x → at.used ≤ length o
     → is_branch i ≡ true → at'.used < length o'

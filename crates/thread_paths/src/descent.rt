@@ -113,9 +113,7 @@ fn is_end(
 ) -> bool
     ensures { (t : Marks) → own.now ≡ own_of t → result ≡ is_end code.now scope steps t instr.now to outcomes.now }
 {
-    to.used == outcomes.len()
-        && to.least <= steps
-        && is_last(code, scope.function, scope.aim, own, instr, to.place)
+    to.used == outcomes.len() && to.least <= steps && is_last(code, scope, own, instr, to.place)
 }
 
 /// Takes one step further, after `steps` of them.

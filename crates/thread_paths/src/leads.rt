@@ -8,7 +8,7 @@ ghost use Rattle.thread_marks.specs.Own.{own_of};
 ghost use Rattle.thread_paths.specs.Ends.{is_exit, is_used};
 ghost use Rattle.thread_paths.specs.helpers.Descents.{is_branch, place_after, ends_with, is_last};
 
-use crate::aim::{Aim, End};
+use crate::aim::{End, Scope};
 use tc_code::{Code, Instr};
 use thread_marks::Own;
 
@@ -98,13 +98,13 @@ fn ends_with(code: &Code, function: usize, end: End, instr: &Instr, to: usize) -
 }
 
 /// Whether a path may end with this instruction, which leads to a place.
-pub fn is_last(code: &Code, function: usize, aim: Aim, own: &Own, instr: &Instr, to: usize) -> bool
-    ensures { (t : Marks) → own.now ≡ own_of t → result ≡ is_last code.now function aim t instr.now to }
+pub fn is_last(code: &Code, scope: Scope, own: &Own, instr: &Instr, to: usize) -> bool
+    ensures { (t : Marks) → own.now ≡ own_of t → result ≡ is_last code.now scope.function scope.aim t instr.now to }
 {
-    let fails = aim.may_fail && is_site(instr);
+    let fails = scope.aim.may_fail && is_site(instr);
     if fails {
         !own.excludes(instr, true)
     } else {
-        !own.excludes(instr, false) && ends_with(code, function, aim.end, instr, to)
+        !own.excludes(instr, false) && ends_with(code, scope.function, scope.aim.end, instr, to)
     }
 }

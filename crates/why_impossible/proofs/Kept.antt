@@ -21,7 +21,7 @@ use Rattle.order_formula.specs.declared.group.Group.{Group}
 use Rattle.order_formula.specs.declared.group.Group.TheVariants.{Own, Child, Read, Mutex, Condition, Test, Stuck}
 use Rattle.reached_groups.specs.lawful_order.Children.{ChildRule}
 use Rattle.reached_groups.specs.lawful_order.Conditions.{ConditionRule, IsBroadcast, IsSignal, IsSleep, Waits, is_broadcast, is_signal}
-use Rattle.reached_groups.specs.lawful_order.Events.{Of, all_events, all_sleeps, ender_of}
+use Rattle.reached_groups.specs.lawful_order.Events.{Placed, all_events, all_sleeps, ender_of}
 use Rattle.reached_groups.specs.lawful_order.Lawful.{IsWorldOf, MeetsRule}
 use Rattle.reached_groups.specs.lawful_order.Reads.{ReadRule, Sees, TakesFirst, TakesFrom}
 use Rattle.reached_groups.specs.lawful_order.Stuck.{CannotGoOn}
@@ -29,9 +29,9 @@ use Rattle.why_impossible.specs.Enders.{EnderRule}
 
 module _ (paths : Paths) (w : World) where
   -- whether an event may end a sleep
-  abbrev may_end : ℕ → Of Sleep → Bool
+  abbrev may_end : ℕ → Placed Sleep → Bool
   may_end g x =
-      option_map_or (λ (e : Of Event). is_signal x.it.condition e.it.kind || is_broadcast x.it.condition e.it.kind) (slice_get (all_events paths) g) false
+      option_map_or (λ (e : Placed Event). is_signal x.it.condition e.it.kind || is_broadcast x.it.condition e.it.kind) (slice_get (all_events paths) g) false
 
   abbrev is_own : ℕ → ℕ → Bool
   is_own s g = option_map_or (may_end g) (slice_get (all_sleeps paths) s) false
@@ -90,12 +90,12 @@ module _ (paths : Paths) (w : World) where
   from_either false b (inl a) = absurd (false≢true a)
   from_either false b (inr e) = e
 
-  ends_as : (v : World) (s g c : ℕ) (x : Of Sleep) → IsSleep paths v s x c → is_own s g ≡ true → IsSignal paths v g c ⊎ IsBroadcast paths v g c
+  ends_as : (v : World) (s g c : ℕ) (x : Placed Sleep) → IsSleep paths v s x c → is_own s g ≡ true → IsSignal paths v g c ⊎ IsBroadcast paths v g c
   ends_as v s g c x i own =
       by (slice_get (all_events paths) g) refl (sym (ap (λ o. option_map_or (may_end g) o false) i.is) ∙ own)
     where
-      by : (o : Option (Of Event)) → slice_get (all_events paths) g ≡ o
-          → option_map_or (λ (e : Of Event). is_signal x.it.condition e.it.kind || is_broadcast x.it.condition e.it.kind) o false ≡ true
+      by : (o : Option (Placed Event)) → slice_get (all_events paths) g ≡ o
+          → option_map_or (λ (e : Placed Event). is_signal x.it.condition e.it.kind || is_broadcast x.it.condition e.it.kind) o false ≡ true
           → IsSignal paths v g c ⊎ IsBroadcast paths v g c
       by None is none = absurd (false≢true none)
       by (Some e) is either =
@@ -104,17 +104,17 @@ module _ (paths : Paths) (w : World) where
             | inr broadcasts ↦ inr (record { event = e; is = is; broadcasts = subst (λ d. is_broadcast d e.it.kind ≡ true) i.condition broadcasts })
           ]
 
-  may_from : (g c : ℕ) (x : Of Sleep) → x.it.condition ≡ c → IsSignal paths w g c ⊎ IsBroadcast paths w g c → may_end g x ≡ true
+  may_from : (g c : ℕ) (x : Placed Sleep) → x.it.condition ≡ c → IsSignal paths w g c ⊎ IsBroadcast paths w g c → may_end g x ≡ true
   may_from g c x on (inl s) =
-      ap (λ o. option_map_or (λ (e : Of Event). is_signal x.it.condition e.it.kind || is_broadcast x.it.condition e.it.kind) o false) s.is
+      ap (λ o. option_map_or (λ (e : Placed Event). is_signal x.it.condition e.it.kind || is_broadcast x.it.condition e.it.kind) o false) s.is
       ∙ from_either (is_signal x.it.condition s.event.it.kind) (is_broadcast x.it.condition s.event.it.kind)
       (inl (subst (λ d. is_signal d s.event.it.kind ≡ true) (sym on) s.signals))
   may_from g c x on (inr s) =
-      ap (λ o. option_map_or (λ (e : Of Event). is_signal x.it.condition e.it.kind || is_broadcast x.it.condition e.it.kind) o false) s.is
+      ap (λ o. option_map_or (λ (e : Placed Event). is_signal x.it.condition e.it.kind || is_broadcast x.it.condition e.it.kind) o false) s.is
       ∙ from_either (is_signal x.it.condition s.event.it.kind) (is_broadcast x.it.condition s.event.it.kind)
       (inr (subst (λ d. is_broadcast d s.event.it.kind ≡ true) (sym on) s.broadcasts))
 
-  own_from : (s g c : ℕ) (x : Of Sleep) → IsSleep paths w s x c → IsSignal paths w g c ⊎ IsBroadcast paths w g c → is_own s g ≡ true
+  own_from : (s g c : ℕ) (x : Placed Sleep) → IsSleep paths w s x c → IsSignal paths w g c ⊎ IsBroadcast paths w g c → is_own s g ≡ true
   own_from s g c x i kind = ap (λ o. option_map_or (may_end g) o false) i.is ∙ may_from g c x i.condition kind
 
   -- it is a world of the paths
@@ -165,7 +165,7 @@ module _ (paths : Paths) (w : World) where
   stuck_at t (Join k) runs = runs
 
   module _ (c : ℕ) (rule : ConditionRule paths w c) (enders : EnderRule paths w c) where
-    slept_here : (s : ℕ) (x : Of Sleep) → IsSleep paths kept s x c → IsSleep paths w s x c
+    slept_here : (s : ℕ) (x : Placed Sleep) → IsSleep paths kept s x c → IsSleep paths w s x c
     slept_here s x i = record { is = i.is; condition = i.condition }
 
     signal_here : (g : ℕ) → IsSignal paths kept g c → IsSignal paths w g c
@@ -175,10 +175,10 @@ module _ (paths : Paths) (w : World) where
     broadcast_here g i = record { event = i.event; is = i.is; broadcasts = i.broadcasts }
 
     -- sleeps on the condition end as they do here
-    ends_there : (s g : ℕ) (x : Of Sleep) → IsSleep paths w s x c → ender_of w s ≡ Some g → ender_of kept s ≡ Some g
+    ends_there : (s g : ℕ) (x : Placed Sleep) → IsSleep paths w s x c → ender_of w s ≡ Some g → ender_of kept s ≡ Some g
     ends_there s g x i e = ended_there s g (own_from s g c x i (enders.own s g x i e)) e
 
-    waits_here : (s g : ℕ) (x : Of Sleep) → IsSleep paths w s x c → Waits paths kept s x g → Waits paths w s x g
+    waits_here : (s g : ℕ) (x : Placed Sleep) → IsSleep paths w s x c → Waits paths kept s x g → Waits paths w s x g
     waits_here s g x i waits = record { begun = waits.begun; lasts = λ h e lt. waits.lasts h (ends_there s h x i e) lt }
 
     pub condition_there : ConditionRule paths kept c

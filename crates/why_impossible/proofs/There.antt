@@ -13,7 +13,7 @@ use Rattle.clap_solve.specs.sym_exec.Executed.{Symbolic, executed}
 use Rattle.clap_solve.proofs.sym_events.Whole.{is_executed}
 use Rattle.order_formula.specs.declared.formula.Conjunct.{Conjunct}
 use Rattle.order_formula.specs.declared.group.Group.{Group}
-use Rattle.reached_groups.specs.lawful_order.Events.{Of, all_events}
+use Rattle.reached_groups.specs.lawful_order.Events.{Placed, all_events}
 use Rattle.reached_groups.specs.lawful_order.Whole.{IsExecutedBy}
 use Rattle.reached_groups.proofs.order_events.Lists.{of_map}
 use Rattle.reached_groups.proofs.order_events.Numbers.{of_all_from}
@@ -48,7 +48,7 @@ module _ (paths : Paths) where
   of_thread : (t : ℕ) (q : Walk) → slice_get paths.threads t ≡ Some q → t < length paths.threads
   of_thread t q at = slice_get_within paths.threads t q at
 
-  of_event : (x : Of Event) → Contains (all_events paths) x → x.thread < length paths.threads
+  of_event : (x : Placed Event) → Contains (all_events paths) x → x.thread < length paths.threads
   of_event x i = let o = of_all_from (λ (q : Walk). q.events) 0 paths.threads x i in omega (arith, of_thread o.place o.owner o.at, o.thread)
 
   own_there : (buffered : Bool) (bound : Binding) (symbolic : Symbolic) (nodes : List Node) (c : Conjunct)

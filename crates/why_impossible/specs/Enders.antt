@@ -4,12 +4,12 @@ use Rattle.path_walk.specs.Paths.{Paths}
 use Rattle.path_walk.specs.declared.event.Sleep.{Sleep}
 use Rattle.order_formula.specs.Worlds.{World}
 use Rattle.reached_groups.specs.lawful_order.Conditions.{IsBroadcast, IsSignal, IsSleep}
-use Rattle.reached_groups.specs.lawful_order.Events.{Of, ender_of}
+use Rattle.reached_groups.specs.lawful_order.Events.{Placed, ender_of}
 
 module _ (paths : Paths) (w : World) where
   -- only its signals and broadcasts end them, and its signals end no other sleep
   pub record EnderRule (c : ℕ) : Type 0 where
-    pub own : (s g : ℕ) (x : Of Sleep) → IsSleep paths w s x c → ender_of w s ≡ Some g
+    pub own : (s g : ℕ) (x : Placed Sleep) → IsSleep paths w s x c → ender_of w s ≡ Some g
         → IsSignal paths w g c ⊎ IsBroadcast paths w g c
     pub alone : (s g : ℕ) → IsSignal paths w g c → ender_of w s ≡ Some g
-        → (x : Of Sleep) × IsSleep paths w s x c
+        → (x : Placed Sleep) × IsSleep paths w s x c

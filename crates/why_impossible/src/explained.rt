@@ -35,7 +35,7 @@ pub enum Explained {
 /// What a derivation proves over the clauses of a log, and by which rules. Any tool may have made
 /// it. Another derivation may use other rules.
 ///
-/// Fails if [`check_impossible`](clap_solve::check_impossible) does.
+/// Fails if the log has no clauses, or if a line of the derivation doesn't pass.
 pub fn why<M: MemoryModel>(
     alloc: Global,
     code: &Code,

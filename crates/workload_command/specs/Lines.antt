@@ -1,15 +1,16 @@
 -- The line and the status of what comes of a workload.
 use Rattle.std.specs.Prelude.{ℕ, Bool, true, false, ◌||◌, List, ◌++◌, length, codes, if◌then◌else◌}
 use Rattle.std.specs.Fmt.{decimal}
-use Rattle.clap_solve.specs.declared.answer.Answer.{Answer}
-use Rattle.clap_solve.specs.declared.answer.Answer.TheVariants.{Found, Impossible, Spent}
+use Rattle.clap_solve.specs.schedule_file.declared.schedule.Schedule.{Schedule}
+use Rattle.clap_solve.specs.cdcl_core.declared.answer.Answer.{Answer}
+use Rattle.clap_solve.specs.cdcl_core.declared.answer.Answer.TheVariants.{Found, Impossible, Spent}
 use Rattle.command_frame.specs.declared.status.Status.{Status}
 use Rattle.command_frame.specs.declared.status.Status.TheVariants.{Done, Open}
 use Rattle.workload_command.specs.Works.{Workload}
 use Rattle.workload_command.specs.declared.work.Work.{Work}
 
 -- the short form of a search's result
-abbrev pub found_words : Answer → List ℕ
+abbrev pub found_words : Answer Schedule → List ℕ
 found_words (Found schedule) = decimal (length schedule.moves.items) ++ codes " moves"
 found_words (Impossible lines) = codes "impossible"
 found_words (Spent lines) = codes "spent"
@@ -23,7 +24,7 @@ work_line call x =
     ++ (codes ", sc " ++ (found_words x.sc ++ codes "\n")))))))))
 
 -- whether a search was given up
-abbrev pub is_spent : Answer → Bool
+abbrev pub is_spent : Answer Schedule → Bool
 is_spent (Spent _) = true
 is_spent _ = false
 

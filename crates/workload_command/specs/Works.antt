@@ -2,7 +2,8 @@
 use Rattle.std.specs.Prelude.{◌≡◌, ℕ, List, codes}
 use Rattle.clap_solve.specs.Clauses.{bound_of}
 use Rattle.clap_solve.specs.Solved.{IsAnswer, IsWithin}
-use Rattle.clap_solve.specs.declared.answer.Answer.{Answer}
+use Rattle.clap_solve.specs.schedule_file.declared.schedule.Schedule.{Schedule}
+use Rattle.clap_solve.specs.cdcl_core.declared.answer.Answer.{Answer}
 use Rattle.run_log.specs.memory_models.declared.model.Model.{Model}
 use Rattle.run_log.specs.memory_models.declared.model.Model.TheVariants.{Sc, Tso}
 use Rattle.run_log.specs.Logs.{Log}
@@ -48,7 +49,7 @@ abbrev pub word_of : Code → (seed : ℕ) → List ℕ
 word_of code seed = end_word (seeded_run (buffer_of Tso) code seed MOVES).end
 
 -- a search of the log under this memory model has this result
-abbrev pub IsFoundUnder : Model → Code → Log → Answer → Type 0
+abbrev pub IsFoundUnder : Model → Code → Log → Answer Schedule → Type 0
 IsFoundUnder model code log x =
     IsAnswer (buffer_of model) model (bound_of model) code log USUAL_BUDGET x
 

@@ -7,6 +7,7 @@ use crate::command::Workload;
 use crate::work::Work;
 use clap_solve::Answer;
 use command_frame::Status;
+use schedule_file::Schedule;
 use std::alloc::{AllocError, Global};
 
 /// The line that says it.
@@ -23,7 +24,7 @@ pub(crate) fn work_line(
     format!(in alloc; "workload {workers} {seed}: record {end}, tso {tso}, sc {sc}\n")
 }
 
-fn found_words(alloc: Global, found: &Answer) -> Result<String, AllocError>
+fn found_words(alloc: Global, found: &Answer<Schedule>) -> Result<String, AllocError>
     ensures { IfOk result (λ text. string_bytes text ≡ found_words found.now) }
 {
     match found {

@@ -14,6 +14,7 @@ use clap_system::BuildFault;
 use command_inputs::Fault;
 use log_tasks::{USUAL_BUDGET, refuse_built};
 use run_log::Log;
+use schedule_file::Schedule;
 use std::alloc::{AllocError, Global};
 use store_buffers::{Sc, TsoModel};
 use tc_code::Code;
@@ -28,9 +29,9 @@ pub struct Work {
     /// The word for the end of the run that the seed chose.
     pub end: &'static str,
     /// The result of the search under total store order.
-    pub tso: Answer,
+    pub tso: Answer<Schedule>,
     /// The result of the search under sequential consistency.
-    pub sc: Answer,
+    pub sc: Answer<Schedule>,
 }
 
 /// What comes of the program with these workers and this seed.
@@ -83,7 +84,7 @@ fn end_word(alloc: Global, code: &Code, seed: u64) -> Result<&'static str, Alloc
     ensures { IfOk result (λ word. word.now ≡ word_of code.now seed) }
 {
     match run_seeded::<TsoModel>(alloc, code, seed, MOVES) {
-        Ok(Seeded::Failed(_, _)) => Ok("failed"),
+        Ok(Seeded::Failed(_, _, _)) => Ok("failed"),
         Ok(Seeded::Finished(_)) => Ok("finished"),
         Ok(Seeded::Deadlock(_, _)) => Ok("deadlock"),
         Ok(Seeded::StepLimit(_)) => Ok("step-limit"),

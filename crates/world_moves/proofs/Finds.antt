@@ -3,7 +3,7 @@ use Rattle.std.proofs.Common.{◌≡◌, ◌∙◌, ℕ, zero, suc, ◌+◌, ◌
 use Rattle.std.proofs.Common.{Some, None, refl, sym, ap, arith}
 use Rattle.std.specs.List.{enumerate_from, find, list_any, range_with_len}
 use Rattle.std.proofs.lemmas.Bool.{true≢false}
-use Rattle.std.proofs.lemmas.List.{take_more}
+use Rattle.std.proofs.lemmas.List.{get_or_default, take_more}
 use Rattle.std.proofs.lemmas.List.FromFn.{length-enumerate_from, get_or-enumerate_from}
 use Rattle.std.proofs.lemmas.List.Folds.{list_any-append}
 use Rattle.std.proofs.lemmas.List.Sums.{fold-append}
@@ -38,18 +38,29 @@ module _ {X : Type 0} (p : ℕ × X → Bool) (xs : List X) (i : ℕ) where
   at_place x within at =
       get_or-enumerate_from 0 xs i (i, x) within ∙ ap (λ y. (0 + i, y)) (sym at) ∙ ap (λ n. (n, x)) (let e : 0 + i ≡ i = omega arith in e)
 
-  -- the first element that passes is found
-  pub found : (x : X) → list_any p (take i all) ≡ false → i < length xs → x ≡ get_or xs i x → p (i, x) ≡ true → find p all ≡ Some (i, x)
-  found x none within at hit =
-      found_in p all i (i, x) none (omega (arith, within, length-enumerate_from 0 xs)) (sym (at_place x within at)) hit
+  -- the element at a place of an equal list
+  module _ (own : List X) (d : X) (is : own ≡ xs) (within : i < length own) (none : list_any p (take i all) ≡ false) where
+    abbrev x : X
+    x = get_or own i d
 
-  -- an element that doesn't pass is skipped
-  pub passed : (x : X) → list_any p (take i all) ≡ false → i < length xs → x ≡ get_or xs i x → p (i, x) ≡ false → list_any p (take (i + 1) all) ≡ false
-  passed x none within at missed =
-      ap (list_any p) (take_more all i (i, x) (omega (arith, within, length-enumerate_from 0 xs)))
-      ∙ list_any-append p (take i all) (get_or all i (i, x) ∷ [])
-      ∙ ap (λ b. b || list_any p (get_or all i (i, x) ∷ [])) none
-      ∙ ap (λ y. list_any p (y ∷ [])) (at_place x within at) ∙ ap (λ b. b || false) missed
+    inside : i < length xs
+    inside = omega (arith, within, ap length is)
+
+    here : get_or all i (i, x) ≡ (i, x)
+    here = at_place x inside (ap (λ ys. get_or ys i d) is ∙ get_or_default xs i d x inside)
+
+    -- the first element that passes is found
+    pub found : (n : ℕ) → n ≡ i → p (i, x) ≡ true → Some (n, x) ≡ find p all
+    found n same hit =
+        ap (λ m. Some (m, x)) same ∙ sym (found_in p all i (i, x) none (omega (arith, inside, length-enumerate_from 0 xs)) (sym here) hit)
+
+    -- an element that doesn't pass is skipped
+    pub passed : p (i, x) ≡ false → list_any p (take (i + 1) all) ≡ false
+    passed missed =
+        ap (list_any p) (take_more all i (i, x) (omega (arith, inside, length-enumerate_from 0 xs)))
+        ∙ list_any-append p (take i all) (get_or all i (i, x) ∷ [])
+        ∙ ap (λ b. b || list_any p (get_or all i (i, x) ∷ [])) none
+        ∙ ap (λ y. list_any p (y ∷ [])) here ∙ ap (λ b. b || false) missed
 
   pub nowhere : list_any p (take i all) ≡ false → i ≡ length xs → find p all ≡ None
   nowhere none end = nowhere_in p all i none (omega (arith, end, length-enumerate_from 0 xs))

@@ -15,7 +15,7 @@ use Rattle.path_walk.specs.declared.event.EventKind.TheVariants as kind
 use Rattle.sym_exec.specs.Alone.{cell_by}
 use Rattle.path_execution.specs.declared.execution.Execution.{Execution}
 use Rattle.order_formula.specs.Worlds.{World, position}
-use Rattle.order_cells.specs.lawful_order.Events.{Of, all_events}
+use Rattle.order_cells.specs.lawful_order.Events.{Placed, all_events}
 use Rattle.order_cells.specs.lawful_order.Memory.{cell_of, is_store}
 use Rattle.world_plan.specs.Plan.{is_failure, is_failing, woken_by}
 
@@ -49,7 +49,7 @@ with_passing paths m t = if is_failing paths t then m else with_rest paths m t
 
 module _ (paths : Paths) (w : World) where
   -- the event at a position with its number, if there is one
-  abbrev pub event_here : ℕ → Option (ℕ × Of Event)
+  abbrev pub event_here : ℕ → Option (ℕ × Placed Event)
   event_here p = find (λ e. position w e.0 == p) (enumerate_from 0 (all_events paths))
 
   -- one past all positions
@@ -83,7 +83,7 @@ module _ (buffered : Bool) (bound : Binding) (x : Execution) (w : World) where
       else with_moves m t (e.step + 1)
       (runs_to m t q.name e.step ++ own_move x.paths w g q.name e.kind ∷ [])
 
-  abbrev pub with_number : Made → ℕ × Of Event → Made
+  abbrev pub with_number : Made → ℕ × Placed Event → Made
   with_number m e =
       option_map_or (λ (q : Walk). with_event m e.0 e.1.thread q e.1.it)
       (slice_get x.paths.threads e.1.thread) m

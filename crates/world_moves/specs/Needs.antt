@@ -8,7 +8,7 @@ use Rattle.sym_exec.specs.declared.symbolic.Cell.{Cell}
 use Rattle.path_execution.specs.declared.execution.Execution.{Execution}
 use Rattle.order_formula.specs.Worlds.{World}
 use Rattle.order_cells.specs.Terms.{CellIsOf}
-use Rattle.order_cells.specs.lawful_order.Events.{Of}
+use Rattle.order_cells.specs.lawful_order.Events.{Placed}
 use Rattle.order_cells.specs.lawful_order.Memory.{cell_of, is_store}
 use Rattle.world_moves.specs.Moves.{event_here, last_place}
 
@@ -27,5 +27,5 @@ pub record IsTellable (buffered : Bool) (x : Execution) (w : World) (thread : �
 -- each event before the failing one satisfies this
 abbrev pub AreTellable : Bool → Execution → World → Type 0
 AreTellable buffered x w =
-    (p : ℕ) (e : ℕ × Of Event) → p < last_place x.paths w → event_here x.paths w p ≡ Some e
+    (p : ℕ) (e : ℕ × Placed Event) → p < last_place x.paths w → event_here x.paths w p ≡ Some e
     → IsTellable buffered x w e.1.thread e.1.it

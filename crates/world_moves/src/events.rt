@@ -12,7 +12,7 @@ ghost use Rattle.world_moves.specs.Needs.{IsNumbered};
 
 use order_events::{Events, Placed, Sleeps};
 use order_formula::World;
-use path_walk::{EventKind, Paths};
+use path_walk::{Event, EventKind, Paths};
 use sym_exec::{Access, Cell, Symbolic};
 use sym_terms::{Terms, Values, value};
 use tc_base::ThreadName;
@@ -36,7 +36,7 @@ pub(crate) fn event_at<'a>(
     events: &'a Events,
     world: &World,
     position: usize,
-) -> Option<(u32, &'a Placed)>
+) -> Option<(u32, &'a Placed<Event>)>
     ensures { option_map (λ e. (e.0, e.1.now)) result ≡ find (λ e. place world.now e.0 == position) (enumerate_from 0 events.now) }
 {
     let mut number: u32 = 0;
@@ -56,7 +56,7 @@ pub(crate) fn last_place(events: &Events, world: &World) -> usize
 {
     let mut number: u32 = 0;
     for placed in events.all() {
-        if is_failure(placed.event.kind) {
+        if is_failure(placed.it.kind) {
             return world.position(number) as usize;
         }
         number += 1;

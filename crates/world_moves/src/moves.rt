@@ -16,7 +16,7 @@ use crate::made::Made;
 use order_events::{Events, Placed, Sleeps};
 use order_formula::World;
 use path_execution::Execution;
-use path_walk::{EventKind, Paths};
+use path_walk::{Event, EventKind, Paths};
 use std::alloc::{AllocError, Global};
 use store_buffers::MemoryModel;
 use sym_terms::Values;
@@ -163,7 +163,7 @@ impl Told<'_> {
         &self,
         made: &mut Made,
         number: u32,
-        placed: &Placed,
+        placed: &Placed<Event>,
         values: &mut Values,
     ) -> Result<(), AllocError>
         requires sleeps { self.now.sleeps.now ≡ all_sleeps self.now.execution.now.paths }
@@ -178,7 +178,7 @@ impl Told<'_> {
         let Some(walk) = self.execution.paths.threads().get(placed.thread) else {
             return Ok(());
         };
-        if M::BUFFERED && is_store(placed.event.kind) {
+        if M::BUFFERED && is_store(placed.it.kind) {
             self.add_store::<M>(made, placed, walk.name(), values)
         } else {
             self.add_step(made, number, placed, walk.name())
@@ -189,7 +189,7 @@ impl Told<'_> {
     fn add_store<M: MemoryModel>(
         &self,
         made: &mut Made,
-        placed: &Placed,
+        placed: &Placed<Event>,
         name: &ThreadName,
         values: &mut Values,
     ) -> Result<(), AllocError>
@@ -203,7 +203,7 @@ impl Told<'_> {
             ++ spec.drains_of M.BUFFERED M.bound self.now.execution.now self.now.world.now placed.now.thread name.now placed.now.it.step)) }
         ensures table { Serves self.now.execution.now.terms self.now.world.now values.new }
     {
-        let step = placed.event.step;
+        let step = placed.it.step;
         made.run_to(placed.thread, name, step + 1)?;
         if let Some(cell) = cell_of(&self.execution.symbolic, placed.thread, step) {
             let number = cell_number(&self.execution.terms, cell, self.world, values);
@@ -218,7 +218,7 @@ impl Told<'_> {
         &self,
         made: &mut Made,
         number: u32,
-        placed: &Placed,
+        placed: &Placed<Event>,
         name: &ThreadName,
     ) -> Result<(), AllocError>
         requires sleeps { self.now.sleeps.now ≡ all_sleeps self.now.execution.now.paths }
@@ -228,9 +228,9 @@ impl Told<'_> {
             (spec.runs_to made.old placed.now.thread name.now placed.now.it.step
             ++ spec.own_move self.now.execution.now.paths self.now.world.now number name.now placed.now.it.kind ∷ [])) }
     {
-        let step = placed.event.step;
+        let step = placed.it.step;
         made.run_to(placed.thread, name, step)?;
-        made.push(self.own_move(number, name, placed.event.kind)?)?;
+        made.push(self.own_move(number, name, placed.it.kind)?)?;
         made.reach(placed.thread, step + 1);
         Ok(())
     }

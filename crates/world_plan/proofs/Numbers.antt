@@ -9,7 +9,7 @@ use Rattle.std.proofs.lemmas.Option.{none-some, same_Some, slice_get-get_or, sli
 use Rattle.std.proofs.lemmas.List.Sums.{position_or_len_is}
 use Rattle.order_events.specs.path_walk.Paths.{Walk, Paths}
 use Rattle.order_events.specs.path_walk.declared.event.Event.{Event}
-use Rattle.order_events.specs.lawful_order.Events.{Of, all_from, all_events, number_of}
+use Rattle.order_events.specs.lawful_order.Events.{Placed, all_from, all_events, number_of}
 use Rattle.order_events.specs.lawful_order.Whole.{HasStep, AreWhole}
 use Rattle.order_events.proofs.Lists.{of_cons, in_back, at_in, in_at}
 use Rattle.order_events.proofs.Numbers.{of_all_from, has_number, is_step, is_step_at, is_own, one_step}
@@ -72,27 +72,27 @@ abbrev pub Rise : {W X : Type 0} → (W → List X) → (X → ℕ) → List W �
 Rise {W} {X} has step ws = (u j k : ℕ) (q : W) (x y : X) → slice_get ws u ≡ Some q → slice_get (has q) j ≡ Some x → slice_get (has q) k ≡ Some y → j < k
     → step x < step y
 
-abbrev pub IsEarlier : {X : Type 0} → (X → ℕ) → Of X → Of X → Type 0
+abbrev pub IsEarlier : {X : Type 0} → (X → ℕ) → Placed X → Placed X → Type 0
 IsEarlier step a b = (a.thread < b.thread) ⊎ ((a.thread ≡ b.thread) × (step a.it < step b.it))
 
-abbrev the_of : {X : Type 0} → ℕ → X → Of X
+abbrev the_of : {X : Type 0} → ℕ → X → Placed X
 the_of t x = record { thread = t; it = x }
 
-later_thread : {W X : Type 0} (has : W → List X) (t : ℕ) (ws : List W) (k : ℕ) (a : Of X) → slice_get (all_from has t ws) k ≡ Some a → t ≤ a.thread
+later_thread : {W X : Type 0} (has : W → List X) (t : ℕ) (ws : List W) (k : ℕ) (a : Placed X) → slice_get (all_from has t ws) k ≡ Some a → t ≤ a.thread
 later_thread has t ws k a at =
     let o = of_all_from has t ws a (at_in (all_from has t ws) k a at) in
     omega (arith, o.thread)
 
-pub of_rise : {W X : Type 0} (has : W → List X) (step : X → ℕ) (t : ℕ) (ws : List W) → Rise has step ws → (i j : ℕ) (a b : Of X)
+pub of_rise : {W X : Type 0} (has : W → List X) (step : X → ℕ) (t : ℕ) (ws : List W) → Rise has step ws → (i j : ℕ) (a b : Placed X)
     → slice_get (all_from has t ws) i ≡ Some a → slice_get (all_from has t ws) j ≡ Some b → i < j → IsEarlier step a b
 of_rise has step t [] rise i j a b ia jb lt = absurd (none-some a ia)
 of_rise {W} {X} has step t (w ∷ ws) rise i j a b ia jb lt =
     by (λ k l ka lb less. of_rise has step (t + 1) ws (λ u. rise (suc u)) k l a b ka lb less) (get_both own rest i a ia) (get_both own rest j b jb)
   where
-    own : List (Of X)
+    own : List (Placed X)
     own = map (λ x. the_of t x) (has w)
 
-    rest : List (Of X)
+    rest : List (Placed X)
     rest = all_from has (t + 1) ws
 
     by : ((k l : ℕ) → slice_get rest k ≡ Some a → slice_get rest l ≡ Some b → k < l → IsEarlier step a b)
@@ -103,12 +103,12 @@ of_rise {W} {X} has step t (w ∷ ws) rise i j a b ia jb lt =
         let f = from_mapped_at (λ x. the_of t x) (has w) j b bj in
         let steps = rise 0 i j w e.0 f.0 refl e.1 f.1 lt in
         inr (
-          sym (ap (λ (z : Of X). z.thread) e.2) ∙ ap (λ (z : Of X). z.thread) f.2,
-          omega (arith, steps, ap (λ (z : Of X). step z.it) e.2, ap (λ (z : Of X). step z.it) f.2),
+          sym (ap (λ (z : Placed X). z.thread) e.2) ∙ ap (λ (z : Placed X). z.thread) f.2,
+          omega (arith, steps, ap (λ (z : Placed X). step z.it) e.2, ap (λ (z : Placed X). step z.it) f.2),
         )
     by later (inl ai) (inr r) =
         let e = from_mapped_at (λ x. the_of t x) (has w) i a ai in
-        inl (omega (arith, ap (λ (z : Of X). z.thread) e.2, later_thread has (t + 1) ws r.0 b r.2))
+        inl (omega (arith, ap (λ (z : Placed X). z.thread) e.2, later_thread has (t + 1) ws r.0 b r.2))
     by later (inr r) (inl bj) = absurd (omega (arith, r.1, lt, slice_get_within own j b bj))
     by later (inr r) (inr s) = later r.0 s.0 r.2 s.2 (omega (arith, r.1, s.1, lt))
 
@@ -129,7 +129,7 @@ module _ (paths : Paths) (whole : AreWhole paths) where
       ]
 
   -- the element at a place among all events is an event of a thread
-  pub event_numbered : (g : ℕ) (e : Of Event) → slice_get (all_events paths) g ≡ Some e
+  pub event_numbered : (g : ℕ) (e : Placed Event) → slice_get (all_events paths) g ≡ Some e
       → (q : Walk) × (slice_get paths.threads e.thread ≡ Some q) × Contains q.events e.it
   event_numbered g e at =
       let o = of_all_from (λ (w : Walk). w.events) 0 paths.threads e (at_in (all_events paths) g e at) in
@@ -137,7 +137,7 @@ module _ (paths : Paths) (whole : AreWhole paths) where
       (o.owner, ap (slice_get paths.threads) (sym same) ∙ o.at, o.among)
 
   -- the place is the number of the event
-  pub number_is : (g : ℕ) (e : Of Event) → slice_get (all_events paths) g ≡ Some e → number_of paths e.thread e.it.step ≡ g
+  pub number_is : (g : ℕ) (e : Placed Event) → slice_get (all_events paths) g ≡ Some e → number_of paths e.thread e.it.step ≡ g
   number_is g e at =
       let within = slice_get_within (all_events paths) g e at in
       position_or_len_is (is_step e.thread e.it.step) (all_events paths) g e (omega (arith, within)) earlier passes
@@ -167,7 +167,7 @@ numbers_rise paths whole t k j s u less =
       | inl same ↦ absurd (let one = one_step paths t k t j s same in omega (arith, less, one.1))
       | inr (inl lower) ↦ lower
       | inr (inr higher) ↦
-          let d : Of Event = the_of t s.0 in
+          let d : Placed Event = the_of t s.0 in
           let e = get_or (all_events paths) (number_of paths t k) d in
           let f = get_or (all_events paths) (number_of paths t j) d in
           let e_is = and_parts (e.thread == t) (e.it.step == k) (is_step_at paths t k d (has_number paths t k s)) in

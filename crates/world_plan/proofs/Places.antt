@@ -7,13 +7,13 @@ use Rattle.std.proofs.lemmas.Option.{none-some, same_Some}
 use Rattle.order_events.specs.path_walk.Paths.{Walk, Paths}
 use Rattle.order_events.specs.path_walk.declared.event.Event.{Event}
 use Rattle.order_events.specs.order_formula.Worlds.{World, IsWorld}
-use Rattle.order_events.specs.lawful_order.Events.{Of, all_events, number_of, place_of}
+use Rattle.order_events.specs.lawful_order.Events.{Placed, all_events, number_of, place_of}
 use Rattle.order_events.specs.lawful_order.Whole.{HasStep, AreWhole}
 use Rattle.order_events.proofs.Numbers.{in_all_from, of_all_from, has_number, one_step}
 use Rattle.world_plan.specs.Plan.{event_at}
 use Rattle.world_plan.proofs.Numbers.{of_find, in_find, one_place, one_event}
 
-abbrev the_event : Of Event → Of Event
+abbrev the_event : Placed Event → Placed Event
 the_event e = e
 
 -- a thread's event is a step and is among all events
@@ -44,10 +44,10 @@ module _ (paths : Paths) (w : World) (world : IsWorld w) (many : length w.positi
         one_walk e = same_Some p q (sym at ∙ ap (slice_get paths.threads) e ∙ bt)
 
     -- the event at a position
-    pub event_at_is : (p : ℕ) (e : Of Event) → event_at paths w p ≡ Some e
+    pub event_at_is : (p : ℕ) (e : Placed Event) → event_at paths w p ≡ Some e
         → (q : Walk) × (slice_get paths.threads e.thread ≡ Some q) × Contains q.events e.it × (place_of paths w e.thread e.it.step ≡ p)
     event_at_is p e is =
-        let f = of_find (λ (a : Of Event). place_of paths w a.thread a.it.step == p) (all_events paths) e is in
+        let f = of_find (λ (a : Placed Event). place_of paths w a.thread a.it.step == p) (all_events paths) e is in
         let o = of_all_from (λ (v : Walk). v.events) 0 paths.threads e f.0 in
         let same : o.place ≡ e.thread = omega (arith, o.thread) in
         (o.owner, ap (slice_get paths.threads) (sym same) ∙ o.at, o.among, eqb-true (place_of paths w e.thread e.it.step) p f.1)
@@ -55,9 +55,9 @@ module _ (paths : Paths) (w : World) (world : IsWorld w) (many : length w.positi
     pub event_at_place : (t : ℕ) (q : Walk) (x : Event) → slice_get paths.threads t ≡ Some q → Contains q.events x
         → event_at paths w (place_of paths w t x.step) ≡ Some (record { thread = t; it = x })
     event_at_place t q x there i =
-        let own : Of Event = record { thread = t; it = x } in
+        let own : Placed Event = record { thread = t; it = x } in
         let p = place_of paths w t x.step in
-        let f = in_find (λ (a : Of Event). place_of paths w a.thread a.it.step == p) (all_events paths) own (among_all paths t q x there i) (eq-eqb p p refl) in
+        let f = in_find (λ (a : Placed Event). place_of paths w a.thread a.it.step == p) (all_events paths) own (among_all paths t q x there i) (eq-eqb p p refl) in
         let e = event_at_is p f.0 f.1 in
         let s = same_event f.0.thread t e.0 q f.0.it x e.1 there e.2 i e.3 in
         f.1 ∙ ap₂ (λ u y. Some (the_event (record { thread = u; it = y }))) s.0 s.1

@@ -16,7 +16,7 @@ use Rattle.order_events.specs.sym_terms.Terms.{AreTerms}
 use Rattle.order_events.specs.sym_terms.declared.node.Node.{Node}
 use Rattle.sym_laws.specs.Valued.{AgreesWith, found}
 use Rattle.order_events.specs.order_formula.Worlds.{World, IsWorld, position}
-use Rattle.order_events.specs.lawful_order.Events.{Of, all_sleeps, place_of, ender_of}
+use Rattle.order_events.specs.lawful_order.Events.{Placed, all_sleeps, place_of, ender_of}
 use Rattle.order_events.specs.lawful_order.Lawful as order
 use Rattle.order_events.specs.lawful_order.Lawful.{IsWorldOf}
 use Rattle.order_events.specs.lawful_order.Memory.{is_store}
@@ -51,7 +51,7 @@ module _ (code : Code) (log : Log) (w : World) where
   -- a sleep that has begun lasts until the event that ends it
   abbrev pub SleepUntilEnded : ℕ → List Deed → Type 0
   SleepUntilEnded p h =
-      (s : ℕ) (x : Of Sleep) (q : Walk) → slice_get (all_sleeps (paths_of code log)) s ≡ Some x
+      (s : ℕ) (x : Placed Sleep) (q : Walk) → slice_get (all_sleeps (paths_of code log)) s ≡ Some x
       → IsThread code log x.thread q
       → x.it.step < steps_in h q.name
       → IsAsleepIn h q.name x.it ↔ ((g : ℕ) → ender_of w s ≡ Some g → p ≤ position w g)

@@ -18,7 +18,7 @@ use Rattle.order_events.specs.path_walk.declared.event.Event.{Event}
 use Rattle.order_events.specs.path_walk.declared.event.EventKind.{EventKind}
 use Rattle.order_events.specs.path_walk.declared.event.EventKind.TheVariants as kind
 use Rattle.order_events.specs.order_formula.Worlds.{World, is_ended}
-use Rattle.order_events.specs.lawful_order.Events.{Of, all_events, all_sleeps, number_of, place_of}
+use Rattle.order_events.specs.lawful_order.Events.{Placed, all_events, all_sleeps, number_of, place_of}
 use Rattle.order_events.specs.lawful_order.Memory.{is_store}
 
 abbrev pub is_failure : EventKind → Bool
@@ -32,7 +32,7 @@ woken_by paths w g =
     (find (λ s. is_ended w s.0 g) (enumerate_from 0 (all_sleeps paths)))
 
 -- the event at a position, if there is one
-abbrev pub event_at : Paths → World → ℕ → Option (Of Event)
+abbrev pub event_at : Paths → World → ℕ → Option (Placed Event)
 event_at paths w p = find (λ e. place_of paths w e.thread e.it.step == p) (all_events paths)
 
 -- the position of the failing event, or one past all positions if none fails
@@ -89,7 +89,7 @@ module _ (buffered : Bool) (code : Code) (paths : Paths) (w : World) where
   abbrev pub with_drain : List Deed → Name → Event → List Deed
   with_drain h n x = if buffered && is_store x.kind then h ++ drains_next buffered h n x.step else h
 
-  abbrev pub with_event : List Deed → Of Event → List Deed
+  abbrev pub with_event : List Deed → Placed Event → List Deed
   with_event h e =
       option_map_or
       (λ (q : Walk). with_drain (goes_to h e.thread q.name (e.it.step + 1)) q.name e.it)

@@ -6,8 +6,12 @@ use Rattle.cdcl_clauses.specs.declared.clauses.Clauses.TheInside.{Inside}
 
 -- the clause of an entry
 abbrev pub clause_of : List ℕ → Entry → Clause
-clause_of literals e =
-    record { literals = slice_range literals e.start e.end; first = e.first; second = e.second; kept = e.kept }
+clause_of literals e = record {
+  literals = slice_range literals e.start e.end;
+  first = e.first;
+  second = e.second;
+  kept = e.kept;
+}
 
 abbrev pub clauses_of : Inside → List Clause
 clauses_of a = map (clause_of a.literals.items) a.entries.items

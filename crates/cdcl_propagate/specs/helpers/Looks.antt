@@ -1,5 +1,5 @@
 -- What a look at a clause finds.
-use Rattle.std.specs.Prelude.{◌≡◌, ◌≢◌, ℕ, ◌<◌, true, false, List, length, slice_index_or, slice_set, Contains, [], ◌∷◌, ◌++◌}
+use Rattle.std.specs.Prelude.{◌≡◌, ◌≢◌, ℕ, ◌<◌, true, false, List, length, slice_index_or, Contains}
 use Rattle.cdcl_literals.specs.Literals.{opposite_of}
 use Rattle.cdcl_trail.specs.Trail.{Trail, IsOpen}
 use Rattle.cdcl_clauses.specs.Clauses.{Clause, at, watches, beside, listed}
@@ -49,10 +49,3 @@ IsVisitedBelow t cs ws fallen place =
     (p : ℕ) (d : Watch) → p < place
     → watches (at cs (slice_index_or (listed ws fallen) p d).clause) fallen ≡ true
     → HasTrue t.literals (at cs (slice_index_or (listed ws fallen) p d).clause)
-
--- the clause now watches `other` and `next`, and is in the watch list of `next` too
-pub record WasMoved (cs : List Clause) (ws : List (List Watch)) (ds : List Clause)
-    (vs : List (List Watch)) (clause other next : ℕ) : Type 0 where
-  pub clauses : ds ≡ slice_set cs clause (record (at cs clause) { first = other; second = next })
-  pub lists : vs ≡ slice_set ws next
-      (listed ws next ++ record { clause = clause; blocker = other } ∷ [])

@@ -12,14 +12,10 @@ use Rattle.path_walk.specs.Fits.{Fits}
 use Rattle.path_walk.specs.Paths.{paths_of}
 use Rattle.cnf_core.specs.Clauses.{satisfies, value_in}
 use Rattle.dimacs_text.specs.Values.{IsFirstFalse}
-use Rattle.cdcl_core.specs.Solving.{Solves}
-use Rattle.cdcl_core.specs.declared.progress.Solved.{Solved}
-use Rattle.cdcl_core.specs.declared.progress.Solved.TheVariants as solved
+use Rattle.schedule_file.specs.declared.schedule.Schedule.{Schedule}
 use Rattle.clap_solve.specs.Posed.{IsGiven, Posed, posed_of}
-use Rattle.clap_solve.specs.declared.answer.Answer.{Answer}
-use Rattle.clap_solve.specs.declared.answer.Answer.TheVariants.{Found, Impossible, Spent}
 use Rattle.clap_solve.specs.declared.imported.Imported.{Imported}
-use Rattle.clap_solve.specs.declared.imported.Imported.TheVariants as imported
+use Rattle.clap_solve.specs.declared.imported.Imported.TheVariants.{Found, False}
 
 module _ (buffered : Bool) (bound : Binding) (code : Code) (p : Posed) where
   -- the parts belong to some log
@@ -40,11 +36,6 @@ module _ (buffered : Bool) (bound : Binding) (code : Code) (p : Posed) where
     pub all : p.blasted.clauses.vars ≤ length values
     pub satisfies : IsTrue (satisfies (value_in values) p.blasted.clauses.clauses)
 
-  -- the values that a search found, if any, satisfy the clauses
-  abbrev pub IsSearched : Solved → Type 0
-  IsSearched (solved.Sat values) = IsSatisfied values
-  IsSearched _ = Unit {0}
-
 module _ {B : Type 0} (ops : BufferOps B) (code : Code) (p : Posed) where
   -- the moves reproduce each log with these paths
   abbrev pub ReproduceEach : List Move → Type 0
@@ -53,25 +44,14 @@ module _ {B : Type 0} (ops : BufferOps B) (code : Code) (p : Posed) where
       → Reproduces ops code log moves
 
   module _ (model : Model) where
-    -- the answer from a search's result: a schedule of such moves, or the search's own derivation
-    abbrev pub IsAnsweredOn : Solved → Answer → Type 0
-    IsAnsweredOn (solved.Sat values) (Found schedule) =
-        (schedule.model ≡ model) × ReproduceEach schedule.moves.items
-    IsAnsweredOn (solved.Unsat lines) (Impossible own) = own ≡ lines
-    IsAnsweredOn (solved.Spent lines) (Spent own) = own ≡ lines
-    IsAnsweredOn _ _ = ⊥
-
-    -- the answer from some search of the clauses with this budget
-    pub record IsFoundOn (budget : ℕ) (answer : Answer) : Type 0 where
-      pub solved : Solved
-      pub solves : Solves p.blasted.clauses budget solved
-      pub answers : IsAnsweredOn solved answer
+    -- a schedule of the model, of such moves
+    abbrev pub IsScheduled : Schedule → Type 0
+    IsScheduled schedule = (schedule.model ≡ model) × ReproduceEach schedule.moves.items
 
     -- values that satisfy the clauses give a schedule of such moves; others, the first false clause
     abbrev pub IsImportedOn : List Bool → Imported → Type 0
-    IsImportedOn values (imported.Found schedule) =
-        IsTrue (satisfies (value_in values) p.blasted.clauses.clauses) × (schedule.model ≡ model)
-        × ReproduceEach schedule.moves.items
-    IsImportedOn values (imported.False number) =
+    IsImportedOn values (Found schedule) =
+        IsTrue (satisfies (value_in values) p.blasted.clauses.clauses) × IsScheduled schedule
+    IsImportedOn values (False number) =
         (place : ℕ) × (number ≡ suc place)
         × IsFirstFalse (value_in values) p.blasted.clauses.clauses place

@@ -9,18 +9,15 @@ use Rattle.run_log.specs.Logs.{is_log}
 use Rattle.path_walk.specs.Fits.{Fits}
 use Rattle.path_walk.specs.Paths.{Paths, paths_of}
 use Rattle.order_formula.specs.Worlds.{World}
-use Rattle.cnf_core.specs.Clauses.{Formula, satisfies, value_in}
-use Rattle.cdcl_core.specs.Solving.{Solves}
-use Rattle.cdcl_core.specs.declared.progress.Solved.{Solved}
-use Rattle.cdcl_core.specs.declared.progress.Solved.TheVariants as solved
+use Rattle.cnf_core.specs.Clauses.{satisfies, value_in}
+use Rattle.cdcl_core.specs.Solving.{IsAnswerOn}
+use Rattle.cdcl_core.specs.declared.answer.Answer.{Answer}
 use Rattle.clap_solve.specs.Clauses.{clauses_of}
 use Rattle.clap_solve.specs.Posed.{IsGiven, Posed, posed_of}
 use Rattle.switch_clauses.specs.switch_runs.Worlds.{world_switches}
 use Rattle.least_switch.specs.Least.{HasSwitches}
 use Rattle.least_switch.specs.declared.best.Best.{Best}
 use Rattle.least_switch.specs.declared.bounded.Bounded.{Bounded}
-use Rattle.least_switch.specs.declared.stages.Found.{Found}
-use Rattle.least_switch.specs.declared.stages.Found.TheVariants as found
 use Rattle.least_switch.specs.helpers.Bounded.{IsBounded}
 
 module _ {B : Type 0} (ops : BufferOps B) (model : Model) (code : Code) where
@@ -54,24 +51,6 @@ pub record IsSaid (buffered : Bool) (bound : Binding) (code : Code) (log : Log) 
   pub satisfies : IsTrue (satisfies (value_in values) b.clauses.clauses)
   pub all : b.clauses.vars ≤ length values
 
--- a property of the values that a search found, if any
-abbrev pub IfSat : (List Bool → Type 0) → Solved → Type 0
-IfSat P (solved.Sat values) = P values
-IfSat P _ = Unit {0}
-
--- the result of a search: a schedule with this property, or the search's own derivation
-abbrev pub IsFoundBy : (Best → Type 0) → Solved → Found → Type 0
-IsFoundBy Is (solved.Sat values) (found.Best b) = Is b
-IsFoundBy Is (solved.Unsat lines) (found.Impossible own) = own ≡ lines
-IsFoundBy Is (solved.Spent lines) (found.Spent own) = own ≡ lines
-IsFoundBy Is _ _ = ⊥
-
--- the result of a search over some clauses: a schedule with this property, or what else it proves
-abbrev pub IsFoundOn : Formula → (Best → Type 0) → ℕ → Found → Type 0
-IsFoundOn f Is budget (found.Best b) = Is b
-IsFoundOn f Is budget (found.Impossible lines) = Solves f budget (solved.Unsat lines)
-IsFoundOn f Is budget (found.Spent lines) = Solves f budget (solved.Spent lines)
-
 -- the clauses of a log, with everything that they are made from
 pub record IsPosedFor (buffered : Bool) (bound : Binding) (code : Code) (log : Log)
     (p : Posed) : Type 0 where
@@ -82,6 +61,6 @@ pub record IsPosedFor (buffered : Bool) (bound : Binding) (code : Code) (log : L
 -- the result of the search over the clauses of a log
 pub record IsFirstFound {B : Type 0} (ops : BufferOps B) (model : Model) (buffered : Bool)
     (bound : Binding) (code : Code) (log : Log) (budget : ℕ)
-    (x : Found) : Type 0 where
+    (x : Answer Best) : Type 0 where
   pub given : IsGiven code log
-  pub found : IsFoundOn (clauses_of buffered bound code log) (IsBest ops model code log) budget x
+  pub found : IsAnswerOn (clauses_of buffered bound code log) budget (IsBest ops model code log) x

@@ -38,8 +38,11 @@ with_cut out cut =
 
 -- the scope of the search for an awaited thread's path
 abbrev pub scope_of : Bounds → Rest → Awaited → Scope
-scope_of bounds rest next =
-    record { function = next.function; aim = aim_of bounds.kind rest.ends next.end; most = bounds.most }
+scope_of bounds rest next = record {
+  function = next.function;
+  aim = aim_of bounds.kind rest.ends next.end;
+  most = bounds.most;
+}
 
 -- whether a thread of this name may be added; if not, the limit in its way is reported
 abbrev pub IsOpen : Name → ℕ → LeftOut → Bool → Type 0
@@ -101,18 +104,22 @@ abbrev pub CanFollow : Code → Bounds → Rest → Option (List ThreadPath) →
 CanFollow code bounds rest last =
     IfSome last (λ ts. MakeUp code bounds.kind rest ts × All (IsWithin bounds.most) ts)
 
-module _ (code : Code) (live : Liveness) (bounds : Bounds) (rest : Rest) (wanted : Wanted)
-    (room : ℕ) (before after : List ThreadPath) (out : LeftOut) where
-  -- the first threads were added after those before
-  pub record IsAdded : Type 0 where
-    pub added : List ThreadPath
-    pub is : after ≡ before ++ added
-    pub first : AreFirst code live bounds rest wanted room out added
+-- some threads were added after those before
+pub record IsAdded (AreThese : List ThreadPath → Type 0) (before after : List ThreadPath)
+    : Type 0 where
+  pub added : List ThreadPath
+  pub is : after ≡ before ++ added
+  pub first : AreThese added
 
-  pub record IsSame : Type 0 where
-    pub same : after ≡ before
-    pub none : AreNone code live bounds rest wanted room out
+-- none were added, for this reason
+pub record IsSame (Reason : Type 0) (before after : List ThreadPath) : Type 0 where
+  pub same : after ≡ before
+  pub none : Reason
 
-  abbrev pub IsEnd : Bool → Type 0
-  IsEnd true = IsAdded
-  IsEnd false = IsSame
+-- the first threads were added if there are some, and else none
+abbrev pub IsEnd : Code → Liveness → Bounds → Rest → Wanted → ℕ → (before after : List ThreadPath)
+    → LeftOut → Bool → Type 0
+IsEnd code live bounds rest wanted room before after out true =
+    IsAdded (AreFirst code live bounds rest wanted room out) before after
+IsEnd code live bounds rest wanted room before after out false =
+    IsSame (AreNone code live bounds rest wanted room out) before after

@@ -31,7 +31,7 @@ use Rattle.sym_steps.proofs.path_laws.of_events.Lists.{in_contains, contains_in}
 use Rattle.condition_order.specs.sym_terms.declared.node.Node.{Node}
 use Rattle.condition_order.specs.order_formula.Worlds.{World, position}
 use Rattle.condition_order.specs.order_formula.declared.group.Group.TheVariants.{Condition}
-use Rattle.condition_order.specs.lawful_order.Events.{Of, all_events, all_sleeps, number_of, place_of, ender_of}
+use Rattle.condition_order.specs.lawful_order.Events.{Placed, all_events, all_sleeps, number_of, place_of, ender_of}
 use Rattle.condition_order.specs.lawful_order.Conditions.{is_signal, is_broadcast}
 use Rattle.condition_order.specs.lawful_order.Memory.{is_store}
 use Rattle.world_plan.specs.Going.{IsLawfulWorld, HasGone, NextEvent, SleepUntilEnded, is_pending, place}
@@ -184,7 +184,7 @@ module _ {B : Type 0} (setting : Setting B) (nodes : List Node) (w : World) (law
 
   -- an ender with the position of an event is that event
   module _ (t : ℕ) (q : Walk) (x : Event) (there : IsThread code log t q) (i : Contains q.events x) (at : place code log w t x ≡ p) where
-    is_it : (g : ℕ) (e : Of Event) → slice_get (all_events paths) g ≡ Some e → position w g ≡ p → (number_of paths t x.step ≡ g) × (x ≡ e.it)
+    is_it : (g : ℕ) (e : Placed Event) → slice_get (all_events paths) g ≡ Some e → position w g ≡ p → (number_of paths t x.step ≡ g) × (x ≡ e.it)
     is_it g e is here =
         let whole = are_whole setting nodes w lawful in
         let o = event_numbered paths whole g e is in
@@ -193,7 +193,7 @@ module _ {B : Type 0} (setting : Setting B) (nodes : List Node) (w : World) (law
         (at ∙ sym here ∙ ap (position w) (sym number)) in
         (ap₂ (number_of paths) same.0 (ap (λ (y : Event). y.step) same.1) ∙ number, same.1)
 
-    ends_here : (s g : ℕ) (z : Of Sleep) → slice_get (all_sleeps paths) s ≡ Some z → ender_of w s ≡ Some g → position w g ≡ p
+    ends_here : (s g : ℕ) (z : Placed Sleep) → slice_get (all_sleeps paths) s ≡ Some z → ender_of w s ≡ Some g → position w g ≡ p
         → (number_of paths t x.step ≡ g) × ((x.kind ≡ kind.Signal z.it.condition) ⊎ (x.kind ≡ kind.Broadcast z.it.condition))
     ends_here s g z is ends here =
         let c = z.it.condition in
@@ -238,7 +238,7 @@ module _ {B : Type 0} (setting : Setting B) (nodes : List Node) (w : World) (law
     kind_now : (n : Name) (e : Event) → IsNow n e → kind_done d ≡ Some e.kind
     kind_now n e now = ap kind_done now.is ∙ now.asks
 
-    module _ (s : ℕ) (z : Of Sleep) (v : Walk) (is : slice_get (all_sleeps paths) s ≡ Some z) (there : IsThread code log z.thread v) where
+    module _ (s : ℕ) (z : Placed Sleep) (v : Walk) (is : slice_get (all_sleeps paths) s ≡ Some z) (there : IsThread code log z.thread v) where
       abbrev c : ℕ
       c = z.it.condition
 
@@ -316,7 +316,7 @@ module _ {B : Type 0} (setting : Setting B) (nodes : List Node) (w : World) (law
     -- The deed is a drain, a step that isn't an event, or a store that waits in a buffer.
 
     module _ (quiet : (e : EventKind) → kind_done d ≡ Some e → is_store e ≡ true) (silent : (c : ℕ) (n : Name) → waits_by c n d ≡ None) where
-      quiet_begun : (s : ℕ) (z : Of Sleep) (v : Walk) → slice_get (all_sleeps paths) s ≡ Some z → IsThread code log z.thread v
+      quiet_begun : (s : ℕ) (z : Placed Sleep) (v : Walk) → slice_get (all_sleeps paths) s ≡ Some z → IsThread code log z.thread v
           → z.it.step < steps_in after v.name → z.it.step < steps_in h v.name
       quiet_begun s z v is there done =
           elim (begun_when s z v is there done) [
@@ -381,7 +381,7 @@ module _ {B : Type 0} (setting : Setting B) (nodes : List Node) (w : World) (law
       broadcasts_now : (c : ℕ) → r ≡ WakeAll c → x.kind ≡ kind.Broadcast c
       broadcasts_now c is = same_Some x.kind (kind.Broadcast c) (sym asks ∙ ap (λ a. kind_of a other) is)
 
-      module _ (s : ℕ) (z : Of Sleep) (v : Walk) (is : slice_get (all_sleeps paths) s ≡ Some z) (there : IsThread code log z.thread v) where
+      module _ (s : ℕ) (z : Placed Sleep) (v : Walk) (is : slice_get (all_sleeps paths) s ≡ Some z) (there : IsThread code log z.thread v) where
         -- a signal that ends a sleep wakes the sleep's thread
         wakes_it : (j : ℕ) → x.kind ≡ kind.Signal z.it.condition → g ≡ j → ender_of w s ≡ Some j → other ≡ Some v.name
         wakes_it j signal same ends = by (woken_by paths w g) refl
@@ -399,7 +399,7 @@ module _ {B : Type 0} (setting : Setting B) (nodes : List Node) (w : World) (law
                 let one = (lawful.lawful.meets (Condition z.it.condition)).one s o.number g
                 (is_signal_at paths w (are_whole setting nodes w lawful) t q x z.it.condition own_there x_among signal) ends_g o.ends in
                 let sleep = same_Some z o.sleep (sym is ∙ ap (slice_get (all_sleeps paths)) one ∙ o.is) in
-                let walk = same_Some v o.walk (sym there ∙ ap (λ (y : Of Sleep). slice_get paths.threads y.thread) sleep ∙ o.there) in
+                let walk = same_Some v o.walk (sym there ∙ ap (λ (y : Placed Sleep). slice_get paths.threads y.thread) sleep ∙ o.there) in
                 woken z.it.condition (signal_is r other z.it.condition (asks ∙ ap (λ a. Some a) signal))
                 ∙ wakes
                 ∙ ap (λ i. Some i) (sym o.name ∙ sym (ap (λ (y : Walk). y.name) walk))
@@ -462,7 +462,7 @@ module _ {B : Type 0} (setting : Setting B) (nodes : List Node) (w : World) (law
             | inl begun ↦ by s z v is there begun (waits_by z.it.condition v.name d) refl
           ]
         where
-          by : (s : ℕ) (z : Of Sleep) (v : Walk) (is : slice_get (all_sleeps paths) s ≡ Some z) (there : IsThread code log z.thread v)
+          by : (s : ℕ) (z : Placed Sleep) (v : Walk) (is : slice_get (all_sleeps paths) s ≡ Some z) (there : IsThread code log z.thread v)
               → z.it.step < steps_in h v.name → (o : Option Bool) → waits_by z.it.condition v.name d ≡ o → IsAsleepIn after v.name z.it ↔ Until (p + 1) s
           by s z v is there begun None none = untouched_later s z v is there begun none (not_here s z v is there none)
           by s z v is there begun (Some b) touched = (

@@ -17,7 +17,7 @@ use Rattle.sym_steps.specs.path_laws.history.Along.{IsThread}
 use Rattle.sym_steps.proofs.path_laws.of_events.Lists.{in_contains, contains_in}
 use Rattle.condition_order.specs.sym_terms.declared.node.Node.{Node}
 use Rattle.condition_order.specs.order_formula.Worlds.{World, is_ended}
-use Rattle.condition_order.specs.lawful_order.Events.{Of, all_events, all_sleeps, number_of, place_of, ender_of}
+use Rattle.condition_order.specs.lawful_order.Events.{Placed, all_events, all_sleeps, number_of, place_of, ender_of}
 use Rattle.condition_order.specs.lawful_order.Conditions.{is_signal, is_broadcast, IsSignal, IsBroadcast}
 use Rattle.condition_order.specs.lawful_order.Memory.{is_store}
 use Rattle.condition_order.specs.lawful_order.Whole.{AreWhole}
@@ -40,12 +40,12 @@ module _ (paths : Paths) where
       (in_all_from (λ (v : Walk). v.sleeps) 0 t t paths.threads q s there i (omega arith))
 
   -- a sleep with a number belongs to a thread
-  pub record OwnerOf (z : Of Sleep) : Type 0 where
+  pub record OwnerOf (z : Placed Sleep) : Type 0 where
     pub walk : Walk
     pub there : slice_get paths.threads z.thread ≡ Some walk
     pub among : Contains walk.sleeps z.it
 
-  pub owner : (k : ℕ) (z : Of Sleep) → slice_get (all_sleeps paths) k ≡ Some z → OwnerOf z
+  pub owner : (k : ℕ) (z : Placed Sleep) → slice_get (all_sleeps paths) k ≡ Some z → OwnerOf z
   owner k z is =
       let o = of_all_from (λ (v : Walk). v.sleeps) 0 paths.threads z (at_in (all_sleeps paths) k z is) in
       let same : o.place ≡ z.thread = omega (arith, o.thread) in
@@ -55,7 +55,7 @@ module _ (paths : Paths) where
   pub numbered : (whole : AreWhole paths) (t : ℕ) (q : Walk) (x : Event) → slice_get paths.threads t ≡ Some q → Contains q.events x
       → slice_get (all_events paths) (number_of paths t x.step) ≡ Some (record { thread = t; it = x })
   numbered whole t q x there i =
-      let e : Of Event = record { thread = t; it = x } in
+      let e : Placed Event = record { thread = t; it = x } in
       let at = in_at (all_events paths) e (among_all paths t q x there i) in
       ap (slice_get (all_events paths)) (number_is paths whole at.0 e at.1) ∙ at.1
 
@@ -63,27 +63,27 @@ module _ (paths : Paths) where
     -- an event ends a sleep of the thread that it wakes
     pub record Wakes (g : ℕ) (n : Name) : Type 0 where
       pub number : ℕ
-      pub sleep : Of Sleep
+      pub sleep : Placed Sleep
       pub is : slice_get (all_sleeps paths) number ≡ Some sleep
       pub walk : Walk
       pub there : slice_get paths.threads sleep.thread ≡ Some walk
       pub name : walk.name ≡ n
       pub ends : ender_of w number ≡ Some g
 
-    abbrev ended_sleep : ℕ → Option (ℕ × Of Sleep)
+    abbrev ended_sleep : ℕ → Option (ℕ × Placed Sleep)
     ended_sleep g = find (λ s. is_ended w s.0 g) (enumerate_from 0 (all_sleeps paths))
 
-    abbrev owner_name : Option (ℕ × Of Sleep) → Option Name
-    owner_name o = option_and_then (λ (s : ℕ × Of Sleep). option_map (λ (q : Walk). q.name) (slice_get paths.threads s.1.thread)) o
+    abbrev owner_name : Option (ℕ × Placed Sleep) → Option Name
+    owner_name o = option_and_then (λ (s : ℕ × Placed Sleep). option_map (λ (q : Walk). q.name) (slice_get paths.threads s.1.thread)) o
 
     pub to_wake : (g : ℕ) (n : Name) → woken_by paths w g ≡ Some n → Wakes g n
     to_wake g n wakes = by (ended_sleep g) refl wakes
       where
-        by_thread : (e : ℕ × Of Sleep) → ended_sleep g ≡ Some e → (o : Option Walk) → slice_get paths.threads e.1.thread ≡ o
+        by_thread : (e : ℕ × Placed Sleep) → ended_sleep g ≡ Some e → (o : Option Walk) → slice_get paths.threads e.1.thread ≡ o
             → option_map (λ (q : Walk). q.name) o ≡ Some n → Wakes g n
         by_thread e found None none is = absurd (none-some n is)
         by_thread e found (Some q) there is =
-            let f = of_find (λ (s : ℕ × Of Sleep). is_ended w s.0 g) (enumerate_from 0 (all_sleeps paths)) e found in
+            let f = of_find (λ (s : ℕ × Placed Sleep). is_ended w s.0 g) (enumerate_from 0 (all_sleeps paths)) e found in
             record {
               number = e.0;
               sleep = e.1;
@@ -94,16 +94,16 @@ module _ (paths : Paths) where
               ends = ended_to w e.0 g f.1;
             }
 
-        by : (o : Option (ℕ × Of Sleep)) → ended_sleep g ≡ o → owner_name o ≡ Some n → Wakes g n
+        by : (o : Option (ℕ × Placed Sleep)) → ended_sleep g ≡ o → owner_name o ≡ Some n → Wakes g n
         by None none is = absurd (none-some n is)
         by (Some e) found is = by_thread e found (slice_get paths.threads e.1.thread) refl is
 
     -- an event that wakes no thread ends no sleep
-    pub wakes_none : (g s : ℕ) (z : Of Sleep) → woken_by paths w g ≡ None → slice_get (all_sleeps paths) s ≡ Some z → ender_of w s ≡ Some g → ⊥
+    pub wakes_none : (g s : ℕ) (z : Placed Sleep) → woken_by paths w g ≡ None → slice_get (all_sleeps paths) s ≡ Some z → ender_of w s ≡ Some g → ⊥
     wakes_none g s z none is ends =
-        let f = in_find (λ (e : ℕ × Of Sleep). is_ended w e.0 g) (enumerate_from 0 (all_sleeps paths)) (s, z) (in_enumerated s z (all_sleeps paths) is)
+        let f = in_find (λ (e : ℕ × Placed Sleep). is_ended w e.0 g) (enumerate_from 0 (all_sleeps paths)) (s, z) (in_enumerated s z (all_sleeps paths) is)
         (ended_from w s g ends) in
-        let i = of_find (λ (e : ℕ × Of Sleep). is_ended w e.0 g) (enumerate_from 0 (all_sleeps paths)) f.0 f.1 in
+        let i = of_find (λ (e : ℕ × Placed Sleep). is_ended w e.0 g) (enumerate_from 0 (all_sleeps paths)) f.0 f.1 in
         let o = owner f.0.0 f.0.1 (of_enumerated f.0 (all_sleeps paths) i.0) in
         none-some o.walk.name (sym none ∙ ap owner_name f.1 ∙ ap (option_map (λ (q : Walk). q.name)) o.there)
 
@@ -128,7 +128,7 @@ module _ {B : Type 0} (setting : Setting B) (nodes : List Node) (w : World) (law
   open setting use {code, log}
 
   -- a thread's sleep with a step has only one number
-  pub one_sleep : (i j : ℕ) (a b : Of Sleep) → slice_get (all_sleeps (paths_of code log)) i ≡ Some a
+  pub one_sleep : (i j : ℕ) (a b : Placed Sleep) → slice_get (all_sleeps (paths_of code log)) i ≡ Some a
       → slice_get (all_sleeps (paths_of code log)) j ≡ Some b → a.thread ≡ b.thread → a.it.step ≡ b.it.step → i ≡ j
   one_sleep i j a b ia jb thread same =
       elim (cases_order i j) [
@@ -142,7 +142,7 @@ module _ {B : Type 0} (setting : Setting B) (nodes : List Node) (w : World) (law
           let all = (walk setting nodes w lawful u v there).sleeps in
           sleeps_rise_at v.sleeps (subst SleepsRise (sym all) (sleeps_rise v.events (rising setting nodes w lawful u v there))) j k x y
 
-      apart : (i j : ℕ) (a b : Of Sleep) → slice_get (all_sleeps (paths_of code log)) i ≡ Some a → slice_get (all_sleeps (paths_of code log)) j ≡ Some b
+      apart : (i j : ℕ) (a b : Placed Sleep) → slice_get (all_sleeps (paths_of code log)) i ≡ Some a → slice_get (all_sleeps (paths_of code log)) j ≡ Some b
           → i < j → a.thread ≡ b.thread → a.it.step ≡ b.it.step → ⊥
       apart i j a b ia jb less thread same =
           elim (of_rise (λ (v : Walk). v.sleeps) (λ (z : Sleep). z.step) 0 (paths_of code log).threads rise i j a b ia jb less) [

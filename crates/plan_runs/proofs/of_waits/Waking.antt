@@ -21,7 +21,7 @@ use Rattle.sym_steps.proofs.path_laws.of_events.Waiters.{sleeps_still, sleep_wai
 use Rattle.condition_order.specs.sym_terms.declared.node.Node.{Node}
 use Rattle.condition_order.specs.order_formula.Worlds.{World, position}
 use Rattle.condition_order.specs.order_formula.declared.group.Group.TheVariants.{Condition}
-use Rattle.condition_order.specs.lawful_order.Events.{Of, all_sleeps, number_of, place_of, ender_of}
+use Rattle.condition_order.specs.lawful_order.Events.{Placed, all_sleeps, number_of, place_of, ender_of}
 use Rattle.condition_order.specs.lawful_order.Conditions.{IsSleep, IsSignal}
 use Rattle.sym_steps.specs.sym_laws.Valued.{found}
 use Rattle.condition_order.proofs.Among.{sleep_of}
@@ -106,7 +106,7 @@ module _ {B : Type 0} (setting : Setting B) (nodes : List Node) (w : World) (law
     is_signal_now = is_signal_at ps w (are_whole setting nodes w lawful) t q x c own_there x_among signals
 
     -- a sleep that it ends is on its condition
-    pub on_condition : (s : ℕ) (z : Of Sleep) → slice_get (all_sleeps ps) s ≡ Some z → ender_of w s ≡ Some g → IsSleep ps w s z c
+    pub on_condition : (s : ℕ) (z : Placed Sleep) → slice_get (all_sleeps ps) s ≡ Some z → ender_of w s ≡ Some g → IsSleep ps w s z c
     on_condition s z is ends =
         let o = sleep_of ps (found code log nodes).symbolic w lawful.of s g c is_signal_now ends in
         subst (λ y. IsSleep ps w s y c) (same_Some o.0 z (sym o.1.is ∙ is)) o.1

@@ -11,8 +11,14 @@ use Rattle.refute_check.specs.declared.verdict.CheckFault.TheVariants.{Memory}
 
 -- the state that a checker is in
 abbrev pub checking_of : Inside → Checking
-checking_of c =
-    record { line = c.line; vars = c.vars; kept = c.kept; next = c.next; closed = c.closed; fault = c.fault }
+checking_of c = record {
+  line = c.line;
+  vars = c.vars;
+  kept = c.kept;
+  next = c.next;
+  closed = c.closed;
+  fault = c.fault;
+}
 
 -- each kept clause is over the first `vars` variables
 abbrev pub AreWithin : ℕ → KeptClauses → Type 0

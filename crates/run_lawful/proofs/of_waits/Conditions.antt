@@ -38,7 +38,7 @@ use Rattle.sym_steps.specs.sym_laws.Valued.{found}
 use Rattle.sym_events.specs.sym_terms.declared.node.Node.{Node}
 use Rattle.sym_events.specs.order_formula.Worlds.{World, position}
 use Rattle.sym_events.specs.lawful_order.Conditions.{is_signal, is_broadcast, Waits, ConditionRule}
-use Rattle.sym_events.specs.lawful_order.Events.{Of, all_events, all_sleeps, number_of, place_of, ender_of, IsBefore}
+use Rattle.sym_events.specs.lawful_order.Events.{Placed, all_events, all_sleeps, number_of, place_of, ender_of, IsBefore}
 use Rattle.sym_events.specs.lawful_order.Memory.{is_store}
 use Rattle.sym_events.proofs.order_events.Lists.{in_at as place_of_one}
 use Rattle.sym_events.proofs.order_events.Numbers.{in_all_from, one_step}
@@ -91,14 +91,14 @@ module _ {B : Type 0} (setting : Setting B) (nodes : List Node) (moves : List Mo
   abbrev world : World
   world = w setting nodes moves again
 
-  abbrev Its_deed : Of Sleep → Type 0
+  abbrev Its_deed : Placed Sleep → Type 0
   Its_deed x = SleepDeed setting nodes moves again x
 
-  abbrev Ends : (x : Of Sleep) → Its_deed x → ℕ → Type 0
+  abbrev Ends : (x : Placed Sleep) → Its_deed x → ℕ → Type 0
   Ends x d g = EndsAt setting nodes moves again x d g
 
   -- what ends a sleep comes after the sleep begins
-  ends_later : (s g : ℕ) (x : Of Sleep) → slice_get (all_sleeps threads) s ≡ Some x → ender_of world s ≡ Some g
+  ends_later : (s g : ℕ) (x : Placed Sleep) → slice_get (all_sleeps threads) s ≡ Some x → ender_of world s ≡ Some g
       → place_of threads world x.thread x.it.step < position world g
   ends_later s g x at ended =
       let d = sleep_deed setting nodes moves again s x at in
@@ -108,7 +108,7 @@ module _ {B : Type 0} (setting : Setting B) (nodes : List Node) (moves : List Mo
       e.at d.shows e.shows)
 
   -- a deed that ended a sleep before another deed
-  record EndedBefore (x : Of Sleep) (d : Its_deed x) (between : List Deed) : Type 0 where
+  record EndedBefore (x : Placed Sleep) (d : Its_deed x) (between : List Deed) : Type 0 where
     number : ℕ
     thread : ℕ
     step : ℕ
@@ -120,7 +120,7 @@ module _ {B : Type 0} (setting : Setting B) (nodes : List Node) (moves : List Mo
     there : d.older ++ d.deed ∷ between ≡ older ++ ender ∷ newer
     shows : Shows ops.buffered threads ender thread step
 
-  ended_before : (x : Of Sleep) (d : Its_deed x) (between newer : List Deed) → done ≡ (d.older ++ d.deed ∷ between) ++ newer
+  ended_before : (x : Placed Sleep) (d : Its_deed x) (between newer : List Deed) → done ≡ (d.older ++ d.deed ∷ between) ++ newer
       → list_any (ends_wait x.it.condition d.walk.name) between ≡ true → EndedBefore x d between
   ended_before x d between newer split some =
       let p = some_found (ends_wait x.it.condition d.walk.name) between some in
@@ -155,7 +155,7 @@ module _ {B : Type 0} (setting : Setting B) (nodes : List Node) (moves : List Mo
       }
 
   -- something has ended a sleep before its thread wakes
-  wakes_after : (s k : ℕ) (x : Of Sleep) → slice_get (all_sleeps threads) s ≡ Some x → x.it.wake ≡ Some k
+  wakes_after : (s k : ℕ) (x : Placed Sleep) → slice_get (all_sleeps threads) s ≡ Some x → x.it.wake ≡ Some k
       → (g : ℕ) × (ender_of world s ≡ Some g) × (position world g < place_of threads world x.thread k)
   wakes_after s k x at wake = first later.0 (later.1 ∙ ap (λ y. d.older ++ y ∷ later.0) (sym d.begins))
     where
@@ -210,7 +210,7 @@ module _ {B : Type 0} (setting : Setting B) (nodes : List Node) (moves : List Mo
           (d.at ∙ ap (λ z. d.older ++ z ∷ d.newer) d.begins) e.at (omega (arith, y.2, next))
 
   -- the deed of the event with this number
-  record Signalled (g : ℕ) (e : Of Event) : Type 0 where
+  record Signalled (g : ℕ) (e : Placed Event) : Type 0 where
     walk : Walk
     there : IsThread code log e.thread walk
     among : Contains walk.events e.it
@@ -218,7 +218,7 @@ module _ {B : Type 0} (setting : Setting B) (nodes : List Node) (moves : List Mo
     number : number_of threads e.thread e.it.step ≡ g
     shows : Shows ops.buffered threads (Did walk.name e.it.step deed.request deed.took deed.other) e.thread e.it.step
 
-  signalled : (g : ℕ) (e : Of Event) → slice_get (all_events threads) g ≡ Some e → is_store e.it.kind ≡ false → Signalled g e
+  signalled : (g : ℕ) (e : Placed Event) → slice_get (all_events threads) g ≡ Some e → is_store e.it.kind ≡ false → Signalled g e
   signalled g e at quiet =
       let whole = (seen setting moves again).whole in
       let v = event_numbered threads whole g e at in
@@ -233,13 +233,13 @@ module _ {B : Type 0} (setting : Setting B) (nodes : List Node) (moves : List Mo
       }
 
   -- a sleep that has begun before an event, and that no deed before it ended
-  record WaitsAt (x : Of Sleep) (d : Its_deed x) (older : List Deed) : Type 0 where
+  record WaitsAt (x : Placed Sleep) (d : Its_deed x) (older : List Deed) : Type 0 where
     between : List Deed
     front : older ≡ d.older ++ d.deed ∷ between
     lasts : list_any (ends_wait x.it.condition d.walk.name) between ≡ false
     waits : set.contains (waiting_in older x.it.condition) d.walk.name ≡ true
 
-  module _ (s g : ℕ) (x : Of Sleep) (at : slice_get (all_sleeps threads) s ≡ Some x) (e : Of Event) (v : Signalled g e)
+  module _ (s g : ℕ) (x : Placed Sleep) (at : slice_get (all_sleeps threads) s ≡ Some x) (e : Placed Event) (v : Signalled g e)
       (waits : Waits threads world s x g) where
     d : Its_deed x
     d = sleep_deed setting nodes moves again s x at
@@ -323,7 +323,7 @@ module _ {B : Type 0} (setting : Setting B) (nodes : List Node) (moves : List Mo
             let before = before_deed setting nodes moves again v.deed in
             let p = waiter_named setting before c u waits in
             let a = (sleep_waits setting before p.thread c).0 (ap (λ m. set.contains (waiting_in v.deed.older c) m) p.name_is ∙ waits) in
-            let z : Of Sleep = record { thread = p.index; it = a.0 } in
+            let z : Placed Sleep = record { thread = p.index; it = a.0 } in
             let r = place_of_one (all_sleeps threads) z
             (in_all_from (λ (q : Walk). q.sleeps) 0 p.index p.index threads.threads p.walk a.0 p.there a.1 (omega arith)) in
             let begun = Did p.walk.name a.0.step (BeginWait a.0.condition a.0.mutex) a.3.took a.3.other in
@@ -363,7 +363,7 @@ module _ {B : Type 0} (setting : Setting B) (nodes : List Node) (moves : List Mo
   -- A signal ends at most one sleep.
 
   -- if a sleep begins after another of its thread, a deed between has ended the first
-  not_between : (x y : Of Sleep) (d : Its_deed x) (b : Its_deed y) (between mid later newer : List Deed) → done ≡ (d.older ++ d.deed ∷ between) ++ newer
+  not_between : (x y : Placed Sleep) (d : Its_deed x) (b : Its_deed y) (between mid later newer : List Deed) → done ≡ (d.older ++ d.deed ∷ between) ++ newer
       → list_any (ends_wait x.it.condition d.walk.name) between ≡ false → between ≡ mid ++ b.deed ∷ later → x.it.condition ≡ y.it.condition
       → d.walk.name ≡ b.walk.name → ⊥
   not_between x y d b between mid later newer split lasts is_it condition name =
@@ -374,17 +374,17 @@ module _ {B : Type 0} (setting : Setting B) (nodes : List Node) (moves : List Mo
       (sym none ∙ ap (waits_by x.it.condition d.walk.name) b.begins
       ∙ ap₂ (λ p q. cond (p && q) (Some true) None) (eq-eqb y.it.condition x.it.condition (sym condition)) (same_self d.walk.name b.walk.name name))
 
-  module _ (g : ℕ) (e : Of Event) (v : Signalled g e) (c : ℕ) (asked : v.deed.request ≡ WakeOne c) where
+  module _ (g : ℕ) (e : Placed Event) (v : Signalled g e) (c : ℕ) (asked : v.deed.request ≡ WakeOne c) where
     abbrev the_signal : Deed
     the_signal = Did v.walk.name e.it.step v.deed.request v.deed.took v.deed.other
 
     -- the deed that ends the sleep is this signal
-    record EndsBySignal (x : Of Sleep) (d : Its_deed x) (a : Ends x d g) : Type 0 where
+    record EndsBySignal (x : Placed Sleep) (d : Its_deed x) (a : Ends x d g) : Type 0 where
       front : d.older ++ d.deed ∷ a.between ≡ v.deed.older
       condition : x.it.condition ≡ c
       wakes : v.deed.other ≡ Some d.walk.name
 
-    ends_by_signal : (x : Of Sleep) (d : Its_deed x) (a : Ends x d g) → EndsBySignal x d a
+    ends_by_signal : (x : Placed Sleep) (d : Its_deed x) (a : Ends x d g) → EndsBySignal x d a
     ends_by_signal x d a =
         by (two_places (d.older ++ d.deed ∷ a.between) a.ender a.newer v.deed.older the_signal v.deed.newer (sym a.at ∙ v.deed.at))
       where
@@ -424,7 +424,7 @@ module _ {B : Type 0} (setting : Setting B) (nodes : List Node) (moves : List Mo
             e.it.step (a.at ∙ ap (λ xs. xs ++ a.ender ∷ a.newer) back) v.shows its_shows)
 
     -- two sleeps that the signal ends are the same
-    one_step_of : (x y : Of Sleep) (d : Its_deed x) (b : Its_deed y) → Ends x d g → Ends y b g → (x.thread ≡ y.thread) × (x.it.step ≡ y.it.step)
+    one_step_of : (x y : Placed Sleep) (d : Its_deed x) (b : Its_deed y) → Ends x d g → Ends y b g → (x.thread ≡ y.thread) × (x.it.step ≡ y.it.step)
     one_step_of x y d b ends also = (thread, by (two_places d.older d.deed d.newer b.older b.deed b.newer (sym d.at ∙ b.at)))
       where
         first : EndsBySignal x d ends
@@ -462,7 +462,7 @@ module _ {B : Type 0} (setting : Setting B) (nodes : List Node) (moves : List Mo
             (rest_is b.older b.deed also.between mid d.older d.deed ends.between (second.front ∙ sym first.front) back) (sym condition) (sym name))
 
   -- a number with an ender is that of a sleep
-  sleep_there : (s g : ℕ) → ender_of world s ≡ Some g → (x : Of Sleep) × (slice_get (all_sleeps threads) s ≡ Some x)
+  sleep_there : (s g : ℕ) → ender_of world s ≡ Some g → (x : Placed Sleep) × (slice_get (all_sleeps threads) s ≡ Some x)
   sleep_there s g ended =
       elim (slice_get_cases (all_sleeps threads) s).1 [
         | inl at ↦ (at.0, at.2)

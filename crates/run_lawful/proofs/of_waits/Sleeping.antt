@@ -37,7 +37,7 @@ use Rattle.sym_steps.proofs.path_laws.of_events.Steps.{steps_first, step_at}
 use Rattle.sym_steps.proofs.path_laws.of_events.Waiters.{sleep_waits}
 use Rattle.sym_steps.specs.sym_laws.Valued.{found}
 use Rattle.sym_events.specs.sym_terms.declared.node.Node.{Node}
-use Rattle.sym_events.specs.lawful_order.Events.{Of, all_sleeps, number_of, ender_of}
+use Rattle.sym_events.specs.lawful_order.Events.{Placed, all_sleeps, number_of, ender_of}
 use Rattle.sym_events.specs.lawful_order.Memory.{is_store}
 use Rattle.world_plan.specs.Sights.{Shows}
 use Rattle.world_plan.proofs.Numbers.{one_event}
@@ -141,7 +141,7 @@ module _ {B : Type 0} (setting : Setting B) (nodes : List Node) (moves : List Mo
       cc
 
   -- a thread whose sleep was ended is awake
-  pub ended_is_awake : (s g : ℕ) (x : Of Sleep) (t : ℕ) (q : Walk) (z : Sleep) → IsThread code log t q → x.thread ≡ t → Contains q.sleeps z
+  pub ended_is_awake : (s g : ℕ) (x : Placed Sleep) (t : ℕ) (q : Walk) (z : Sleep) → IsThread code log t q → x.thread ≡ t → Contains q.sleeps z
       → z.step ≡ x.it.step → IsAsleepIn done q.name z → slice_get (all_sleeps threads) s ≡ Some x → IsEndedBy ops.buffered threads done x g → ⊥
   ended_is_awake s g x t q z there own i same asleep at e =
       let v = sleeper setting moves again s x at in
@@ -184,7 +184,7 @@ module _ {B : Type 0} (setting : Setting B) (nodes : List Node) (moves : List Mo
       true≢false (sym (and_parts (not (set.contains (waiting_in g c) n)) (is_none (owner_in g a.0)) met.1).0 ∙ ap not waits)
 
   -- the deed that begins a sleep
-  pub record SleepDeed (x : Of Sleep) : Type 0 where
+  pub record SleepDeed (x : Placed Sleep) : Type 0 where
     pub walk : Walk
     pub there : IsThread code log x.thread walk
     pub among : Contains walk.sleeps x.it
@@ -199,7 +199,7 @@ module _ {B : Type 0} (setting : Setting B) (nodes : List Node) (moves : List Mo
     pub within : x.it.condition < code.conditions
     pub shows : Shows ops.buffered threads deed x.thread x.it.step
 
-  pub sleep_deed : (s : ℕ) (x : Of Sleep) → slice_get (all_sleeps threads) s ≡ Some x → SleepDeed x
+  pub sleep_deed : (s : ℕ) (x : Placed Sleep) → slice_get (all_sleeps threads) s ≡ Some x → SleepDeed x
   sleep_deed s x at =
       let q = sleeper setting moves again s x at in
       let y = slept_by q.0.events x.it (subst (λ ss. Contains ss x.it) (sleeps_are code log is f x.thread q.0 q.1) q.2) in
@@ -225,7 +225,7 @@ module _ {B : Type 0} (setting : Setting B) (nodes : List Node) (moves : List Mo
             (d.shows (none_pending ops.buffered y.event.kind (ap is_store y.kind)));
       }
 
-  module _ (x : Of Sleep) (d : SleepDeed x) where
+  module _ (x : Placed Sleep) (d : SleepDeed x) where
     abbrev n : Name
     n = d.walk.name
 

@@ -10,7 +10,7 @@ use Rattle.sym_events.specs.path_walk.declared.event.Event.{Event}
 use Rattle.sym_events.specs.path_walk.declared.event.EventKind.{EventKind}
 use Rattle.sym_events.specs.path_walk.declared.event.EventKind.TheVariants as kind
 use Rattle.sym_events.specs.path_walk.declared.event.Sleep.{Sleep}
-use Rattle.sym_events.specs.lawful_order.Events.{Of, all_sleeps}
+use Rattle.sym_events.specs.lawful_order.Events.{Placed, all_sleeps}
 use Rattle.sym_events.specs.lawful_order.Whole.{AreWhole}
 use Rattle.sym_events.proofs.order_events.Lists.{at_in, in_at}
 use Rattle.world_plan.proofs.Numbers.{Rise, of_rise}
@@ -52,7 +52,7 @@ slept_rise (e ∷ es) rises j k y z at bt less =
 
 -- each thread has only one sleep with a step
 pub one_sleep : (paths : Paths) → AreWhole paths → ((u : ℕ) (q : Walk) → slice_get paths.threads u ≡ Some q → q.sleeps ≡ sleeps_of q.events)
-    → (s r : ℕ) (x y : Of Sleep) → slice_get (all_sleeps paths) s ≡ Some x → slice_get (all_sleeps paths) r ≡ Some y → x.thread ≡ y.thread
+    → (s r : ℕ) (x y : Placed Sleep) → slice_get (all_sleeps paths) s ≡ Some x → slice_get (all_sleeps paths) r ≡ Some y → x.thread ≡ y.thread
     → x.it.step ≡ y.it.step → s ≡ r
 one_sleep paths whole are s r x y at bt thread same =
     elim (cases_order s r) [
@@ -66,7 +66,7 @@ one_sleep paths whole are s r x y at bt thread same =
         slept_rise q.events (λ m n v z vm zn before. whole.rise u m n q v z there vm zn before) j k a b
         (ap (λ ss. slice_get ss j) (sym (are u q there)) ∙ ja) (ap (λ ss. slice_get ss k) (sym (are u q there)) ∙ kb) less
 
-    apart : (i j : ℕ) (a b : Of Sleep) → slice_get (all_sleeps paths) i ≡ Some a → slice_get (all_sleeps paths) j ≡ Some b → i < j → a.thread ≡ b.thread
+    apart : (i j : ℕ) (a b : Placed Sleep) → slice_get (all_sleeps paths) i ≡ Some a → slice_get (all_sleeps paths) j ≡ Some b → i < j → a.thread ≡ b.thread
         → a.it.step ≡ b.it.step → ⊥
     apart i j a b ia jb less thread same =
         elim (of_rise (λ (q : Walk). q.sleeps) (λ (z : Sleep). z.step) 0 paths.threads rise i j a b ia jb less) [

@@ -30,7 +30,7 @@ use Rattle.sym_steps.proofs.path_laws.of_events.Events.{done_event, event_within
 use Rattle.sym_steps.proofs.path_laws.of_events.Lists.{in_contains, contains_in}
 use Rattle.sym_steps.proofs.path_laws.of_events.Steps.{DeedOf, deed_of}
 use Rattle.sym_events.specs.sym_exec.Executed.{Symbolic}
-use Rattle.sym_events.specs.lawful_order.Events.{Of, all_events, all_sleeps, number_of, ender_of}
+use Rattle.sym_events.specs.lawful_order.Events.{Placed, all_events, all_sleeps, number_of, ender_of}
 use Rattle.sym_events.specs.lawful_order.Memory.{is_store}
 use Rattle.sym_events.proofs.order_events.Lists.{at_in}
 use Rattle.sym_events.proofs.order_events.Numbers.{of_all_from, is_step as is_event}
@@ -109,7 +109,7 @@ module _ (buffered : Bool) (paths : Paths) (h : List Deed) (a : AreSeen buffered
   pub number_shown : (d : Deed) (t k : ℕ) → Shows buffered paths d t k → position_or_len (λ e. is_shown buffered paths e d) (all_events paths) ≡ number_of paths t k
   number_shown d t k s = same_position (λ e. is_shown buffered paths e d) (is_event t k) (all_events paths) agree
     where
-      agree : (e : Of Event) → is_shown buffered paths e d ≡ is_event t k e
+      agree : (e : Placed Event) → is_shown buffered paths e d ≡ is_event t k e
       agree e =
           elim (cases_Bool (is_shown buffered paths e d)) [
             | inl hit ↦
@@ -126,7 +126,7 @@ module _ (buffered : Bool) (paths : Paths) (h : List Deed) (a : AreSeen buffered
           ]
 
   -- the first deed after a sleep that ends it gives the ender
-  ender_told : (x : Of Sleep) (q : Walk) (newer : List Deed) → slice_get paths.threads x.thread ≡ Some q → after_step h q.name x.it.step ≡ newer
+  ender_told : (x : Placed Sleep) (q : Walk) (newer : List Deed) → slice_get paths.threads x.thread ≡ Some q → after_step h q.name x.it.step ≡ newer
       → ender_in buffered paths h x
       ≡ option_map (λ d. position_or_len (λ e. is_shown buffered paths e d) (all_events paths)) (find (ends_wait x.it.condition q.name) newer)
   ender_told x q newer there after =
@@ -134,13 +134,13 @@ module _ (buffered : Bool) (paths : Paths) (h : List Deed) (a : AreSeen buffered
       (find (ends_wait x.it.condition w.name) (after_step h w.name x.it.step)))) there
       ∙ ap (λ g. option_map (λ d. position_or_len (λ e. is_shown buffered paths e d) (all_events paths)) (find (ends_wait x.it.condition q.name) g)) after
 
-  ender_here : (symbolic : Symbolic) (s : ℕ) (x : Of Sleep) → slice_get (all_sleeps paths) s ≡ Some x
+  ender_here : (symbolic : Symbolic) (s : ℕ) (x : Placed Sleep) → slice_get (all_sleeps paths) s ≡ Some x
       → ender_of (world_in buffered paths symbolic h) s ≡ ender_in buffered paths h x
   ender_here symbolic s x at =
       get_or_from_slice_get (map (ender_in buffered paths h) (all_sleeps paths)) s (ender_in buffered paths h x) None
       (slice_get-map (ender_in buffered paths h) (all_sleeps paths) s ∙ ap (option_map (ender_in buffered paths h)) at)
 
-  pub ended_is : (symbolic : Symbolic) (s g : ℕ) (x : Of Sleep) → slice_get (all_sleeps paths) s ≡ Some x → IsEndedBy buffered paths h x g
+  pub ended_is : (symbolic : Symbolic) (s g : ℕ) (x : Placed Sleep) → slice_get (all_sleeps paths) s ≡ Some x → IsEndedBy buffered paths h x g
       → ender_of (world_in buffered paths symbolic h) s ≡ Some g
   ended_is symbolic s g x at e =
       let split : h ≡ e.older ++ e.sleep ∷ (e.between ++ e.ender ∷ e.newer) = e.there ∙ append_assoc e.older (e.sleep ∷ e.between) (e.ender ∷ e.newer) in
@@ -210,7 +210,7 @@ module _ {B : Type 0} (setting : Setting B) (moves : List Move) (again : Reprodu
       by (AllWoken q k took other is_it) = told q k (WakeAll c) took other (kind.Broadcast c) is_it refl refl (inr refl)
 
   -- the sleep with this number belongs to a thread
-  pub sleeper : (s : ℕ) (x : Of Sleep) → slice_get (all_sleeps paths) s ≡ Some x → (q : Walk) × IsThread code log x.thread q × Contains q.sleeps x.it
+  pub sleeper : (s : ℕ) (x : Placed Sleep) → slice_get (all_sleeps paths) s ≡ Some x → (q : Walk) × IsThread code log x.thread q × Contains q.sleeps x.it
   sleeper s x at =
       let o = of_all_from (λ (w : Walk). w.sleeps) 0 paths.threads x (at_in (all_sleeps paths) s x at) in
       let same : o.place ≡ x.thread = omega (arith, o.thread) in
@@ -229,7 +229,7 @@ module _ {B : Type 0} (setting : Setting B) (moves : List Move) (again : Reprodu
       let long : length p.places ≡ length q.places = ap (λ (v : Walk). length v.places) same in
       deed_of setting (history_again setting moves again) (path_thread t q there) z.step (omega (arith, inside, long, many, s.2))
 
-  pub ended_told : (symbolic : Symbolic) (s g : ℕ) (x : Of Sleep) → slice_get (all_sleeps paths) s ≡ Some x
+  pub ended_told : (symbolic : Symbolic) (s g : ℕ) (x : Placed Sleep) → slice_get (all_sleeps paths) s ≡ Some x
       → ender_of (world_in ops.buffered paths symbolic h) s ≡ Some g → IsEndedBy ops.buffered paths h x g
   ended_told symbolic s g x at ends =
       let a = seen setting moves again in

@@ -1,6 +1,6 @@
 -- The first element of a list that passes a test.
 use Rattle.std.proofs.Common.{◌≡◌, ◌∙◌, ◌+◌, Bool, true, false, not, cond, ◌||◌, List, [], ◌∷◌, ◌++◌}
-use Rattle.std.proofs.Common.{Some, None, refl, sym, ap, ap₂}
+use Rattle.std.proofs.Common.{Some, refl, sym, ap, ap₂}
 use Rattle.std.specs.Prelude.{drop}
 use Rattle.std.specs.List.{list_any, find, position_or_len}
 use Rattle.std.proofs.Math.Seq.{drop-append-add}
@@ -52,14 +52,6 @@ module _ {X : Type 0} (p : X → Bool) where
   finds (x ∷ xs) y ys none hit = by (p x) none (λ rest. finds xs y ys rest hit)
     where
       by : (b : Bool) → b || list_any p xs ≡ false → (list_any p xs ≡ false → find p (xs ++ y ∷ ys) ≡ Some y) → cond b (Some x) (find p (xs ++ y ∷ ys)) ≡ Some y
-      by true none later = absurd (true≢false none)
-      by false none later = later none
-
-  pub none_found : (xs : List X) → list_any p xs ≡ false → find p xs ≡ None
-  none_found [] none = refl
-  none_found (x ∷ xs) none = by (p x) none (none_found xs)
-    where
-      by : (b : Bool) → b || list_any p xs ≡ false → (list_any p xs ≡ false → find p xs ≡ None) → cond b (Some x) (find p xs) ≡ None
       by true none later = absurd (true≢false none)
       by false none later = later none
 

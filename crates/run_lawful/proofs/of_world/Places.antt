@@ -9,7 +9,7 @@ use Rattle.sym_steps.specs.run_history.History.{Deed}
 use Rattle.sym_steps.proofs.run_history.of_pending.In.{any_in, in_split}
 use Rattle.sym_events.specs.path_walk.Paths.{Paths}
 use Rattle.sym_events.specs.sym_exec.Executed.{Symbolic}
-use Rattle.sym_events.specs.lawful_order.Events.{Of, all_events, number_of, IsBefore}
+use Rattle.sym_events.specs.lawful_order.Events.{Placed, all_events, number_of, IsBefore}
 use Rattle.sym_events.specs.path_walk.declared.event.Event.{Event}
 use Rattle.sym_events.specs.lawful_order.Whole.{HasStep}
 use Rattle.sym_events.proofs.order_events.Numbers.{has_number, is_step_at}
@@ -41,7 +41,7 @@ module _ (buffered : Bool) (paths : Paths) (symbolic : Symbolic) (h : List Deed)
 
   number_place : (t k : ℕ) → HasStep paths t k → get_or places (number_of paths t k) 0 ≡ place t k
   number_place t k s =
-      let d : Of Event = record { thread = t; it = s.0 } in
+      let d : Placed Event = record { thread = t; it = s.0 } in
       let n = number_of paths t k in
       let inside = has_number paths t k s in
       let e = get_or (all_events paths) n d in

@@ -18,7 +18,7 @@ use Rattle.sym_events.specs.sym_exec.Executed.{Symbolic}
 use Rattle.sym_steps.specs.sym_laws.Valued.{found}
 use Rattle.sym_events.specs.order_formula.Worlds.{World, IsWorld}
 use Rattle.sym_events.specs.lawful_order.Conditions.{is_signal, is_broadcast, IsSleep, IsSignal, IsBroadcast}
-use Rattle.sym_events.specs.lawful_order.Events.{Of, all_events, all_sleeps, number_of, ender_of}
+use Rattle.sym_events.specs.lawful_order.Events.{Placed, all_events, all_sleeps, number_of, ender_of}
 use Rattle.sym_events.specs.lawful_order.Lawful.{IsWorldOf}
 use Rattle.sym_events.specs.lawful_order.Whole.{HasStep, AreWhole}
 use Rattle.sym_events.proofs.order_events.Numbers.{has_number, is_step_at}
@@ -32,7 +32,7 @@ use Rattle.run_lawful.proofs.of_world.Run.{seen}
 
 -- the event with this number
 pub record IsNumbered (paths : Paths) (g t : ℕ) (x : Event) : Type 0 where
-  pub event : Of Event
+  pub event : Placed Event
   pub is : slice_get (all_events paths) g ≡ Some event
   pub thread : event.thread ≡ t
   pub same : event.it ≡ x
@@ -40,7 +40,7 @@ pub record IsNumbered (paths : Paths) (g t : ℕ) (x : Event) : Type 0 where
 pub numbered : (paths : Paths) → AreWhole paths → (t : ℕ) (q : Walk) (x : Event) → slice_get paths.threads t ≡ Some q → Contains q.events x
     → IsNumbered paths (number_of paths t x.step) t x
 numbered paths whole t q x there i =
-    let d : Of Event = record { thread = t; it = x } in
+    let d : Placed Event = record { thread = t; it = x } in
     let s : HasStep paths t x.step = (x, (q, there, i), refl) in
     let n = number_of paths t x.step in
     let e = get_or (all_events paths) n d in
@@ -81,7 +81,7 @@ module _ {B : Type 0} (setting : Setting B) (nodes : List Node) (moves : List Mo
   is_world = record { distinct = ranks-differ (map (place_in ops.buffered paths h) (all_events paths)) }
 
   -- a sleep's ender is a signal or a broadcast of its condition
-  ends : (s g c : ℕ) (x : Of Sleep) → IsSleep paths w s x c → ender_of w s ≡ Some g → IsSignal paths w g c ⊎ IsBroadcast paths w g c
+  ends : (s g c : ℕ) (x : Placed Sleep) → IsSleep paths w s x c → ender_of w s ≡ Some g → IsSignal paths w g c ⊎ IsBroadcast paths w g c
   ends s g c x sleep ender =
       let e = ended_told setting moves again symbolic s g x sleep.is ender in
       let i = is_ender setting moves again x.it.condition e.sleeper.name (e.older ++ e.sleep ∷ e.between) e.ender e.newer e.there e.ends in

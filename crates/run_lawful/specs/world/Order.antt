@@ -6,7 +6,7 @@ use Rattle.sym_events.specs.path_walk.declared.event.Event.{Event}
 use Rattle.sym_events.specs.path_walk.declared.event.Sleep.{Sleep}
 use Rattle.sym_steps.specs.run_history.History.{Deed}
 use Rattle.sym_events.specs.order_formula.Worlds.{World}
-use Rattle.sym_events.specs.lawful_order.Events.{Of, HasEvent, IsBefore, number_of}
+use Rattle.sym_events.specs.lawful_order.Events.{Placed, HasEvent, IsBefore, number_of}
 use Rattle.sym_events.specs.lawful_order.Memory.{is_store}
 use Rattle.sym_events.specs.lawful_order.Whole.{HasStep}
 use Rattle.world_plan.specs.Sights.{Shows, AreInOrder}
@@ -51,7 +51,7 @@ module _ (buffered : Bool) (paths : Paths) (h : List Deed) where
         → (TakesPlace t j → ⊥) → k < j → IsBefore paths w t k t j
 
   -- the event g ends the sleep s: its deed is the first after s that ends the thread's wait
-  pub record IsEndedBy (s : Of Sleep) (g : ℕ) : Type 0 where
+  pub record IsEndedBy (s : Placed Sleep) (g : ℕ) : Type 0 where
     pub sleeper : Walk
     pub sleeps : slice_get paths.threads s.thread ≡ Some sleeper
     pub older : List Deed

@@ -11,7 +11,7 @@ use Rattle.sym_events.specs.path_walk.declared.event.Sleep.{Sleep}
 use Rattle.sym_events.specs.sym_exec.Executed.{Symbolic}
 use Rattle.sym_steps.specs.sym_laws.Loads.{loads_in}
 use Rattle.sym_events.specs.order_formula.Worlds.{World}
-use Rattle.sym_events.specs.lawful_order.Events.{Of, all_events, all_sleeps}
+use Rattle.sym_events.specs.lawful_order.Events.{Placed, all_events, all_sleeps}
 use Rattle.bit_ranks.specs.Ranks.{ranks_of}
 use Rattle.world_plan.specs.Sights.{sight_of}
 
@@ -29,7 +29,7 @@ ends_wait c n d = option_map_or not (waits_by c n d) false
 
 module _ (buffered : Bool) (paths : Paths) where
   -- whether an event takes place by a deed
-  abbrev pub is_shown : Of Event → Deed → Bool
+  abbrev pub is_shown : Placed Event → Deed → Bool
   is_shown e d =
       option_map_or
       (λ (q : Walk). option_map_or (λ s. same q.name s.thread && e.it.step == s.step)
@@ -37,11 +37,11 @@ module _ (buffered : Bool) (paths : Paths) where
       (slice_get paths.threads e.thread) false
 
   -- the index of the deed by which an event takes place, or the history's length if none
-  abbrev pub place_in : List Deed → Of Event → ℕ
+  abbrev pub place_in : List Deed → Placed Event → ℕ
   place_in h e = position_or_len (is_shown e) h
 
   -- the event that ends a sleep, if any: the first one after it that wakes its thread
-  abbrev pub ender_in : List Deed → Of Sleep → Option ℕ
+  abbrev pub ender_in : List Deed → Placed Sleep → Option ℕ
   ender_in h s =
       option_and_then
       (λ (q : Walk). option_map (λ d. position_or_len (λ e. is_shown e d) (all_events paths))

@@ -10,8 +10,8 @@ use Rattle.sym_exec.specs.Thread.{Doing, HandsOf}
 use Rattle.sym_exec.specs.declared.thread.Thread.{Thread}
 
 -- a thread of the code, with its nodes, as an execution
-abbrev pub seen : Thread → List Node → Doing
-seen t nodes = record {
+abbrev pub doing_of : Thread → List Node → Doing
+doing_of t nodes = record {
   nodes = nodes;
   slots = t.slots.items;
   loads = t.loads;

@@ -1,6 +1,6 @@
 -- The accesses of a thread's steps name cells as lawful code does.
 use Rattle.std.proofs.Common.{◌≡◌, ◌∙◌, ◌⊎◌, inl, inr, ℕ, suc, ◌+◌, ◌≤◌, ◌<◌, ◌==◌, ℤ, pos, Bool, List, [], ◌∷◌, ◌++◌, length, take, fold}
-use Rattle.std.proofs.Common.{Option, Some, None, refl, ap, sym, subst, arith, append-nil, slice_index_or}
+use Rattle.std.proofs.Common.{Some, None, refl, ap, sym, subst, arith, append-nil, slice_index_or}
 use Rattle.std.specs.Prelude.{slice_get, nat_lt}
 use Rattle.std.specs.FinMap as fin
 use Rattle.std.specs.List.{AllByRecursion as Each, flat_map}
@@ -39,7 +39,7 @@ use Rattle.order_events.specs.sym_terms.declared.node.Node.{Node}
 use Rattle.order_events.specs.sym_terms.declared.node.Node.TheVariants.{Symbol}
 use Rattle.sym_laws.specs.sym_exec.Making.{Made, Grows}
 use Rattle.sym_laws.specs.sym_exec.helpers.Threads.{names_within}
-use Rattle.sym_laws.specs.sym_exec.Thread.{Doing, HasTerms, term_in, after_instr, after_step, wanted_of}
+use Rattle.sym_laws.specs.sym_exec.Thread.{Doing, HasTerms, term_in, after_instr, after_step, wanted_of, Route, route_of}
 use Rattle.sym_laws.specs.sym_exec.Executed.{Course, fails_at, thread_started, thread_done}
 use Rattle.sym_laws.specs.sym_exec.Alone.{slots_by, cell_by}
 use Rattle.sym_laws.specs.sym_exec.declared.symbolic.Access.{Access}
@@ -140,11 +140,11 @@ module _ {B : Type 0} (setting : Setting B) (nodes : List Node) (loads : List �
       abbrev whole : Doing
       whole = thread_done code (paths_of code log) (found_before code log nodes j) w
 
-      abbrev fails : Option ℕ
-      fails = fails_at (paths_of code log) j w
+      abbrev route : Route
+      route = route_of code w (fails_at (paths_of code log) j w)
 
       abbrev e : Doing
-      e = next code w.function w.outcomes fails d t.instruction
+      e = next route d t.instruction
 
       follows : Follows (found code log nodes).nodes loads d t (flat_map (asked_of w.name) (history ops code r.moves))
       follows =
@@ -162,7 +162,7 @@ module _ {B : Type 0} (setting : Setting B) (nodes : List Node) (loads : List �
 
       one_more : execution code log nodes j w (suc t.steps) ≡ e
       one_more =
-          let step = after_step code w.function w.outcomes fails in
+          let step = after_step route in
           let start = thread_started code (found_before code log nodes j) w in
           let place = ap (slice_get w.places) number ∙ x.place ∙ ap (λ (l : Local). Some l.instruction) (sym y.2) in
           let few = slice_get_within w.places t.steps t.instruction place in
@@ -178,15 +178,15 @@ module _ {B : Type 0} (setting : Setting B) (nodes : List Node) (loads : List �
       grows = subst (λ (z : Doing). Grows z.nodes (found code log nodes).nodes) one_more (grows_at code log nodes lawful is terms j p at (suc t.steps))
 
       abbrev plain : Doing
-      plain = after_instr (line_of code w.function w.outcomes fails t.instruction) (wanted_of w.outcomes fails d i) d i
+      plain = after_instr (line_of route t.instruction) (wanted_of route.outcomes route.fails d i) d i
 
       is_next : e ≡ record plain { steps = d.steps + 1 }
-      is_next = next_is code w.function w.outcomes fails d t.instruction i placed_there
+      is_next = next_is route d t.instruction i placed_there
 
       adds : AddsSound lawful.arrays.arrays loads d plain
       adds =
           let here = placed code w.function t.instruction i lawful placed_there in
-          adds_sound lawful.arrays.arrays loads (line_of code w.function w.outcomes fails t.instruction) (wanted_of w.outcomes fails d i) d i t fine.terms fine.sound
+          adds_sound lawful.arrays.arrays loads (line_of route t.instruction) (wanted_of route.outcomes route.fails d i) d i t fine.terms fine.sound
           (instr_named code w.function t.instruction (length d.slots) i lawful placed_there fine.ints) follows.slots
           (lawful.arrays.named w.function t.instruction here.function i here.there here.at)
           (index_is_within ops code r.state w.name y.0 i lawful (record { moves = r.moves; leads = r.leads }) y.1 (ap (instr_of code) y.2 ∙ x.next))

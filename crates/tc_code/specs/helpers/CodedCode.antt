@@ -13,8 +13,14 @@ coded_func =
     (coded× (coded_list instr.the_row.coded)
     (coded× (coded_list coded_ℕ) (coded_list coded_ℕ))))
     (λ f. ((f.params, (f.ints, f.handles)), (f.instrs, (f.lines, f.name))))
-    (λ p. record
-    { params = p.0.0; ints = p.0.1.0; handles = p.0.1.1; instrs = p.1.0; lines = p.1.1.0; name = p.1.1.1 })
+    (λ p. record {
+      params = p.0.0;
+      ints = p.0.1.0;
+      handles = p.0.1.1;
+      instrs = p.1.0;
+      lines = p.1.1.0;
+      name = p.1.1.1;
+    })
     (λ _. refl)
 
 abbrev pub coded_code : Coded Code

@@ -81,7 +81,7 @@ move c =
 lists : (c : goal.After-remove-in-Moves) → c.remove-in-Moves.new.self ≡ moved_lists c.loop-place.watches c.args.fallen c.loop-place.place
     c.in-Moves.clause c.in-Moves.other c.in-Moves.next
 lists c = c.remove-in-Moves.ensures ∙ ap (λ (vs : List (List Watch)). set vs c.args.fallen
-    (without_place (listed vs c.args.fallen) c.loop-place.place)) c.in_ok-move_watch-in-Moves.ensures.ok.lists
+    (without_place (listed vs c.args.fallen) c.loop-place.place)) c.in_ok-move_watch-in-Moves.ensures.ok_watches
 
 pub loop-place-smaller-in-Moves : goal.loop-place-smaller-in-Moves
 loop-place-smaller-in-Moves c =
@@ -95,7 +95,7 @@ loop-place-preserved-in-Moves c =
     let inv = c.loop-place.invariant in
     let m = move c in
     let pl : c.loop-place.place < length (listed c.loop-place.watches c.args.fallen) = omega (arith, c.loop-place-test.true, c.count.ensures) in
-    rw (lists c, c.in_ok-move_watch-in-Moves.ensures.ok.clauses) (record {
+    rw (lists c, c.in_ok-move_watch-in-Moves.ensures.ok_clauses) (record {
       keeps = record {
         sound = m.sound;
         same = same-trans c.args.clauses.now c.loop-place.clauses (rewatched c.loop-place.clauses c.in-Moves.clause c.in-Moves.other c.in-Moves.next)

@@ -1,4 +1,4 @@
-use Rattle.std.proofs.Common.{◌∙◌, sym, ap, ◌++◌, [], take}
+use Rattle.std.proofs.Common.{◌∙◌, ap, ◌++◌, [], take}
 use Rattle.std.specs.List.{cons_option}
 use Rattle.std.proofs.lemmas.List.{append-nil}
 use Rattle.condition_order.specs.Conditions.{enders}
@@ -8,15 +8,13 @@ use Rattle.condition_order.proofs.wait.enders.Goals.{in-Some+in_ok-push, in_defa
 
 pub loop-number-preserved : goal.loop-number-preserved
 loop-number-preserved c =
-    let condition = c.args.condition in
     let all = c.all-placed-items.result.now in
-    let place = c.loop-number.number in
-    let before = enders (take place all) condition in
-    let more = enders_more condition all place c.placed-item.result c.loop-number-test.true c.placed-item.is in
+    let before = enders (take c.loop-number.number all) c.args.condition in
+    let more = enders_more c.args.condition all c.loop-number.number _ c.by.result c.loop-number-test.true c.by.ensures in
     elim c.match-by.branch [
       | in-Some+in_ok-push w ↦
-          let next = more ∙ ap (λ o. before ++ cons_option o []) (sym c.by.ensures ∙ w.in-Some.is) in
+          let next = more ∙ ap (λ o. before ++ cons_option o []) w.in-Some.is in
           let pushed = w.in_ok-push.ensures.items in cc
       | in_default w ↦
-          let next = more ∙ ap (λ o. before ++ cons_option o []) (sym c.by.ensures ∙ w.in_default.is) ∙ append-nil before in cc
+          let next = more ∙ ap (λ o. before ++ cons_option o []) w.in_default.is ∙ append-nil before in cc
     ]

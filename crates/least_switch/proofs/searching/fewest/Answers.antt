@@ -1,8 +1,8 @@
 use Rattle.std.proofs.Common.{◌-◌, Bool, refl, subst, arith}
-use Rattle.cdcl_core.specs.Solving.{Solves}
-use Rattle.cdcl_core.specs.declared.progress.Solved.TheVariants as solved
+use Rattle.cdcl_core.specs.Solving.{IsAnswerOn, Solves}
+use Rattle.cdcl_core.specs.declared.answer.Answer.TheVariants as answer
 use Rattle.switch_clauses.specs.Clauses.{switch_clauses}
-use Rattle.least_switch.specs.helpers.Found.{IsBestUpTo, IsFoundOn}
+use Rattle.least_switch.specs.helpers.Found.{IsBestUpTo}
 use Rattle.least_switch.proofs.Told.{fewer_spent, fewest_found, none_fewer}
 use Rattle.least_switch.proofs.searching.fewest.Goals as goal
 
@@ -17,8 +17,8 @@ returns-in-Impossible-clause-ok g c =
     let fewer = best.switches - 1 in
     fewest_found ops model bound code log g.met.M.MemoryModel.laws c.requires.given c.args.budget best.schedule best.switches fewer c.in-Impossible.derivation
     c.loop-best-test.true refl c.loop-best.invariant
-    (subst (λ (b : Bool). Solves (switch_clauses b bound code log fewer) c.args.budget (solved.Unsat c.in-Impossible.derivation)) g.met.M.MemoryModel.buffered
-    (subst (IsFoundOn (switch_clauses g.M.MemoryModel.BUFFERED bound code log fewer) (IsBestUpTo ops model code log fewer) c.args.budget) c.in-Impossible.is
+    (subst (λ (b : Bool). Solves (switch_clauses b bound code log fewer) c.args.budget (answer.Impossible c.in-Impossible.derivation)) g.met.M.MemoryModel.buffered
+    (subst (IsAnswerOn (switch_clauses g.M.MemoryModel.BUFFERED bound code log fewer) c.args.budget (IsBestUpTo ops model code log fewer)) c.in-Impossible.is
     c.in_ok-next.ensures.found))
 
 pub returns-in-Spent-clause-ok : goal.returns-in-Spent-clause-ok
@@ -32,8 +32,8 @@ returns-in-Spent-clause-ok g c =
     let fewer = best.switches - 1 in
     fewer_spent ops model bound code log g.met.M.MemoryModel.laws c.requires.given c.args.budget best.schedule best.switches fewer c.in-Spent.derivation
     c.loop-best-test.true refl c.loop-best.invariant
-    (subst (λ (b : Bool). Solves (switch_clauses b bound code log fewer) c.args.budget (solved.Spent c.in-Spent.derivation)) g.met.M.MemoryModel.buffered
-    (subst (IsFoundOn (switch_clauses g.M.MemoryModel.BUFFERED bound code log fewer) (IsBestUpTo ops model code log fewer) c.args.budget) c.in-Spent.is
+    (subst (λ (b : Bool). Solves (switch_clauses b bound code log fewer) c.args.budget (answer.Spent c.in-Spent.derivation)) g.met.M.MemoryModel.buffered
+    (subst (IsAnswerOn (switch_clauses g.M.MemoryModel.BUFFERED bound code log fewer) c.args.budget (IsBestUpTo ops model code log fewer)) c.in-Spent.is
     c.in_ok-next.ensures.found))
 
 pub returns-clause-ok : goal.returns-clause-ok

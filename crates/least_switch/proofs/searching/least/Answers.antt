@@ -1,8 +1,8 @@
 use Rattle.std.proofs.Common.{Bool, subst}
-use Rattle.cdcl_core.specs.Solving.{Solves}
-use Rattle.cdcl_core.specs.declared.progress.Solved.TheVariants as solved
+use Rattle.cdcl_core.specs.Solving.{IsAnswerOn, Solves}
+use Rattle.cdcl_core.specs.declared.answer.Answer.TheVariants as answer
 use Rattle.clap_solve.specs.Clauses.{clauses_of}
-use Rattle.least_switch.specs.helpers.Found.{IsBest, IsFoundOn}
+use Rattle.least_switch.specs.helpers.Found.{IsBest}
 use Rattle.least_switch.proofs.Told.{all_spent, none_found}
 use Rattle.least_switch.proofs.searching.least.Goals as goal
 
@@ -10,8 +10,8 @@ pub fewest-requires-clause-best : goal.fewest-requires-clause-best
 fewest-requires-clause-best g c =
     let code = c.args.code.now in
     let log = c.args.log.now.log in
-    subst (IsFoundOn (clauses_of g.M.MemoryModel.BUFFERED g.M.MemoryModel.bound code log) (IsBest g.M.MemoryModel.ops g.M.MemoryModel.MODEL code log)
-    c.args.budget) c.in-Best.is c.in_ok-best.ensures.found.found
+    subst (IsAnswerOn (clauses_of g.M.MemoryModel.BUFFERED g.M.MemoryModel.bound code log) c.args.budget
+    (IsBest g.M.MemoryModel.ops g.M.MemoryModel.MODEL code log)) c.in-Found.is c.in_ok-best.ensures.found.found
 
 pub returns-in-Impossible-clause-ok : goal.returns-in-Impossible-clause-ok
 returns-in-Impossible-clause-ok g c =
@@ -20,8 +20,8 @@ returns-in-Impossible-clause-ok g c =
     let log = c.args.log.now.log in
     none_found g.M.MemoryModel.ops g.M.MemoryModel.MODEL bound code log g.met.M.MemoryModel.laws c.in_ok-best.ensures.found.given c.args.budget
     c.in-Impossible.derivation
-    (subst (λ (b : Bool). Solves (clauses_of b bound code log) c.args.budget (solved.Unsat c.in-Impossible.derivation)) g.met.M.MemoryModel.buffered
-    (subst (IsFoundOn (clauses_of g.M.MemoryModel.BUFFERED bound code log) (IsBest g.M.MemoryModel.ops g.M.MemoryModel.MODEL code log) c.args.budget)
+    (subst (λ (b : Bool). Solves (clauses_of b bound code log) c.args.budget (answer.Impossible c.in-Impossible.derivation)) g.met.M.MemoryModel.buffered
+    (subst (IsAnswerOn (clauses_of g.M.MemoryModel.BUFFERED bound code log) c.args.budget (IsBest g.M.MemoryModel.ops g.M.MemoryModel.MODEL code log))
     c.in-Impossible.is c.in_ok-best.ensures.found.found))
 
 pub returns-in-Spent-clause-ok : goal.returns-in-Spent-clause-ok
@@ -30,6 +30,6 @@ returns-in-Spent-clause-ok g c =
     let code = c.args.code.now in
     let log = c.args.log.now.log in
     all_spent g.M.MemoryModel.ops g.M.MemoryModel.MODEL bound code log g.met.M.MemoryModel.laws c.in_ok-best.ensures.found.given c.args.budget c.in-Spent.derivation
-    (subst (λ (b : Bool). Solves (clauses_of b bound code log) c.args.budget (solved.Spent c.in-Spent.derivation)) g.met.M.MemoryModel.buffered
-    (subst (IsFoundOn (clauses_of g.M.MemoryModel.BUFFERED bound code log) (IsBest g.M.MemoryModel.ops g.M.MemoryModel.MODEL code log) c.args.budget)
+    (subst (λ (b : Bool). Solves (clauses_of b bound code log) c.args.budget (answer.Spent c.in-Spent.derivation)) g.met.M.MemoryModel.buffered
+    (subst (IsAnswerOn (clauses_of g.M.MemoryModel.BUFFERED bound code log) c.args.budget (IsBest g.M.MemoryModel.ops g.M.MemoryModel.MODEL code log))
     c.in-Spent.is c.in_ok-best.ensures.found.found))

@@ -5,5 +5,5 @@ use Rattle.order_events.proofs.sleeps.push_walks.Goals as goal
 pub loop-thread-preserved : goal.loop-thread-preserved
 loop-thread-preserved c =
     walks_on (λ w. w.sleeps) c.args.threads.now c.loop-thread.thread c.index-threads-thread.result c.args.all.now.items c.loop-thread.all.items
-    c.push_sleeps.new.all.items c.sleeps.result.now (omega (arith, c.loop-thread-test.true)) c.index-threads-thread.is c.sleeps.ensures c.loop-thread.invariant
-    c.in_ok-push_sleeps.ensures
+    c.push_items.new.all.items c.sleeps.result.now (omega (arith, c.loop-thread-test.true)) c.index-threads-thread.is c.sleeps.ensures c.loop-thread.invariant
+    c.in_ok-push_items.ensures

@@ -3,7 +3,7 @@ use Rattle.std.specs.Option.{option_to_list}
 use Rattle.std.proofs.lemmas.List.{append-nil}
 use Rattle.sym_exec.specs.declared.symbolic.Access.{Access}
 use Rattle.sym_exec.proofs.Grown.{grows_both}
-use Rattle.order_cells.specs.lawful_order.Events.{Of}
+use Rattle.order_cells.specs.lawful_order.Events.{Placed}
 use Rattle.order_cells.specs.Terms.{AccessIsOf}
 use Rattle.read_write.specs.Reading.{candidate_of, test_of}
 use Rattle.read_write.proofs.Stays.{test_of_stays}
@@ -25,7 +25,7 @@ loop-access-preserved c =
     let after = c.match-branch-2.candidates.items in
     let within : k < length all = search rules in
     let is : get_or all k x ≡ x = search rules in
-    let of : AccessIsOf (length first) x.it = subst (λ (a : Of Access). AccessIsOf (length first) a.it) is (c.requires.accesses k x within) in
+    let of : AccessIsOf (length first) x.it = subst (λ (a : Placed Access). AccessIsOf (length first) a.it) is (c.requires.accesses k x within) in
     let grown = c.in_ok-candidate.ensures.grown in
     let more : after ≡ before ++ option_to_list given = elim c.match-branch-2.branch [
       | in-Some+in_ok-push w ↦

@@ -12,7 +12,7 @@ use Rattle.sym_exec.specs.Making.{Grows}
 use Rattle.sym_exec.specs.declared.symbolic.Access.{Access}
 use Rattle.sym_exec.proofs.Grown.{grows_both, grows_none}
 use Rattle.order_formula.specs.declared.formula.Conjunct.{Conjunct}
-use Rattle.order_cells.specs.lawful_order.Events.{Of}
+use Rattle.order_cells.specs.lawful_order.Events.{Placed}
 use Rattle.order_cells.specs.Terms.{AccessIsOf}
 use Rattle.read_write.specs.Reading.{conjunct_of, needs_of}
 use Rattle.read_write.proofs.Stays.{needs_of_stay}
@@ -21,15 +21,15 @@ use Rattle.read_write.proofs.reads.conjuncts.Goals as goal
 use Rattle.read_write.proofs.reads.conjuncts.Goals.{in-Some+in_ok-conjunct+in_ok-push, in_default}
 
 -- the conjuncts and the nodes after `k` loads
-record Stand (code : Code) (events : List (Of Event)) (accesses : List (Of Access)) (first : List Node) (k : ℕ) (last : List Node) (made : List Conjunct)
+record Stand (code : Code) (events : List (Placed Event)) (accesses : List (Placed Access)) (first : List Node) (k : ℕ) (last : List Node) (made : List Conjunct)
     : Type 0 where
   conjuncts : (later : List Node) → Grows last later
       → made ≡ filter_map (λ a. option_map (conjunct_of code events accesses later a) a.it.takes) (take k accesses)
   nodes : last ≡ fold with_node first (flat_map (λ a. option_map_or (needs_of code accesses first a) a.it.takes []) (take k accesses))
   grown : Grows first last
 
-module _ (code : Code) (events : List (Of Event)) (accesses : List (Of Access)) (first : List Node)
-    (have : (a : Of Access) → Contains accesses a → AccessIsOf (length first) a.it) (k : ℕ) (x : Of Access) (within : k < length accesses)
+module _ (code : Code) (events : List (Placed Event)) (accesses : List (Placed Access)) (first : List Node)
+    (have : (a : Placed Access) → Contains accesses a → AccessIsOf (length first) a.it) (k : ℕ) (x : Placed Access) (within : k < length accesses)
     (is : get_or accesses k x ≡ x) (mid : List Node) (before : List Conjunct) (stand : Stand code events accesses first k mid before) where
   -- after one more load, and after an access that isn't a load
   load_on : (number : ℕ) (last : List Node) (conjunct : Conjunct) (after : List Conjunct) → x.it.takes ≡ Some number → after ≡ before ++ conjunct ∷ []
@@ -67,28 +67,27 @@ loop-load-preserved c =
     let before = c.loop-load.conjuncts.items in
     let within : k < length all = search rules in
     let is : get_or all k x ≡ x = search rules in
-    let have : (a : Of Access) → Contains all a → AccessIsOf (length first) a.it =
-    λ a i. All-contains (λ (b : Of Access). AccessIsOf (length first) b.it) all a c.requires i in
+    let have : (a : Placed Access) → Contains all a → AccessIsOf (length first) a.it =
+    λ a i. All-contains (λ (b : Placed Access). AccessIsOf (length first) b.it) all a c.requires i in
     let stand : Stand code events all first k mid before = record {
       conjuncts = c.loop-load.invariant.conjuncts;
       nodes = c.loop-load.invariant.made;
       grown = c.loop-load.invariant.grown;
     } in
-    let takes = ap (λ (a : Of Access). a.it.takes) (sym c.load.view_is) in
     let after : Stand code events all first (k + 1) c.match-load.terms c.match-load.conjuncts.items = elim c.match-load.branch [
       | in-Some+in_ok-conjunct+in_ok-push w ↦
           subst (λ ns. Stand code events all first (k + 1) ns c.match-load.conjuncts.items) (sym w.terms-is)
           (load_on code events all first have k x within is mid before stand w.in-Some.number w.conjunct.new.terms w.in_ok-conjunct.field-0
-          c.match-load.conjuncts.items (takes ∙ w.in-Some.is) (ap (λ v. v.items) w.conjuncts-is ∙ w.in_ok-push.ensures.items)
+          c.match-load.conjuncts.items w.in-Some.is (ap (λ v. v.items) w.conjuncts-is ∙ w.in_ok-push.ensures.items)
           w.in_ok-conjunct.ensures.conjunct w.in_ok-conjunct.ensures.made w.in_ok-conjunct.ensures.grown)
       | in_default w ↦
           subst (λ ns. Stand code events all first (k + 1) ns c.match-load.conjuncts.items) (sym w.terms-is)
           (subst (λ cs. Stand code events all first (k + 1) mid cs) (sym (ap (λ v. v.items) w.conjuncts-is))
-          (other_on code events all first have k x within is mid before stand (takes ∙ w.in_default.is)))
+          (other_on code events all first have k x within is mid before stand w.in_default.is))
     ] in
     record { conjuncts = after.conjuncts; made = after.nodes; grown = after.grown }
 
 pub returns-clause-conjuncts : goal.returns-clause-conjuncts
 returns-clause-conjuncts c = λ later g.
-    let each = λ (a : Of Access). option_map (conjunct_of c.args.code.now c.args.events.now c.args.accesses.now later a) a.it.takes in
+    let each = λ (a : Placed Access). option_map (conjunct_of c.args.code.now c.args.events.now c.args.accesses.now later a) a.it.takes in
     c.loop-load.invariant.conjuncts later g ∙ ap (filter_map each) (take_all c.loop-load.load-index c.args.accesses.now c.loop-load-test.false)

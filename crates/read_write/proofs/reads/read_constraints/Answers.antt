@@ -10,7 +10,7 @@ use Rattle.sym_exec.proofs.Grown.{grows_none}
 use Rattle.sym_exec.specs.declared.symbolic.Access.{Access}
 use Rattle.order_formula.specs.Orders.{ConjunctIsIn, with_formula}
 use Rattle.order_formula.specs.declared.formula.Conjunct.{Conjunct}
-use Rattle.order_cells.specs.lawful_order.Events.{Of, all_events}
+use Rattle.order_cells.specs.lawful_order.Events.{Placed, all_events}
 use Rattle.order_cells.specs.Terms.{AccessIsOf}
 use Rattle.order_events.proofs.Parts.{each_in}
 use Rattle.read_write.specs.Accesses.{all_accesses}
@@ -24,12 +24,12 @@ conjuncts-requires c =
     let nodes = c.args.terms.now in
     let symbolic = c.args.symbolic.now in
     let is = c.deref.ensures.value ∙ c.in_ok-accesses.ensures in
-    subst (All (λ (a : Of Access). AccessIsOf (length nodes) a.it)) (sym is)
-    (each_in (λ (a : Of Access). AccessIsOf (length nodes) a.it) (all_accesses symbolic)
+    subst (All (λ (a : Placed Access). AccessIsOf (length nodes) a.it)) (sym is)
+    (each_in (λ (a : Placed Access). AccessIsOf (length nodes) a.it) (all_accesses symbolic)
     (λ a i. c.requires.terms a.thread a.it (access_of symbolic a i)))
 
 -- the conjuncts of all loads are the formula
-conjuncts_are : (code : Code) (paths : Paths) (symbolic : Symbolic) (nodes : List Node) (events : List (Of Event)) (accesses : List (Of Access))
+conjuncts_are : (code : Code) (paths : Paths) (symbolic : Symbolic) (nodes : List Node) (events : List (Placed Event)) (accesses : List (Placed Access))
     (conjuncts : List Conjunct) → events ≡ all_events paths → accesses ≡ all_accesses symbolic
     → conjuncts ≡ filter_map (λ a. option_map (conjunct_of code events accesses nodes a) a.it.takes) accesses
     → conjuncts ≡ read_formula code paths symbolic nodes

@@ -2,7 +2,7 @@ use Rattle.std.proofs.Common.{◌≡◌, ◌∙◌, ◌++◌, [], true, false, c
 use Rattle.order_events.proofs.Loops.{each_more}
 use Rattle.sync_order.specs.Children.{created_before, is_child}
 use Rattle.sync_order.proofs.children.push_created.Goals as goal
-use Rattle.sync_order.proofs.children.push_created.Goals.{then-is_child+in_ok-push_created_before, else-is_child}
+use Rattle.sync_order.proofs.children.push_created.Goals.{then-is_child_of+in_ok-push_created_before, else-is_child_of}
 
 pub loop-child-preserved : goal.loop-child-preserved
 loop-child-preserved c =
@@ -14,14 +14,14 @@ loop-child-preserved c =
     let mid = c.loop-child.conjuncts.items in
     let before = map (created_before c.args.events.now c.args.place link child) thread.events in
     each_more threads child thread (omega (arith, c.loop-child-test.true)) c.index-threads-child.is c.args.conjuncts.now.items mid
-    c.if-is_child.conjuncts.items
+    c.if-is_child_of.conjuncts.items
     (λ d q. cond (is_child walk link.child q) (map (created_before c.args.events.now c.args.place link d) q.events) []) c.loop-child.invariant
-    (elim c.if-is_child.branch [
-      | then-is_child+in_ok-push_created_before w ↦
-          let is : is_child walk link.child thread ≡ true = sym c.is_child.ensures ∙ w.if-is_child.true in
+    (elim c.if-is_child_of.branch [
+      | then-is_child_of+in_ok-push_created_before w ↦
+          let is : is_child walk link.child thread ≡ true = sym c.is_child_of.ensures ∙ w.if-is_child_of.true in
           let next = ap (λ b. mid ++ cond b before []) (sym is) in
           let pushed = w.in_ok-push_created_before.ensures in cc
-      | else-is_child w ↦
-          let is : is_child walk link.child thread ≡ false = sym c.is_child.ensures ∙ w.if-is_child.false in
+      | else-is_child_of w ↦
+          let is : is_child walk link.child thread ≡ false = sym c.is_child_of.ensures ∙ w.if-is_child_of.false in
           let next = sym (append-nil mid) ∙ ap (λ b. mid ++ cond b before []) (sym is) in cc
     ])

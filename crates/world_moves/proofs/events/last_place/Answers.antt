@@ -1,4 +1,4 @@
-use Rattle.std.proofs.Common.{◌∙◌, ◌+◌, ap, sym, length, get_or, fold, arith}
+use Rattle.std.proofs.Common.{◌∙◌, ◌+◌, ap, refl, sym, length, fold, arith}
 use Rattle.std.specs.Prelude.{max}
 use Rattle.std.specs.Option.{option_map_or}
 use Rattle.order_formula.specs.Worlds.{position}
@@ -8,24 +8,18 @@ use Rattle.world_moves.proofs.events.last_place.Goals as goal
 
 pub returns-then-is_failure : goal.returns-then-is_failure
 returns-then-is_failure c =
-    let x = c.placed-item.result in
-    let all = c.all-placed-items.ensures.events in
+    let k = c.loop-placed.placed-index in
     c.position.ensures ∙ ap (position c.args.world.now) c.loop-placed.invariant.number
     ∙ ap (λ o. option_map_or (λ e. position c.args.world.now e.0) o (fold (λ n p. max n (p + 1)) 0 c.args.world.now.positions))
-    (sym (found (λ e. is_failure e.1.it.kind) c.args.events.now c.loop-placed.placed-index x c.loop-placed.invariant.none
-    (omega (arith, c.loop-placed-test.true, ap length all)) (c.placed-item.is ∙ ap (λ es. get_or es c.loop-placed.placed-index x) all)
-    (ap (λ e. is_failure e.it.kind) (sym c.placed.view_is) ∙ sym c.is_failure.ensures ∙ c.if-is_failure.true)))
+    (found (λ e. is_failure e.1.it.kind) c.args.events.now k c.all-placed-items.result.now _ c.all-placed-items.ensures.events
+    c.loop-placed-test.true c.loop-placed.invariant.none k refl (sym c.is_failure.ensures ∙ c.if-is_failure.true))
 
 pub loop-placed-preserved : goal.loop-placed-preserved
-loop-placed-preserved c =
-    let x = c.placed-item.result in
-    let all = c.all-placed-items.ensures.events in
-    record {
-      number = omega (arith, c.loop-placed.invariant.number);
-      none = passed (λ e. is_failure e.1.it.kind) c.args.events.now c.loop-placed.placed-index x c.loop-placed.invariant.none
-          (omega (arith, c.loop-placed-test.true, ap length all)) (c.placed-item.is ∙ ap (λ es. get_or es c.loop-placed.placed-index x) all)
-          (ap (λ e. is_failure e.it.kind) (sym c.placed.view_is) ∙ sym c.is_failure.ensures ∙ c.if-is_failure.false);
-    }
+loop-placed-preserved c = record {
+  number = omega (arith, c.loop-placed.invariant.number);
+  none = passed (λ e. is_failure e.1.it.kind) c.args.events.now c.loop-placed.placed-index c.all-placed-items.result.now _
+      c.all-placed-items.ensures.events c.loop-placed-test.true c.loop-placed.invariant.none (sym c.is_failure.ensures ∙ c.if-is_failure.false);
+}
 
 pub returns : goal.returns
 returns c =

@@ -49,7 +49,7 @@ detach-requires-clause-first c =
       arith,
       listed-within s c.requires.live c.args.literals.now c.requires.can.within c.args.asserted c.requires.can.has,
       both-length s.watches (length s.clauses) c.args.asserted c.args.beside,
-      ap length c.in_ok-attach.ensures.ok.lists,
+      ap length c.in_ok-attach.ensures.ok_watches,
     )
 
 pub detach-requires-clause-second : goal.detach-requires-clause-second
@@ -59,7 +59,7 @@ detach-requires-clause-second c =
       arith,
       listed-within s c.requires.live c.args.literals.now c.requires.can.within c.args.beside c.requires.can.beside_in,
       both-length s.watches (length s.clauses) c.args.asserted c.args.beside,
-      ap length c.in_ok-attach.ensures.ok.lists,
+      ap length c.in_ok-attach.ensures.ok_watches,
     )
 
 pub returns-in-Ok-clause-live : goal.returns-in-Ok-clause-live
@@ -73,18 +73,18 @@ returns-in-Ok-clause-live c =
     let b : ℕ = c.args.beside in
     let can = c.requires.can in
     let live = c.requires.live in
-    let ok = c.in_ok-attach.ensures.ok in
+    let listed = c.in_ok-attach.ensures.ok_watches in
     let after : c.imply.new.self ≡ pushed t a (Some (length cs)) = c.imply.ensures.after
     ∙ ap (λ (n : ℕ). pushed t a (Some n)) c.next_id-clause.ensures in
     let u : IsTrail (pushed t a (Some (length cs))) = rw after at c.imply.ensures.lawful in
     let line : c.push.new.self ≡ s.derivation ++ added ls hs ∷ [] = c.in-Ok.ensures.ok
     ∙ ap (λ (l : Line). s.derivation ++ l ∷ []) c.in_ok-line.ensures.line in
-    let kept : c.touch_all.new.clauses ≡ cs ++ kept_clause ls a b ∷ [] = c.touch_all.ensures ∙ c.touch.ensures ∙ ok.clauses in
+    let kept : c.touch_all.new.clauses ≡ cs ++ kept_clause ls a b ∷ [] = c.touch_all.ensures ∙ c.touch.ensures ∙ c.in_ok-attach.ensures.ok_clauses in
     let w : All (λ l. l < 2 * s.formula.vars) ls = subst (λ (v : ℕ). All (λ l. l < 2 * v) ls) live.variables can.within in
     let fresh : IsFresh (checked s.formula s.derivation).kept (clause_of ls) =
     asserted-fresh t cs s.watches (checked s.formula s.derivation) ls a b live.sound live.rooted live.agree.represents can in
     record {
-      sound = rw (after, kept, ok.lists) (sound-assert t cs s.watches live.sound ls a b can u);
+      sound = rw (after, kept, listed) (sound-assert t cs s.watches live.sound ls a b can u);
       rooted = rw (after, kept) (rooted-attach t cs ls a b can (Some (length cs)) live.rooted);
       variables = ap (λ (x : Trail). x.variables) after ∙ live.variables;
       activity = live.activity;
@@ -105,13 +105,13 @@ returns-in-Ok-clause-ok c =
 pub returns-in-Err-clause-live : goal.returns-in-Err-clause-live
 returns-in-Err-clause-live c =
     let s = c.args.self.now in
-    let d = c.detach.ensures s.clauses s.watches c.args.literals.now c.in_ok-attach.ensures.ok in
-    live-with s c.requires.live _ refl d.0 d.1 refl refl c.in-Err.ensures.err refl refl
+    live-with s c.requires.live _ refl (c.detach.ensures.clauses s.clauses c.args.literals.now c.in_ok-attach.ensures.ok_clauses)
+    (c.detach.ensures.watches s.watches (length s.clauses) c.in_ok-attach.ensures.ok_watches) refl refl c.in-Err.ensures.err refl refl
 
 pub touch-requires : goal.touch-requires
 touch-requires c = omega (
   arith,
   c.next_id-clause.ensures,
-  ap length c.in_ok-attach.ensures.ok.clauses,
+  ap length c.in_ok-attach.ensures.ok_clauses,
   length_push c.args.self.now.clauses (kept_clause c.args.literals.now c.args.asserted c.args.beside),
 )

@@ -1,16 +1,12 @@
-use Rattle.std.proofs.Common.{◌∙◌, ap, sym, length, get_or, arith}
-use Rattle.order_events.proofs.Numbers.{first_is, none_is, is_step, is_own}
+use Rattle.std.proofs.Common.{◌∙◌, ap, length, arith}
+use Rattle.order_events.proofs.Numbers.{none_is, number_at, is_step}
 use Rattle.order_events.proofs.events.Events.number.Goals as goal
 
 pub returns-then-placed-step : goal.returns-then-placed-step
 returns-then-placed-step c =
-    let x = c.placed-item.result in
-    let all = c.all-placed-items.ensures.events in
     c.loop-placed.invariant.number
-    ∙ first_is (is_step c.args.thread c.args.step) c.args.self.now c.loop-placed.placed-index x c.loop-placed.invariant.none
-    (omega (arith, c.loop-placed-test.true, ap length all)) (c.placed-item.is ∙ ap (λ es. get_or es c.loop-placed.placed-index x) all)
-    (is_own c.args.thread c.args.step x (sym (ap (λ e. e.thread) c.placed.view_is) ∙ c.if-placed-thread.true)
-    (sym (ap (λ e. e.it.step) c.placed.view_is) ∙ c.if-placed-step.true))
+    ∙ number_at c.args.thread c.args.step c.args.self.now c.all-placed-items.result.now c.loop-placed.placed-index _ c.all-placed-items.ensures.events
+    c.loop-placed.invariant.none c.loop-placed-test.true c.if-placed-thread.true c.if-placed-step.true
 
 pub returns : goal.returns
 returns c =

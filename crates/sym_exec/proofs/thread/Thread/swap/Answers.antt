@@ -1,7 +1,7 @@
 use Rattle.std.proofs.Common.{◌≡◌, OnOk, subst, Some, ℕ, refl}
 use Rattle.sym_terms.specs.declared.node.Node.TheVariants.{Symbol}
 use Rattle.sym_exec.specs.declared.symbolic.Cell.{Cell}
-use Rattle.sym_exec.specs.helpers.Threads.{seen}
+use Rattle.sym_exec.specs.helpers.Threads.{doing_of}
 use Rattle.sym_exec.specs.Making.{Made, term_of_node}
 use Rattle.sym_exec.specs.Thread.{Doing, with_term, with_load, with_exchange}
 use Rattle.sym_exec.proofs.thread.Thread.swap.Goals as goal
@@ -13,8 +13,8 @@ swap_is d k cell x y v ex ev = rw (ev, ex) refl
 
 pub returns-clause-swapped : goal.returns-clause-swapped
 returns-clause-swapped c =
-    let d = seen c.args.self.now c.args.terms.now in
+    let d = doing_of c.args.self.now c.args.terms.now in
     let x : Made = record { term = c.in_ok-term.term; nodes = c.term.new.terms } in
     let v : Made = record { term = c.in_ok-symbol.symbol; nodes = c.symbol.new.terms } in
-    subst (λ (e : Doing). OnOk c.load.result (seen c.load.new.self c.symbol.new.terms ≡ e))
+    subst (λ (e : Doing). OnOk c.load.result (doing_of c.load.new.self c.symbol.new.terms ≡ e))
     (swap_is d c.args.slot c.args.cell x _ v c.in_ok-term.ensures.term c.in_ok-symbol.ensures.made) (c.load.ensures c.symbol.new.terms)
