@@ -6,6 +6,7 @@ pub use Rattle.order_formula.proofs as order_formula
 pub mod CaseLaws
 pub mod Clauses
 pub mod Completed
+pub mod Drafted
 pub mod Lists
 pub mod Loops
 pub mod Posed

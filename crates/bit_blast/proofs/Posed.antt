@@ -1,6 +1,6 @@
--- A formula over the events of an order that asks about every two contended events has all answers
--- that its clauses need.
-use Rattle.std.proofs.Common.{◌≡◌, ℕ, ◌<◌, Bool, true, false, List, [], ◌∷◌, ◌++◌, inl, inr, refl, sym, ◌∙◌, subst, arith, map}
+-- A formula over the events of an order that asks about each contended event and every other event
+-- has all answers that its clauses need.
+use Rattle.std.proofs.Common.{◌≡◌, ℕ, ◌<◌, Bool, true, false, List, [], ◌∷◌, ◌++◌, inl, inr, refl, ap, sym, ◌∙◌, subst, arith, length, map}
 use Rattle.std.specs.Prelude.{fold, if◌then◌else◌, nat_eq}
 use Rattle.std.specs.List.{All, Contains, list_any}
 use Rattle.std.proofs.lemmas.Bool.{eqb-true}
@@ -14,7 +14,6 @@ use Rattle.order_formula.specs.declared.formula.Conjunct.{Conjunct}
 use Rattle.order_formula.specs.declared.literal.Atom.{Atom}
 use Rattle.order_formula.specs.declared.literal.Atom.TheVariants.{Before, Ends, Test}
 use Rattle.order_formula.specs.declared.literal.Literal.{Literal}
-use Rattle.order_formula.specs.declared.order.Pair.{Pair}
 use Rattle.order_formula.specs.declared.read.Candidate.{Candidate}
 use Rattle.order_formula.specs.Orders.{Order, AtomIsIn, LiteralIsIn, BodyIsIn, ConjunctIsIn, ConjunctIsAsked, IsAsked, BodyIsAsked, IsOrder}
 use Rattle.order_formula.specs.Reads.{Read}
@@ -22,20 +21,20 @@ use Rattle.order_formula.specs.Worlds.{World}
 use Rattle.order_formula.proofs.Asked.{formula_stays}
 use Rattle.cnf_core.specs.Clauses.{Formula, satisfies}
 use Rattle.bit_ops.specs.bit_words.Words.{Walked}
-use Rattle.bit_order.specs.Comparators.{pairs_among}
 use Rattle.bit_order.specs.Laws.{IsWorldFor, SaysSame}
 use Rattle.bit_order.specs.Layouts.{Layout}
 use Rattle.bit_order.specs.Readings.{world_of}
 use Rattle.bit_order.proofs.Asking.{completed-asked, grows-completed}
-use Rattle.bit_blast.specs.Blasted.{BlastMeans, IsApart, IsPosed, RootsTell, blast, layout_of}
+use Rattle.bit_blast.specs.Blasted.{BlastMeans, Blasted, IsApart, IsPosed, RootsTell, blast, layout_of}
 use Rattle.bit_blast.specs.Contended.{contended, is_literal, with_atom, with_body, with_candidate, with_case, with_event}
+use Rattle.bit_blast.specs.Drafts.{Draft, DraftMeans, KeepsWorlds, MeansWorlds, asserted, drafted}
 use Rattle.bit_blast.specs.Laws.{BodyIsTold}
 use Rattle.bit_blast.specs.Whole.{IsReady, clauses_with_roots}
-use Rattle.bit_blast.proofs.Completed.{same_part}
+use Rattle.bit_blast.proofs.Completed.{completed_choices, completed_events, completed_sleeps}
 use Rattle.bit_blast.proofs.Lists.{all_of, contains_cases, contains_none}
 use Rattle.bit_blast.proofs.Prefixes.{first_part}
-use Rattle.bit_blast.proofs.Rooted.{roots_over}
-use Rattle.bit_blast.proofs.WholeLaws.{first_true, whole_means}
+use Rattle.bit_blast.proofs.Rooted.{draft_means, kept, roots_tell}
+use Rattle.bit_blast.proofs.WholeLaws.{all_roots, first_true, whole_means}
 
 -- adding an element keeps the events
 abbrev Keeps : {X : Type 0} → (List ℕ → X → List ℕ) → Type 0
@@ -122,17 +121,14 @@ module _ (nodes : List Node) (formula : List Conjunct) (o : Order) (loads : ℕ)
   abbrev y : Layout
   y = layout_of o loads formula
 
-  abbrev pairs : List Pair
-  pairs = pairs_among (contended formula)
-
   events : y.order.events ≡ o.events
-  events = same_part (λ (k : Order). k.events) (λ k p. refl) o pairs
+  events = completed_events o (contended formula)
 
   sleeps : y.order.sleeps ≡ o.sleeps
-  sleeps = same_part (λ (k : Order). k.sleeps) (λ k p. refl) o pairs
+  sleeps = completed_sleeps o (contended formula)
 
   choices : y.order.choices ≡ o.choices
-  choices = same_part (λ (k : Order). k.choices) (λ k p. refl) o pairs
+  choices = completed_choices o (contended formula)
 
   within : All (ConjunctIsIn y.order) formula
   within = formula_in o y.order events sleeps formula h.within
@@ -142,13 +138,17 @@ module _ (nodes : List Node) (formula : List Conjunct) (o : Order) (loads : ℕ)
 
   told_body : (c : Conjunct) → Contains formula c → (b : Body) → c.body ≡ b → BodyIsAsked y.order b → BodyIsIn y.order b → IsApart b → BodyIsTold y.order b
   told_body c there (body.Any cases) is all there_too apart = all
-  told_body c there (body.Read r) is all inside apart = record {
-    distinct = apart;
-    within = All-cons (λ e. e < y.order.events) r.event (map (λ (k : Candidate). k.event) r.candidates) inside.0
-        (All-map (λ e. e < y.order.events) (λ (k : Candidate). k.event) r.candidates inside.1);
-    asked = λ first second p q differ.
-        completed-asked o (contended formula) first second (contended_has formula c r first there is p) (contended_has formula c r second there is q) differ;
-  }
+  told_body c there (body.Read r) is all inside apart =
+      let own : All (λ e. e < y.order.events) (events_of r) =
+      All-cons (λ e. e < y.order.events) r.event (map (λ (k : Candidate). k.event) r.candidates) inside.0
+      (All-map (λ e. e < y.order.events) (λ (k : Candidate). k.event) r.candidates inside.1) in
+      record {
+        distinct = apart;
+        within = own;
+        asked = λ first second p q differ.
+            let below : second < y.order.events = All-contains (λ e. e < y.order.events) (events_of r) second own q in
+            completed-asked o (contended formula) first second (contended_has formula c r first there is p) (omega (arith, below, events)) differ;
+      }
 
   told : All (λ c. BodyIsTold y.order c.body) formula
   told = all_of (λ (c : Conjunct). BodyIsTold y.order c.body) formula
@@ -200,12 +200,29 @@ module _ (nodes : List Node) (formula : List Conjunct) (o : Order) (loads : ℕ)
         (m.0, m.1.all, same_as w (world_of y m.0) m.2);
   }
 
+  posed_tells : (b : Blasted) → RootsTell nodes formula y b → RootsTell nodes formula posed b
+  posed_tells b r = record {
+    unit = r.unit;
+    to = λ v s. let m = r.to v s in (from_completed (world_of b.layout v) m.0, m.1);
+    back = λ w is. let m = r.back w (to_completed w is) in (m.0, m.1, same_as w (world_of b.layout m.0) m.2, m.3);
+    core = λ numbers inside none w is. r.core numbers inside none w (to_completed w is);
+  }
+
+  posed_means : (b : Blasted) → MeansWorlds nodes formula y b → MeansWorlds nodes formula posed b
+  posed_means b r = record {
+    to = λ v s. let m = r.to v s in (from_completed (world_of b.layout v) m.0, m.1);
+    back = λ w is holds. let m = r.back w (to_completed w is) holds in (m.0, m.1, same_as w (world_of b.layout m.0) m.2);
+  }
+
   pub roots-tell : RootsTell nodes formula posed (blast nodes formula o loads)
   roots-tell =
-      let r : RootsTell nodes formula y (blast nodes formula o loads) = roots_over y nodes formula ready in
+      let d : Draft = drafted nodes formula y in
+      posed_tells (blast nodes formula o loads) (roots_tell y nodes formula ready d (kept nodes formula d) (length formula) refl)
+
+  pub drafts-mean : (e : Draft) → KeepsWorlds nodes formula (drafted nodes formula y) e → DraftMeans nodes formula posed e
+  drafts-mean e keeps =
+      let many : length e.roots ≡ length formula = ap length keeps.roots ∙ (all_roots y nodes formula ready).count in
       record {
-        unit = r.unit;
-        to = λ v s. let m = r.to v s in (from_completed (world_of y v) m.0, m.1);
-        back = λ w is. let m = r.back w (to_completed w is) in (m.0, m.1, same_as w (world_of y m.0) m.2, m.3);
-        core = λ numbers inside none w is. r.core numbers inside none w (to_completed w is);
+        means = posed_means (asserted e) (draft_means y nodes formula ready e keeps (length e.roots) many);
+        tells = posed_tells (asserted e) (roots_tell y nodes formula ready e keeps (length e.roots) many);
       }

@@ -112,7 +112,7 @@ module _ (y : Layout) (nodes : List Node) (formula : List Conjunct) (h : IsReady
       let u = grown.extends v.0 (order.over (base-over y)) v.1 in
       (u.0, u.1, subst (SaysSame y w) (same-world y v.0 u.0 (λ k below. u.2 k (omega (arith, below, order.more)))) v.2)
 
-  still : (v u : Valuation) → Agree g.vars v u → world_of y v ≡ world_of y u
+  pub still : (v u : Valuation) → Agree g.vars v u → world_of y v ≡ world_of y u
   still v u agree = same-world y v u (λ k below. agree k (omega (arith, below, order.more, grown.more)))
 
   pub all_roots : AreRoots nodes (world_of y) (clauses_with_terms y nodes).formula (clauses_with_roots y nodes formula) formula

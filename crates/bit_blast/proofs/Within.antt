@@ -16,21 +16,23 @@ use Rattle.bit_order.specs.Layouts.{Layout, base, ends_literal, load_word}
 use Rattle.bit_order.proofs.Meaning.{literals-mean}
 use Rattle.bit_order.proofs.Three.{ordered-extended}
 use Rattle.bit_terms.specs.Terms.{Words, node_word, term_words, with_word}
+use Rattle.bit_blast.specs.Drafts.{Draft, DraftIsWithin}
 use Rattle.bit_blast.specs.Layered.{parts_of}
 use Rattle.bit_blast.specs.Whole.{load_words}
 use Rattle.bit_blast.specs.helpers.Within.{ArePartsWithin}
 use Rattle.bit_blast.proofs.WholeLaws.{all_range}
 
 -- there is a word for each term
-words_from : (symbols : List (List ℤ)) (m : Words) (nodes : List Node) → length (fold (with_word symbols) m nodes).words ≡ length m.words + length nodes
-words_from symbols m [] = omega arith
-words_from symbols m (node ∷ nodes) =
-    let here : Walked Formula = node_word symbols m.words m.formula node in
-    let one : length (with_word symbols m node).words ≡ length m.words + 1 = length_push m.words here.word in
-    omega (arith, words_from symbols (with_word symbols m node) nodes, one)
+words_from : (symbols : List (List ℤ)) (all : List Node) (m : Words) (nodes : List Node)
+    → length (fold (with_word symbols all) m nodes).words ≡ length m.words + length nodes
+words_from symbols all m [] = omega arith
+words_from symbols all m (node ∷ nodes) =
+    let here : Walked Formula = node_word symbols all m node in
+    let one : length (with_word symbols all m node).words ≡ length m.words + 1 = length_push m.words here.word in
+    omega (arith, words_from symbols all (with_word symbols all m node) nodes, one)
 
 pub words_count : (nodes : List Node) (symbols : List (List ℤ)) (f : Formula) → length (term_words nodes symbols f).words ≡ length nodes
-words_count nodes symbols f = words_from symbols (record { formula = f; words = [] }) nodes ∙ omega arith
+words_count nodes symbols f = words_from symbols nodes (record { formula = f; words = [] }) nodes ∙ omega arith
 
 module _ (y : Layout) (lawful : IsOrder y.order) where
   literals : LiteralsMean y
@@ -55,3 +57,20 @@ module _ (y : Layout) (lawful : IsOrder y.order) where
     ends = λ sleep by. let o : IsOf (ordered y).vars (ends_literal y sleep by) = literals.ends_there sleep by in omega (arith, o.1, more);
     words = all;
   }
+
+pub draft_within : (d : Draft) → IsOrder d.layout.order → d.layout.order.events ≤ 256 → (ordered d.layout).vars ≤ d.clauses.vars
+    → All (AreWithin d.clauses.vars) d.words → AreWithin d.clauses.vars d.roots → DraftIsWithin d
+draft_within d lawful events more words roots =
+    let y : Layout = d.layout in
+    let n : ℕ = d.clauses.vars in
+    let parts = parts_within y lawful n d.words more words in
+    record {
+      events = events;
+      variables = omega (arith, base_within y lawful, more);
+      before = parts.before;
+      loads = All-weaker (AreWithin (ordered y).vars) (AreWithin n)
+          (λ ls k. All-weaker (λ l. var_of l ≤ (ordered y).vars) (λ l. var_of l ≤ n) (λ l below. omega (arith, below, more)) ls k)
+          (load_words y) (loads_within y lawful);
+      words = words;
+      roots = roots;
+    }

@@ -8,6 +8,7 @@ pub use Rattle.sym_terms.specs as sym_terms
 pub mod Blasted
 pub mod Cases
 pub mod Contended
+pub mod Drafts
 pub mod Laws
 pub mod Layered
 pub mod Reads

@@ -11,10 +11,10 @@ use crate::quote::{legible, push_quote, rest_at};
 use crate::source::Source;
 use next_tokens::Stuck;
 use std::alloc::{AllocError, Global};
-use tc_lexer::{LexFault, Place, Token, TokenKind, lex};
+use tc_lexer::{LexFault, Place, TokenKind, lex};
 use tc_parser::{ParseFault, TextFault, What};
 use tc_syntax::read_program;
-use tc_tree::{Program, Word};
+use tc_tree::{Program, words_of};
 
 /// Explains this fault of a text: the line with a caret, the token that was found, the tokens that
 /// are possible there, and a hint. For a syntax fault, `stuck` says where the words stop being a
@@ -173,7 +173,7 @@ fn push_name(
     fault: &ParseFault,
     place: Place,
 ) -> Result<(), AllocError> {
-    let Some(program) = program_of(alloc, source.tokens)? else {
+    let Some(program) = program_of(alloc, source)? else {
         return Ok(());
     };
     let name = Fault::at(alloc, source, &program, place)?;
@@ -187,8 +187,8 @@ fn push_name(
 }
 
 /// The program of these tokens, whatever its names mean; `None` if they aren't a program.
-fn program_of(alloc: Global, tokens: &[Token]) -> Result<Option<Program>, AllocError> {
-    let words: Vec<Word> = tokens.iter().map(Word::new).collect(alloc)?;
+fn program_of(alloc: Global, source: Source) -> Result<Option<Program>, AllocError> {
+    let words = words_of(alloc, source.text, source.tokens)?;
     match read_program(alloc, words.as_slice()) {
         Ok(program) => Ok(Some(program)),
         Err(_) => Ok(None),

@@ -4,6 +4,7 @@ use crate::program::Program;
 use crate::rows::Shared;
 use crate::sites::{failed_words, silent_words};
 use crate::terms::value_over;
+use int_ops::{Update, updated};
 use show_deeds::{Deed, Step, Stored};
 use show_names::Names;
 use show_rows::Row;
@@ -49,13 +50,7 @@ fn step_words(
         Request::Fail => failed_words(alloc, program, row),
         Request::Read(cell) => load_words(alloc, names.cell(cell), took, shared.own),
         Request::Write(cell, value) => store_words(alloc, names.cell(cell), value, buffered),
-        Request::Exchange(cell, value) => {
-            let name = names.cell(cell);
-            format!(in alloc; "swap {name}: took {took}, put {value}")
-        }
-        Request::CompareExchange(cell, expected, value) => {
-            cas_words(alloc, names.cell(cell), took, expected, value)
-        }
+        Request::Exchange(cell, update) => update_words(alloc, names.cell(cell), took, update),
         Request::Bar => String::from_str(alloc, "stbar"),
         Request::OrderStores => String::from_str(alloc, "fence"),
         Request::Finish => String::from_str(alloc, "exits"),
@@ -114,18 +109,26 @@ fn store_words(
     }
 }
 
-/// A compare-and-swap, which stores only if it took the expected value.
-fn cas_words(
+/// An update; a compare-and-exchange stores only if it took the expected value.
+fn update_words(
     alloc: Global,
     name: &str,
     took: i32,
-    expected: i32,
-    value: i32,
+    update: Update<i32>,
 ) -> Result<String, AllocError> {
-    if took == expected {
-        format!(in alloc; "cas {name}: took {took}, put {value}")
-    } else {
-        format!(in alloc; "cas {name}: took {took}, put nothing")
+    let verb = match update {
+        Update::Swap(_) => "swap",
+        Update::Cas(_, _) => "cas",
+        Update::Add(_) => "add",
+    };
+    match update {
+        Update::Cas(expected, _) if took != expected => {
+            format!(in alloc; "{verb} {name}: took {took}, put nothing")
+        }
+        _ => {
+            let put = updated(update, took);
+            format!(in alloc; "{verb} {name}: took {took}, put {put}")
+        }
     }
 }
 

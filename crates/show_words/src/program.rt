@@ -97,14 +97,12 @@ impl<'a> Program<'a> {
             Some(Instr::Branch { .. }) => self.branched(row.function, row.instruction).is_some(),
             Some(
                 Instr::Load { .. }
-                | Instr::LoadAt { .. }
                 | Instr::Inside { .. }
                 | Instr::Nonzero(_)
                 | Instr::InRange(_)
                 | Instr::Holds { .. }
                 | Instr::Ready { .. }
-                | Instr::Swap { .. }
-                | Instr::Cas { .. },
+                | Instr::Modify { .. },
             ) => true,
             _ => false,
         }

@@ -6,7 +6,7 @@ use crate::program::Program;
 use int_ops::{BinOp, UnOp, arith};
 use show_rows::Row;
 use std::alloc::{AllocError, Global};
-use tc_code::{Expr, Instr, Node};
+use tc_code::{Cell, Expr, Instr, Node};
 
 /// How a name is written.
 #[derive(Clone, Copy, PartialEq, Eq)]
@@ -138,15 +138,15 @@ impl<'a> At<'a> {
         if let Some(name) = names.int(function, slot) {
             return out.push_str(name);
         }
-        match self.writer_of(slot) {
-            Some(Instr::Load { cell, .. }) => out.push_str(names.cell(*cell)),
-            Some(Instr::LoadAt { first, index, .. }) => {
+        match self.cell_of(slot) {
+            Some(Cell::Fixed(cell)) => out.push_str(names.cell(*cell)),
+            Some(Cell::Element { first, index, .. }) => {
                 out.push_str(names.array(*first))?;
                 out.push('[')?;
                 self.push(out, index, 0, depth)?;
                 out.push(']')
             }
-            _ => out.push('?'),
+            None => out.push('?'),
         }
     }
 
@@ -207,16 +207,12 @@ impl<'a> At<'a> {
         None
     }
 
-    /// The instruction that loads a slot.
-    fn writer_of(&self, slot: u32) -> Option<&'a Instr> {
+    /// The cell that a slot is loaded from.
+    fn cell_of(&self, slot: u32) -> Option<&'a Cell<Expr>> {
         let function = self.row.function;
         for place in (0..self.row.instruction).rev() {
-            let instr = self.program.code.instr(function, place);
-            match instr {
-                Some(Instr::Load { slot: to, .. } | Instr::LoadAt { slot: to, .. })
-                    if *to == slot => {
-                    return instr;
-                }
+            match self.program.code.instr(function, place) {
+                Some(Instr::Load { slot: to, cell }) if *to == slot => return Some(cell),
                 _ => {}
             }
         }

@@ -5,7 +5,7 @@ use show_deeds::Deed;
 use show_rows::Row;
 use std::alloc::{AllocError, Global};
 use tc_base::Request;
-use tc_code::{Expr, Instr, Node};
+use tc_code::{Cell, Expr, Instr, Node};
 
 /// A name of the text, and the value that it had.
 #[derive(Clone, Copy)]
@@ -70,7 +70,10 @@ impl<'a> Values<'a> {
                 Instr::Branch { condition: e, .. }
                 | Instr::Set { value: e, .. }
                 | Instr::Inside { index: e, .. }
-                | Instr::LoadAt { index: e, .. }
+                | Instr::Load {
+                    cell: Cell::Element { index: e, .. },
+                    ..
+                }
                 | Instr::Assert(e)
                 | Instr::Nonzero(e)
                 | Instr::InRange(e),
