@@ -9,7 +9,7 @@ use show_names::Names;
 use show_rows::Row;
 use std::alloc::{AllocError, Global};
 use tc_base::{Request, ThreadName};
-use tc_code::Instr;
+use tc_code::{Expr, Instr};
 
 /// A row's move in words, given whether there are buffers, and its facts that depend on other
 /// moves.
@@ -42,12 +42,34 @@ fn step_words(
     buffered: bool,
     shared: &Shared<'_>,
 ) -> Result<String, AllocError> {
-    let names = program.names;
-    let took = step.took;
     match step.asks {
         Request::Silent => silent_words(alloc, program, row),
         Request::Fail => failed_words(alloc, program, row),
-        Request::Read(cell) => load_words(alloc, names.cell(cell), took, shared.own),
+        Request::Start(_) => creation_words(alloc, program, row, step),
+        Request::Read(_)
+        | Request::Write(_, _)
+        | Request::Exchange(_, _)
+        | Request::CompareExchange(_, _, _) => {
+            access_words(alloc, program.names, step, buffered, shared.own)
+        }
+        Request::Bar | Request::OrderStores | Request::Finish | Request::Await(_) => {
+            plain_words(alloc, step)
+        }
+        _ => lock_words(alloc, program.names, step.asks, shared),
+    }
+}
+
+/// A step that reads or writes a cell.
+fn access_words(
+    alloc: Global,
+    names: &Names,
+    step: &Step,
+    buffered: bool,
+    own: bool,
+) -> Result<String, AllocError> {
+    let took = step.took;
+    match step.asks {
+        Request::Read(cell) => load_words(alloc, names.cell(cell), took, own),
         Request::Write(cell, value) => store_words(alloc, names.cell(cell), value, buffered),
         Request::Exchange(cell, value) => {
             let name = names.cell(cell);
@@ -56,9 +78,33 @@ fn step_words(
         Request::CompareExchange(cell, expected, value) => {
             cas_words(alloc, names.cell(cell), took, expected, value)
         }
-        Request::Bar => String::from_str(alloc, "stbar"),
-        Request::OrderStores => String::from_str(alloc, "fence"),
-        Request::Finish => String::from_str(alloc, "exits"),
+        _ => Ok(String::new(alloc)),
+    }
+}
+
+/// A step that names no part of the program, except for a child.
+fn plain_words(alloc: Global, step: &Step) -> Result<String, AllocError> {
+    let words = match step.asks {
+        Request::Bar => "stbar",
+        Request::OrderStores => "fence",
+        Request::Finish => "exits",
+        Request::Await(child) => {
+            let parent = &step.thread;
+            return format!(in alloc; "joins {parent}.{child}");
+        }
+        _ => "",
+    };
+    String::from_str(alloc, words)
+}
+
+/// A step that asks for a mutex or a condition.
+fn lock_words(
+    alloc: Global,
+    names: &Names,
+    asks: Request,
+    shared: &Shared<'_>,
+) -> Result<String, AllocError> {
+    match asks {
         Request::Acquire(mutex) => {
             let mutex = names.mutex(mutex);
             format!(in alloc; "lock {mutex}")
@@ -86,11 +132,7 @@ fn step_words(
         Request::WakeAll(condition) => {
             wake_words(alloc, "broadcast", names.condition(condition), shared.wakes)
         }
-        Request::Start(_) => creation_words(alloc, program, row, step),
-        Request::Await(child) => {
-            let parent = &step.thread;
-            format!(in alloc; "joins {parent}.{child}")
-        }
+        _ => Ok(String::new(alloc)),
     }
 }
 
@@ -149,21 +191,22 @@ fn wake_words(
     condition: &str,
     wakes: &[ThreadName],
 ) -> Result<String, AllocError> {
-    let woken = woken_words(alloc, wakes)?;
-    format!(in alloc; "{verb} {condition}: {woken}")
+    let mut words = format!(in alloc; "{verb} {condition}: ")?;
+    push_woken(&mut words, wakes)?;
+    Ok(words)
 }
 
-/// The threads that are woken, in words.
-fn woken_words(alloc: Global, wakes: &[ThreadName]) -> Result<String, AllocError> {
+/// Adds the threads that are woken.
+fn push_woken(words: &mut String, wakes: &[ThreadName]) -> Result<(), AllocError> {
     if wakes.is_empty() {
-        return String::from_str(alloc, "nobody waits");
+        return words.push_str("nobody waits");
     }
-    let mut words = String::from_str(alloc, "wakes")?;
-    for (i, name) in wakes.iter().enumerate() {
-        let comma = if i == 0 { "" } else { "," };
-        words.push_str(format!(in alloc; "{comma} {name}")?.as_str())?;
+    let mut before = "wakes";
+    for name in wakes {
+        write!(words, "{before} {name}")?;
+        before = ",";
     }
-    Ok(words)
+    Ok(())
 }
 
 /// A step that creates a thread, with the arguments.
@@ -173,7 +216,8 @@ fn creation_words(
     row: &Row,
     step: &Step,
 ) -> Result<String, AllocError> {
-    let (
+    let mut words = String::new(alloc);
+    if let (
         Some(child),
         Some(
             Instr::Create {
@@ -183,20 +227,31 @@ fn creation_words(
             },
         ),
     ) = (&step.other, program.instr(row))
-    else {
-        return String::from_str(alloc, "");
-    };
-    let function = *function as usize;
-    let name = program.function(alloc, function)?;
-    let mut words = format!(in alloc; "creates {child} {name}(")?;
+    {
+        let function = *function as usize;
+        let name = program.called(function);
+        write!(words, "creates {child} {name}")?;
+        push_arguments(&mut words, program, row, function, arguments.as_slice())?;
+    }
+    Ok(words)
+}
+
+/// Adds the arguments that a step hands to a thread of a function.
+fn push_arguments(
+    words: &mut String,
+    program: Program<'_>,
+    row: &Row,
+    function: usize,
+    arguments: &[Expr],
+) -> Result<(), AllocError> {
+    words.push('(')?;
     let mut number = 0u32;
-    for argument in arguments.as_slice() {
+    for argument in arguments {
         let comma = if number == 0 { "" } else { ", " };
         let parameter = program.names.int(function, number).unwrap_or("?");
         let value = value_over(row.slots.as_slice(), argument);
-        words.push_str(format!(in alloc; "{comma}{parameter} = {value}")?.as_str())?;
+        write!(words, "{comma}{parameter} = {value}")?;
         number = number.saturating_add(1);
     }
-    words.push(')')?;
-    Ok(words)
+    words.push(')')
 }

@@ -24,9 +24,8 @@ use crate::halves;
 use crate::text::{bytes_of, quoted};
 use crate::turns::{Answer, Call, Edit, Turn, Want, fail_of, words_of};
 use anyhow::{Context, Result, bail};
-use std::alloc::Global;
+use std::alloc::{AllocError, Global};
 use std::collections::BTreeMap;
-use std::fmt::Write;
 use test_shelves::mem::{Fail, MemShelf};
 
 /// A row: the files of the shelf, its calls that fail, its calls, and the files that must be there
@@ -38,7 +37,8 @@ pub struct Row {
     files: BTreeMap<String, String>,
     fetches: Vec<Fail>,
     usage: String,
-    after: BTreeMap<String, Option<String>>,
+    /// The files that must be there afterwards, by their names; `None` for one that must not.
+    pub(crate) after: BTreeMap<String, Option<String>>,
 }
 
 /// The rows so far, and the common beginning of each.
@@ -49,19 +49,34 @@ struct Table {
 }
 
 impl Table {
+    /// Reads all lines.
+    fn read(&mut self, rt: &(impl Input + AllocGlobal)) -> Result<()> {
+        let mut number = 0u64;
+        for line in rt.lines(rt.alloc()) {
+            number = number.saturating_add(1);
+            self.take(rt.alloc(), line?.as_str())
+                .context(format_args!("line {number}"))?;
+        }
+        Ok(())
+    }
+
     /// Reads the next line.
     fn take(&mut self, alloc: Global, line: &str) -> Result<()> {
         let (key, rest) = halves(line);
         if key == "row" {
-            let mut row = self.base.clone()?;
-            row.name = String::from_str(alloc, rest)?;
-            self.rows.push(row)?;
-            return Ok(());
+            return Ok(self.begin(String::from_str(alloc, rest)?)?);
         }
         match self.rows.last_mut() {
             Some(row) => row.read(alloc, key, rest),
             None => self.base.read(alloc, key, rest),
         }
+    }
+
+    /// Begins a row of this name.
+    fn begin(&mut self, name: String) -> Result<(), AllocError> {
+        let mut row = self.base.clone()?;
+        row.name = name;
+        Ok(self.rows.push(row)?)
     }
 }
 
@@ -71,13 +86,7 @@ pub fn rows_of(rt: &(impl Input + AllocGlobal)) -> Result<Vec<Row>> {
         base: Row::new(rt.alloc())?,
         rows: Vec::new(rt.alloc()),
     };
-    let mut number = 0u64;
-    for line in rt.lines(rt.alloc()) {
-        number = number.saturating_add(1);
-        table
-            .take(rt.alloc(), line?.as_str())
-            .context(format_args!("line {number}"))?;
-    }
+    table.read(rt)?;
     Ok(table.rows)
 }
 
@@ -98,26 +107,28 @@ impl Row {
     /// A shelf with the row's files, which fails as planned.
     pub fn shelf(&self, alloc: Global) -> Result<MemShelf> {
         let mut shelf = MemShelf::new(alloc);
+        self.fill(alloc, &mut shelf)?;
+        Ok(shelf)
+    }
+
+    /// Puts the row's files on a shelf, and plans its failures.
+    fn fill(&self, alloc: Global, shelf: &mut MemShelf) -> Result<()> {
         for (name, text) in &self.files {
             shelf.hold(alloc, name.as_str(), &bytes_of(alloc, text.as_str())?)?;
         }
         for fail in &self.fetches {
             shelf.fail(*fail)?;
         }
-        Ok(shelf)
-    }
-
-    /// The names whose files are checked afterwards.
-    pub fn names(&self, alloc: Global) -> Result<Vec<String>> {
-        let mut names = Vec::new(alloc);
-        for (name, _) in &self.after {
-            names.push(name.clone()?)?;
-        }
-        Ok(names)
+        Ok(())
     }
 
     /// Whether the answers and files are as they must be.
     pub fn is_met(&self, alloc: Global, came: &Came) -> Result<bool> {
+        Ok(self.is_answered(alloc, came)? && self.is_left(alloc, came)?)
+    }
+
+    /// Whether the answers are as they must be.
+    fn is_answered(&self, alloc: Global, came: &Came) -> Result<bool> {
         let mut answers = came.answers.iter();
         for turn in &self.turns {
             if let Turn::Call(call) = turn {
@@ -127,6 +138,11 @@ impl Row {
                 }
             }
         }
+        Ok(true)
+    }
+
+    /// Whether the files are as they must be.
+    fn is_left(&self, alloc: Global, came: &Came) -> Result<bool> {
         let mut after = came.after.iter();
         for (_, text) in &self.after {
             let wanted = match text {
@@ -140,12 +156,11 @@ impl Row {
         Ok(true)
     }
 
-    /// What must come, as the row writes it.
-    pub fn text(&self, alloc: Global) -> Result<String> {
-        let mut text = String::new(alloc);
+    /// Adds what must come, as the row writes it.
+    pub fn push_text(&self, text: &mut String) -> Result<()> {
         for turn in &self.turns {
             if let Turn::Call(call) = turn {
-                call.push_text(&mut text)?;
+                call.push_text(text)?;
             }
         }
         for (_, wanted) in &self.after {
@@ -154,37 +169,49 @@ impl Row {
                 None => text.push_str(" nothing")?,
             }
         }
-        Ok(text)
+        Ok(())
     }
 
     fn read(&mut self, alloc: Global, key: &str, rest: &str) -> Result<()> {
         match key {
-            "" if rest.is_empty() => {}
-            "file" => {
-                let (name, text) = halves(rest);
-                let text = String::from_str(alloc, text)?;
-                self.files.insert(String::from_str(alloc, name)?, text)?;
+            "" if rest.is_empty() => Ok(()),
+            "file" => self.read_file(alloc, rest),
+            "fetch" | "keep" => Ok(self.fetches.push(fail_of(rest)?)?),
+            "holds" => self.hold(alloc, rest),
+            "stays" => self.stay(alloc, rest),
+            "usage" => {
+                self.usage = quoted(alloc, rest)?;
+                Ok(())
             }
-            "fetch" | "keep" => self.fetches.push(fail_of(rest)?)?,
-            "usage" => self.usage = quoted(alloc, rest)?,
-            "then" => {
-                let words = words_of(alloc, rest)?;
-                self.turns.push(Turn::Call(Call::new(alloc, words)))?;
-            }
-            "edit" | "cut" => {
-                let edit = Edit::read(alloc, key, rest)?;
-                self.turns.push(Turn::Edit(edit))?;
-            }
-            "holds" => {
-                let (name, text) = halves(rest);
-                let text = quoted(alloc, text)?;
-                self.after
-                    .insert(String::from_str(alloc, name)?, Some(text))?;
-            }
-            "stays" => self.stay(alloc, rest)?,
-            _ if key.starts_with('#') => {}
-            _ => self.read_call(alloc, key, rest)?,
+            _ if key.starts_with('#') => Ok(()),
+            _ => self.read_turn(alloc, key, rest),
         }
+    }
+
+    /// Reads a line that begins a turn, or one of the last call.
+    fn read_turn(&mut self, alloc: Global, key: &str, rest: &str) -> Result<()> {
+        let turn = match key {
+            "then" => Turn::Call(Call::new(alloc, words_of(alloc, rest)?)),
+            "edit" | "cut" => Turn::Edit(Edit::read(alloc, key, rest)?),
+            _ => return self.read_call(alloc, key, rest),
+        };
+        Ok(self.turns.push(turn)?)
+    }
+
+    /// Reads a file of the shelf.
+    fn read_file(&mut self, alloc: Global, rest: &str) -> Result<()> {
+        let (name, text) = halves(rest);
+        let text = String::from_str(alloc, text)?;
+        self.files.insert(String::from_str(alloc, name)?, text)?;
+        Ok(())
+    }
+
+    /// Reads a file that must be there afterwards.
+    fn hold(&mut self, alloc: Global, rest: &str) -> Result<()> {
+        let (name, text) = halves(rest);
+        let text = quoted(alloc, text)?;
+        self.after
+            .insert(String::from_str(alloc, name)?, Some(text))?;
         Ok(())
     }
 
@@ -222,11 +249,10 @@ pub struct Came {
 }
 
 impl Came {
-    /// What came, as a row writes it.
-    pub fn text(&self, alloc: Global) -> Result<String> {
-        let mut text = String::new(alloc);
+    /// Adds what came, as a row writes it.
+    pub fn push_text(&self, text: &mut String) -> Result<(), AllocError> {
         for answer in &self.answers {
-            answer.push_text(&mut text)?;
+            answer.push_text(text)?;
         }
         for bytes in &self.after {
             match bytes {
@@ -234,6 +260,6 @@ impl Came {
                 None => text.push_str(" nothing")?,
             }
         }
-        Ok(text)
+        Ok(())
     }
 }

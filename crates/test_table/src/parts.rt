@@ -10,7 +10,7 @@
 use crate::text::bytes_of;
 use crate::{chosen, halves};
 use anyhow::{Context, Result};
-use std::alloc::Global;
+use std::alloc::{AllocError, Global};
 use std::env::Env;
 
 /// Tries the parts.
@@ -39,28 +39,44 @@ fn take(alloc: Global, groups: &mut Vec<Group>, line: &str) -> Result<()> {
         return Ok(());
     }
     if let Some(name) = line.strip_prefix("group ") {
-        groups.push(Group {
-            name: String::from_str(alloc, name)?,
-            rows: Vec::new(alloc),
-        })?;
-        return Ok(());
+        return Ok(push_group(alloc, groups, name)?);
     }
     let group = groups.last_mut().context("a row before the first group")?;
-    if let Some(more) = line.strip_prefix(' ') {
-        let row = group.rows.last_mut().context("no row")?;
-        row.want.push_str("\\n")?;
-        row.want.push_str(more)?;
-        return Ok(());
+    match line.strip_prefix(' ') {
+        Some(more) => group.want_more(more),
+        None => group.take(alloc, line),
     }
-    let (line, want) = line.split_once(" => ").context("nothing is wanted")?;
-    group.rows.push(Row {
-        line: String::from_str(alloc, line)?,
-        want: String::from_str(alloc, want)?,
-    })?;
-    Ok(())
+}
+
+/// Begins a group.
+fn push_group(alloc: Global, groups: &mut Vec<Group>, name: &str) -> Result<(), AllocError> {
+    let name = String::from_str(alloc, name)?;
+    let rows = Vec::new(alloc);
+    Ok(groups.push(Group { name, rows })?)
+}
+
+impl Group {
+    /// Reads a further line of what must come of the last row.
+    fn want_more(&mut self, more: &str) -> Result<()> {
+        let row = self.rows.last_mut().context("no row")?;
+        Ok(write!(row.want, "\\n{more}")?)
+    }
+
+    /// Reads a row.
+    fn take(&mut self, alloc: Global, line: &str) -> Result<()> {
+        let (line, want) = line.split_once(" => ").context("nothing is wanted")?;
+        Ok(self.rows.push(Row::new(alloc, line, want)?)?)
+    }
 }
 
 impl Row {
+    fn new(alloc: Global, line: &str, want: &str) -> Result<Row, AllocError> {
+        Ok(Row {
+            line: String::from_str(alloc, line)?,
+            want: String::from_str(alloc, want)?,
+        })
+    }
+
     fn has(&self, word: &str) -> bool {
         self.line.contains(word)
     }
@@ -84,15 +100,8 @@ fn try_group<P: Parts>(rt: &(impl Print + AllocGlobal), group: &Group, word: &st
     let mut right = 0u32;
     let all = group.name.contains(word);
     for row in &group.rows {
-        if !all && !row.has(word) {
-            continue;
-        }
-        match row
-            .otherwise::<P>(rt.alloc())
-            .context(format_args!("{}", row.line))?
-        {
-            None => right = right.saturating_add(1),
-            Some(came) => println!(rt; "{} => {}\nbut {came}", row.line, row.want)?,
+        if (all || row.has(word)) && is_right::<P>(rt, row)? {
+            right = right.saturating_add(1);
         }
     }
     if right > 0 {
@@ -101,14 +110,31 @@ fn try_group<P: Parts>(rt: &(impl Print + AllocGlobal), group: &Group, word: &st
     Ok(())
 }
 
-/// Tries the rows of the table in standard input.
-pub fn try_rows<P: Parts>(rt: &(impl Input + Print + Env + AllocGlobal)) -> Result<()> {
-    let mut groups = Vec::new(rt.alloc());
+/// Tries a row, and prints what came if it isn't what must come.
+fn is_right<P: Parts>(rt: &(impl Print + AllocGlobal), row: &Row) -> Result<bool> {
+    let otherwise = row
+        .otherwise::<P>(rt.alloc())
+        .context(format_args!("{}", row.line))?;
+    if let Some(came) = &otherwise {
+        println!(rt; "{} => {}\nbut {came}", row.line, row.want)?;
+    }
+    Ok(otherwise.is_none())
+}
+
+/// Reads the groups of the table in standard input.
+fn read(rt: &(impl Input + AllocGlobal), groups: &mut Vec<Group>) -> Result<()> {
     let mut number = 0u64;
     for line in rt.lines(rt.alloc()) {
         number = number.saturating_add(1);
-        take(rt.alloc(), &mut groups, line?.as_str()).context(format_args!("line {number}"))?;
+        take(rt.alloc(), groups, line?.as_str()).context(format_args!("line {number}"))?;
     }
+    Ok(())
+}
+
+/// Tries the rows of the table in standard input.
+pub fn try_rows<P: Parts>(rt: &(impl Input + Print + Env + AllocGlobal)) -> Result<()> {
+    let mut groups = Vec::new(rt.alloc());
+    read(rt, &mut groups)?;
     let word = chosen(rt)?.unwrap_or(String::new(rt.alloc()));
     for group in &groups {
         try_group::<P>(rt, group, word.as_str())?;

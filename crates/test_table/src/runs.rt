@@ -30,25 +30,56 @@ where
     requires { F.IsAlwaysCallable program.now }
 {
     let mut shelf = row.shelf(alloc)?;
-    let (mut answers, mut after) = (Vec::new(alloc), Vec::new(alloc));
-    for turn in &row.turns {
-        match turn {
-            Turn::Call(call) => answers.push(answer(alloc, call, &mut shelf, program)?)?,
-            Turn::Edit(edit) => edit.make(alloc, &mut shelf)?,
-        }
-    }
-    for name in &row.names(alloc)? {
-        after.push(shelf.fetch(alloc, name.as_str(), u64::MAX).ok())?;
-    }
+    let answers = answers(alloc, row, &mut shelf, program)?;
+    let after = files(alloc, row, &mut shelf)?;
     Ok(Came { answers, after })
 }
 
+/// The answers of the calls of a row.
+fn answers<F>(alloc: Global, row: &Row, shelf: &mut MemShelf, program: &F) -> Result<Vec<Answer>>
+where
+    F: Fn(Global, &[String], &mut MemShelf, &mut MemSink) -> u8,
+    requires { F.IsAlwaysCallable program.now }
+{
+    let mut answers = Vec::new(alloc);
+    for turn in &row.turns {
+        match turn {
+            Turn::Call(call) => answers.push(answer(alloc, call, shelf, program)?)?,
+            Turn::Edit(edit) => edit.make(alloc, shelf)?,
+        }
+    }
+    Ok(answers)
+}
+
+/// The files of a shelf that a row names.
+fn files(alloc: Global, row: &Row, shelf: &mut MemShelf) -> Result<Vec<Option<Vec<u8>>>> {
+    let mut files = Vec::new(alloc);
+    for name in row.after.keys() {
+        files.push(shelf.fetch(alloc, name.as_str(), u64::MAX).ok())?;
+    }
+    Ok(files)
+}
+
 /// The verdict on a row.
-fn verdict(alloc: Global, row: &Row, came: &Came) -> Result<String> {
-    if row.is_met(alloc, came)? {
+fn verdict<F>(alloc: Global, row: &Row, program: &F) -> Result<String>
+where
+    F: Fn(Global, &[String], &mut MemShelf, &mut MemSink) -> u8,
+    requires { F.IsAlwaysCallable program.now }
+{
+    let came = come(alloc, row, program)?;
+    if row.is_met(alloc, &came)? {
         return Ok(String::from_str(alloc, "ok")?);
     }
-    Ok(format!(in alloc; "{}\n  must be {}", came.text(alloc)?, row.text(alloc)?)?)
+    both_texts(alloc, row, &came)
+}
+
+/// What came, and what must come.
+fn both_texts(alloc: Global, row: &Row, came: &Came) -> Result<String> {
+    let mut text = String::new(alloc);
+    came.push_text(&mut text)?;
+    text.push_str("\n  must be ")?;
+    row.push_text(&mut text)?;
+    Ok(text)
 }
 
 /// Tries each row of the table in standard input, and prints for each whether it passes, or what
@@ -61,10 +92,19 @@ where
     let word = chosen(rt)?.unwrap_or(String::new(rt.alloc()));
     for row in &rows_of(rt)? {
         if row.name.contains(word.as_str()) {
-            let came = come(rt.alloc(), row, &program).context(format_args!("{}", row.name))?;
-            let verdict = verdict(rt.alloc(), row, &came).context(format_args!("{}", row.name))?;
-            println!(rt; "{}: {verdict}", row.name)?;
+            try_row(rt, row, &program)?;
         }
     }
+    Ok(())
+}
+
+/// Tries a row, and prints the verdict.
+fn try_row<F>(rt: &(impl Print + AllocGlobal), row: &Row, program: &F) -> Result<()>
+where
+    F: Fn(Global, &[String], &mut MemShelf, &mut MemSink) -> u8,
+    requires { F.IsAlwaysCallable program.now }
+{
+    let verdict = verdict(rt.alloc(), row, program).context(format_args!("{}", row.name))?;
+    println!(rt; "{}: {verdict}", row.name)?;
     Ok(())
 }

@@ -4,7 +4,7 @@
 //! the number of the turn, from 0, and `\#+K` that number and K. Each other character writes
 //! itself.
 use anyhow::{Context, Result, bail};
-use std::alloc::Global;
+use std::alloc::{AllocError, Global};
 
 /// The value of a hex digit.
 fn digit(byte: u8) -> Result<u8> {
@@ -69,18 +69,35 @@ impl Part {
 
 /// Adds a text `count` times.
 fn push_repeated(alloc: Global, bytes: &mut Vec<u8>, text: &str, count: u32) -> Result<()> {
+    let parts = parts_of(alloc, text)?;
+    for turn in 0..count {
+        push_turn(alloc, bytes, &parts, turn)?;
+    }
+    Ok(())
+}
+
+/// The parts of a repeated text.
+fn parts_of(alloc: Global, text: &str) -> Result<Vec<Part>> {
     let mut parts = Vec::new(alloc);
     for part in text.split("\\#") {
         parts.push(Part::read(alloc, part)?)?;
     }
-    for turn in 0..count {
-        for (place, part) in parts.iter().enumerate() {
-            if place > 0 {
-                let number = u64::from(turn) + u64::from(part.more);
-                bytes.extend_from_slice(format!(in alloc; "{number}")?.as_bytes())?;
-            }
-            bytes.extend_from_slice(&part.bytes)?;
+    Ok(parts)
+}
+
+/// Adds the parts of a repeated text for one turn.
+fn push_turn(
+    alloc: Global,
+    bytes: &mut Vec<u8>,
+    parts: &[Part],
+    turn: u32,
+) -> Result<(), AllocError> {
+    for (place, part) in parts.iter().enumerate() {
+        if place > 0 {
+            let number = u64::from(turn) + u64::from(part.more);
+            bytes.extend_from_slice(format!(in alloc; "{number}")?.as_bytes())?;
         }
+        bytes.extend_from_slice(&part.bytes)?;
     }
     Ok(())
 }

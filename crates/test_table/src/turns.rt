@@ -2,8 +2,7 @@
 use crate::halves;
 use crate::text::{bytes_of, quoted};
 use anyhow::{Context, Result};
-use std::alloc::Global;
-use std::fmt::Write;
+use std::alloc::{AllocError, Global};
 use tc_io::Shelf;
 use test_shelves::mem::{Fail, MemShelf, MemSink};
 
@@ -50,14 +49,7 @@ impl Call {
     /// Adds what the call must give.
     pub fn push_text(&self, text: &mut String) -> Result<()> {
         let want = self.want.as_ref().context("nothing is wanted")?;
-        push_blank(text)?;
-        write!(text, "{} \"{}\"", want.status, want.begin)?;
-        match &want.rest {
-            Rest::Nothing => {}
-            Rest::Number(end) => write!(text, " number \"{end}\"")?,
-            Rest::Lines(line) => write!(text, " with \"{line}\"")?,
-        }
-        Ok(())
+        Ok(want.push_text(text)?)
     }
 }
 
@@ -70,19 +62,18 @@ pub struct Answer {
 
 impl Answer {
     /// Adds the answer as a row writes it.
-    pub fn push_text(&self, text: &mut String) -> Result<()> {
+    pub fn push_text(&self, text: &mut String) -> Result<(), AllocError> {
         push_blank(text)?;
-        write!(text, "{} \"{}\"", self.status, self.written.escape_ascii())?;
-        Ok(())
+        write!(text, "{} \"{}\"", self.status, self.written.escape_ascii())
     }
 }
 
 /// Adds a blank if the text isn't empty.
-fn push_blank(text: &mut String) -> Result<()> {
-    if !text.is_empty() {
-        text.push(' ')?;
+fn push_blank(text: &mut String) -> Result<(), AllocError> {
+    if text.is_empty() {
+        return Ok(());
     }
-    Ok(())
+    text.push(' ')
 }
 
 /// What a call must give: a status, and a text with what follows it.
@@ -106,21 +97,36 @@ enum Rest {
 impl Rest {
     /// Whether some bytes are of this form.
     fn is_met(&self, alloc: Global, bytes: &[u8]) -> Result<bool> {
-        Ok(match self {
-            Rest::Nothing => bytes.is_empty(),
+        match self {
+            Rest::Nothing => Ok(bytes.is_empty()),
             Rest::Number(end) => {
-                let end = bytes_of(alloc, end.as_str())?;
-                str::from_utf8(bytes)?
-                    .strip_suffix(str::from_utf8(&end)?)
-                    .is_some_and(|number| number.parse::<u64>().is_ok())
+                let end = text_of(alloc, end.as_str())?;
+                Ok(is_number_before(str::from_utf8(bytes)?, end.as_str()))
             }
             Rest::Lines(line) => {
-                let line = bytes_of(alloc, line.as_str())?;
-                let line = str::from_utf8(&line)?;
-                str::from_utf8(bytes)?.lines().any(|other| other == line)
+                let line = text_of(alloc, line.as_str())?;
+                Ok(has_line(str::from_utf8(bytes)?, line.as_str()))
             }
-        })
+        }
     }
+}
+
+/// Whether a text is a number with this end after it.
+fn is_number_before(text: &str, end: &str) -> bool {
+    match text.strip_suffix(end) {
+        Some(number) => number.parse::<u64>().is_ok(),
+        None => false,
+    }
+}
+
+/// Whether a text has this line.
+fn has_line(text: &str, line: &str) -> bool {
+    for other in text.lines() {
+        if other == line {
+            return true;
+        }
+    }
+    false
 }
 
 impl Want {
@@ -140,6 +146,17 @@ impl Want {
             begin,
             rest,
         })
+    }
+
+    /// Adds what the call must give.
+    fn push_text(&self, text: &mut String) -> Result<(), AllocError> {
+        push_blank(text)?;
+        write!(text, "{} \"{}\"", self.status, self.begin)?;
+        match &self.rest {
+            Rest::Nothing => Ok(()),
+            Rest::Number(end) => write!(text, " number \"{end}\""),
+            Rest::Lines(line) => write!(text, " with \"{line}\""),
+        }
     }
 
     fn is_met(&self, alloc: Global, answer: &Answer) -> Result<bool> {
