@@ -51,7 +51,9 @@ def program(chance):
             elif kind < 0.76:
                 found.append(pick(["fence();", "stbar();"]))
             elif kind < 0.82:
-                found.append(f"q = {pick(['swap({}, {})', 'cas({}, {}, ' + number() + ')']).format(cell(), number())};")
+                exchange = pick(["swap({}, {})", "cas({}, {}, " + number() + ")", "add({}, {})"])
+                target = cell() if chance.random() < 0.7 else f"a[{pick([number(), cell()])} & 1]"
+                found.append(f"q = {exchange.format(target, number())};")
             elif depth < 2:
                 found += [f"if ({expression(names)}) {{", *statements(names, chance.randrange(1, 3), depth + 1), "}"]
         return found
@@ -152,7 +154,7 @@ def differs(folder, text, log, model):
 def differs_in_switches(folder, text, log, model):
     """The fault of the fewest context switches of a possible log, or None."""
     p, l, o, r = (f"{folder}/{it}" for it in "plor")
-    count = machine.fewest(machine.Code(text), log, model)
+    count, _ = machine.fewest(machine.Code(text), log, model)
     status, answer = said("solve", p, l, o, "--model", model, "--least", r)
     if status or not answer.endswith(f" moves, {count} switches"):
         return f"{answer!r}, but the search says {count} switches"

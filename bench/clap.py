@@ -22,7 +22,7 @@ import solve
 
 TOP = Path(__file__).resolve().parent.parent
 PAGES = [TOP / "docs" / "CLAP.md", TOP / "bench" / "results" / "clap.md"]
-SHARED = {"load", "loadat", "store", "storeat", "swap", "cas"}
+SHARED = machine.EXCHANGES | {"load", "loadat", "store", "storeat"}
 SECONDS = 120
 SIZES = ["bug", "threads", "shared accesses", "events", "bytes, format 1", "bytes, format 2", "variables", "clauses"]
 BUGS = ["bug", "threads", "shared accesses", "events", "log, bytes", "clauses", "model", "seconds", "fewest switches", "mended: lines"]

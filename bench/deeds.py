@@ -56,7 +56,7 @@ class History:
         word, *args = state.instr(name)
         if name in self.created:
             self.link("create", self.created.pop(name), deed)
-        if word in ("load", "loadat", "store", "storeat", "swap", "cas"):
+        if word in machine.EXCHANGES | {"load", "loadat", "store", "storeat"}:
             self.access(deed, state, thread, word, args)
         elif word == "set":
             deed.sets = self.code.functions[thread.function].names["slot"].get(args[0])
@@ -94,8 +94,9 @@ class History:
             deed.took = state.load(thread, deed.cell)
             deed.source = own[-1] if own else self.writers.get(deed.cell, (None,))[0]
             self.link("take", deed.source, deed)
-        if word.startswith("store") or word == "swap" or (word == "cas" and deed.took == of(args[2])):
-            deed.put = of(args[-1])
+        given = [of(e) for e in machine.operands(word, args)[1]] if word in machine.EXCHANGES else []
+        if word.startswith("store") or (given and not (word.startswith("cas") and deed.took != given[0])):
+            deed.put = machine.exchanged(word, deed.took, given) if given else of(args[-1])
             if deed.is_issue(self.model):
                 self.waiting.append(deed)
             else:

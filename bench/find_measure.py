@@ -5,6 +5,9 @@
                                      the programs of examples/, of examples/c by tools/fromc, or of bench/finds, broken and mended,
                                      for the failure or deadlock that their page names
   find_measure.py litmus [--find F]  the tests of examples/litmus, whose verdicts are in their table
+  find_measure.py certificates [NAME..] [--find F] [--limit SECONDS]
+                                     the certificates of the mended programs of examples/, with 3 outcomes, under TSO, or under PSO
+                                     where the broken ones fail there alone: their sizes, and the seconds of search and check
   find_measure.py growth [--find F] [--limit SECONDS]
                                      programs of more and more threads, rounds and outcomes
   find_measure.py seeds PROGRAM MODEL SECONDS [--clap-debug C]
@@ -178,6 +181,23 @@ def litmus(measuring, folder):
     print(f"{count} verdicts, {len(measuring.faults)} differ")
 
 
+def certificates(measuring, names):
+    print("| example | looked for | answer | seconds | bytes | `--check`, seconds |\n|---|---|---|---|---|---|", flush=True)
+    cases = list(of_examples(names))
+    for broken, mended in zip(cases[::2], cases[1::2]):
+        model = "tso" if "tso" in broken.models else "pso"
+        it = measuring.ask(mended, model, BOUNDS[0])
+        if not it.line.startswith("none"):
+            said = it.line or f"none within {measuring.limit} seconds"
+            print(f"| {broken.name} | {broken.kind}, {model} | {said} | {it.seconds:.1f} | | |", flush=True)
+            continue
+        checked = measured(measuring.limit, measuring.find, mended.path, measuring.out, "--check")
+        if checked.status:
+            measuring.faults.append(f"{mended.name} under {model}: --check says {checked.line!r}")
+        size = os.path.getsize(measuring.out)
+        print(f"| {broken.name} | {broken.kind}, {model} | {it.line} | {it.seconds:.1f} | {size:,} | {checked.seconds:.1f} |", flush=True)
+
+
 def equal_threads(body, globals_, count, joins, end="", locals_=""):
     """Main creates equal threads, and joins them or not."""
     tids = " ".join(f"tid t{k};" for k in range(count))
@@ -243,7 +263,7 @@ def seeds(clap_debug, program, model, seconds, folder):
 
 def main():
     parser = argparse.ArgumentParser(usage=__doc__)
-    parser.add_argument("what", choices=["examples", "c", "finds", "litmus", "growth", "seeds"])
+    parser.add_argument("what", choices=["examples", "c", "finds", "litmus", "certificates", "growth", "seeds"])
     parser.add_argument("names", nargs="*")
     parser.add_argument("--find", default=f"{TOP}/out/clap_debug_find")
     parser.add_argument("--clap-debug", default=f"{TOP}/out/clap_debug")
@@ -257,6 +277,8 @@ def main():
             return seeds(os.path.abspath(given.clap_debug), program, model, float(seconds), folder)
         if given.what == "litmus":
             litmus(measuring, folder)
+        elif given.what == "certificates":
+            certificates(measuring, given.names)
         elif given.what == "growth":
             growth(measuring, folder)
         else:

@@ -44,6 +44,36 @@ PROGRAMS = {
     "a round with a swap": (2, "thread f() { int r; while (y == 0) { r = swap(x, 1); } } " + MAIN + "y = 1; join(t); assert(!x); }"),
     "rounds with two exchanges": (
         3, "thread f() { int r; while (y == 0) { r = cas(x, 1, 2); r = cas(x, 0, 1); } } " + MAIN + "y = 1; join(t); assert(x != 2); }"),
+    "adds of two threads": (1, "thread f() { int r; r = add(x, 1); } " + MAIN + "r = add(x, 1); join(t); assert(x == 2); }"),
+    "an add and a store": (1, "thread f() { int r; r = add(x, 2); } " + MAIN + "x = 1; join(t); assert(x != 1); }"),
+    "adds that take a number each": (
+        1, "thread f() { int r; r = add(x, 1); a[r] = 1; } " + MAIN + "r = add(x, 1); assert(!a[r]); join(t); }"),
+    "a ticket lock": (
+        2, "thread f() { int n; n = add(x, 1); while (y != n) { } a[0] = a[0] + 1; y = n + 1; } " + MAIN
+        + "r = add(x, 1); while (y != r) { } a[0] = a[0] + 1; y = r + 1; join(t); assert(a[0] == 2); }"),
+    "an exchange of an element that another chooses": (
+        1, "thread f() { int r; r = swap(a[x], 1); assert(!r); } " + MAIN + "x = 1; r = swap(a[1], 2); join(t); }"),
+    "an exchange of an element takes a lock": (
+        3, "thread f() { int r; r = cas(a[1], 0, 1); if (r == 0) { x = x + 1; a[1] = 0; } } " + MAIN
+        + "r = cas(a[1], 0, 1); if (r == 0) { x = x + 1; a[1] = 0; } join(t); assert(x != 0); }"),
+    "an add to an element outside": (1, "thread f() { int r; r = add(a[x], 1); } " + MAIN + "x = 2; join(t); }"),
+    "a spin lock in an element": (
+        2, "thread f() { int r; r = cas(a[1], 0, 1); while (r) { r = cas(a[1], 0, 1); } x = x + 1; a[1] = 0; } " + MAIN
+        + "r = cas(a[1], 0, 1); while (r) { r = cas(a[1], 0, 1); } x = x + 1; a[1] = 0; join(t); assert(x == 2); }"),
+    "a round with an add": (2, "thread f() { int r; while (y == 0) { r = add(x, 1); } } " + MAIN + "y = 1; join(t); assert(!x); }"),
+    "a message behind an add": (
+        1, "thread f() { int r; a[0] = 1; r = add(x, 1); } " + MAIN + "r = x; if (r) { assert(a[0]); } }"),
+    "an add that wraps": (1, "thread f() { int r; r = add(x, 2147483647); } " + MAIN + "r = add(x, 2); join(t); assert(x >= 0); }"),
+    "a cas of an element that fails": (1, "thread f() { int r; r = cas(a[1], 2, 3); } " + MAIN + "join(t); assert(!a[1]); }"),
+    "two compare-and-exchanges of one element": (
+        1, "thread f() { int r; r = cas(a[1], 0, 1); x = r; } " + MAIN + "r = cas(a[1], 0, 2); join(t); assert(x | r); }"),
+    "an exchange of an element below the first": (1, "thread f() { int r; r = swap(a[x - 1], 1); } " + MAIN + "x = 1; join(t); }"),
+    "a ticket lock that is tried": (
+        2, "thread f() { int n; if (y == x) { n = add(x, 1); a[0] = a[0] + 1; y = n + 1; } } " + MAIN
+        + "if (y == x) { r = add(x, 1); a[0] = a[0] + 1; y = r + 1; } join(t); assert(a[0] == x); }"),
+    "a ticket lock that is tried in one step": (
+        2, "thread f() { int n; int s; n = y; s = cas(x, n, n + 1); if (s == n) { a[0] = a[0] + 1; stbar(); y = n + 1; } } main { tid t; int r; "
+        "int s; t = create f(); r = y; s = cas(x, r, r + 1); if (s == r) { a[0] = a[0] + 1; stbar(); y = r + 1; } join(t); assert(a[0] == x); }"),
     "a round that waits": (
         2, "thread f() { lock(m); y = 1; while (x == 0) { wait(c, m); } y = 2; unlock(m); } " + MAIN
         + "lock(m); r = y; x = 1; signal(c); unlock(m); join(t); assert(r != 1); }"),

@@ -10,8 +10,9 @@
   machine.py show PROGRAM LOG      a log's threads: steps, outcomes, events, the line at which each ends
   machine.py search PROGRAM LOG [--model M] [--schedule OUT]
                                    by a search over all states on the logged paths: `possible` with a schedule, or `impossible`
-  machine.py fewest PROGRAM LOG [--model M]
-                                   by such a search, the fewest context switches of moves that reproduce the log, or `impossible`
+  machine.py fewest PROGRAM LOG [--model M] [--schedule OUT]
+                                   by such a search, the fewest context switches of moves that reproduce the log, with such a
+                                   schedule, or `impossible`
   machine.py explore PROGRAM [--model M] [--log LOG] [--schedule OUT]
                                    by a search over all states of a program that has finitely many: how a run fails or comes to a
                                    deadlock, with its log and its moves, or `no run fails`
@@ -28,8 +29,10 @@ WORD = 1 << 32
 TOKEN = re.compile(r"(?:\s|//[^\n]*|/\*.*?\*/)*([A-Za-z_]\w*|\d+|<<|>>|[<>=!]=|&&|\|\||[][(){},;=+\-*/%!~<>&^|]|$)", re.S)
 MODELS = ["sc", "tso", "pso"]
 LEVELS = [["||"], ["&&"], ["|"], ["^"], ["&"], ["==", "!="], ["<", "<=", ">", ">="], ["<<", ">>"], ["+", "-"], ["*", "/", "%"]]
+# Instructions that read and write a cell in one step, and those among them that name an element of an array.
+EXCHANGES = {"swap", "cas", "add", "swapat", "casat", "addat"}
 # Instructions that need an empty buffer.
-DRAINED = {"swap", "cas", "lock", "unlock", "sleep", "wake", "signal", "broadcast", "create", "join", "fence", "exit"}
+DRAINED = EXCHANGES | {"lock", "unlock", "sleep", "wake", "signal", "broadcast", "create", "join", "fence", "exit"}
 SITES = {"inside", "nonzero", "inrange", "holds", "ready", "assert"}
 EVENTS = DRAINED | {"load", "loadat", "store", "storeat"}
 # Instructions that read and write nothing that another thread can change.
@@ -42,6 +45,20 @@ def int32(n):
 
 def divided(a, b):
     return 0 if b == 0 else int32(abs(a) // abs(b) * (1 if (a < 0) == (b < 0) else -1))
+
+
+def operands(word, args):
+    """The cell of an exchange as a function of its expressions' values, and its operands."""
+    return ((lambda of: args[1] + of(args[3])), args[4:]) if word.endswith("at") else ((lambda of: args[1]), args[2:])
+
+
+def exchanged(word, old, given):
+    """What an exchange leaves in a cell that had this value, given the values of its operands."""
+    if word.startswith("swap"):
+        return given[0]
+    if word.startswith("cas"):
+        return given[1] if old == given[0] else old
+    return int32(old + given[0])
 
 
 BINARY = {
@@ -288,18 +305,30 @@ class Code:
                 thread = self.named("thread")
                 self.take("(")
                 self.emit(line, "create", number, thread, *self.arguments(line))
-            elif self.peek() in ("swap", "cas") and self.peek(1) == "(":
-                word = self.next()
-                self.take("(")
-                cell = self.named("cell")
-                given = self.arguments(line)
-                taken = self.slot()
-                self.emit(line, word, taken, cell, *given)
-                self.emit(line, "set", number, ("slot", taken))
+            elif self.peek() in ("swap", "cas", "add") and self.peek(1) == "(":
+                self.exchange(line, number)
             else:
                 e = self.expression(line)
                 self.emit(line, "set" if kind == "slot" else "store", number, e)
         self.take(";")
+
+    def exchange(self, line, number):
+        """What is taken from a cell or an element that is swapped, compared or added to, into the slot of that number."""
+        word = self.next()
+        self.take("(")
+        if self.peek(1) == "[":
+            kind, first, length = self.of(self.next())
+            self.take("[")
+            index = self.expression(line)
+            self.take("]")
+            self.emit(line, "inside", length, index)
+            word, place = word + "at", (first, length, index)
+        else:
+            place = (self.named("cell"),)
+        given = self.arguments(line)
+        taken = self.slot()
+        self.emit(line, word, taken, *place, *given)
+        self.emit(line, "set", number, ("slot", taken))
 
     def expression(self, line, level=0):
         if level == len(LEVELS):
@@ -501,10 +530,11 @@ class State:
         elif word == "stbar":
             if self.model == "pso" and thread.buffer:
                 thread.buffer += (None,)
-        elif word in ("swap", "cas"):
-            old = self.memory[args[1]]
-            if word == "swap" or old == of(args[2]):
-                self.memory[args[1]] = of(args[-1])
+        elif word in EXCHANGES:
+            cell_of, given = operands(word, args)
+            cell = cell_of(of)
+            old = self.memory[cell]
+            self.memory[cell] = exchanged(word, old, [of(e) for e in given])
             put(args[0], old)
         elif word in ("lock", "wake"):
             self.owners[args[-1]] = name
@@ -667,7 +697,7 @@ def search(code, log, model):
         word = state.instr(name)[0]
         if name == log.failing and state.threads[name].steps + 1 == log.threads[name][0]:
             return False
-        return word not in ("load", "loadat", "swap", "cas", "lock", "sleep", "wake", "signal", "broadcast") and (
+        return word not in EXCHANGES | {"load", "loadat", "lock", "sleep", "wake", "signal", "broadcast"} and (
             word not in ("store", "storeat") or model != "sc")
 
     def ways(state):
@@ -712,8 +742,24 @@ def search(code, log, model):
     return None, len(seen)
 
 
+def arranged(steps):
+    """The moves of some steps, each with whether it is an event and whether it is a thread's own, in an order to read: what is a
+    thread's own comes right after its last event, and what is neither right before its next one."""
+    waiting, begun, made = {}, set(), []
+    for move, is_event, is_own in steps:
+        if is_event:
+            begun.add(move[1])
+            made += waiting.pop(move[1], []) + [move]
+        elif is_own and move[1] in begun and move[1] not in waiting:
+            made.append(move)
+        else:
+            waiting.setdefault(move[1], []).append(move)
+    return made[:-1] + [it for left in waiting.values() for it in left] + made[-1:]
+
+
 def fewest(code, log, model):
-    """The fewest context switches of moves that reproduce a log, or None: nearest states first, a switch being the distance."""
+    """The fewest context switches of moves that reproduce a log, and such moves, or None twice: nearest states first, a switch being
+    the distance."""
 
     def is_last(state, name):
         return name == log.failing and state.threads[name].steps + 1 == log.threads[name][0]
@@ -728,25 +774,31 @@ def fewest(code, log, model):
         unseen = [it for it in found if not is_seen(state, it)]
         return unseen[:1] or found
 
-    seen, queue = set(), collections.deque([(0, State(code, model), None)])
+    seen, queue = set(), collections.deque([(0, State(code, model), None, None)])
     while queue:
-        count, state, last = queue.popleft()
+        count, state, last, made = queue.popleft()
         key = (state.key(), last)
         if key in seen:
             continue
         seen.add(key)
         if is_reproduced(log, state):
-            return count
+            steps = []
+            while made:
+                made, *step = made
+                steps.append(step)
+            return count, arranged(steps[::-1])
         for move in ways(state):
-            now = move[1] if is_seen(state, move) else last
+            is_event = is_seen(state, move)
+            is_own = move[0] != "d" and state.instr(move[1])[0] in OWN
+            now = move[1] if is_event else last
             later = state.copy()
             later.make(move)
             if all(is_on_path(log, later, n) for n in (move[1], *(later.threads.keys() - state.threads.keys()))):
                 if last in (None, now):
-                    queue.appendleft((count, later, now))
+                    queue.appendleft((count, later, now, (made, move, is_event, is_own)))
                 else:
-                    queue.append((count + 1, later, now))
-    return None
+                    queue.append((count + 1, later, now, (made, move, is_event, is_own)))
+    return None, None
 
 
 def settled(state, name):
@@ -878,8 +930,10 @@ def main():
         if given.command == "show":
             print(shown(code, log))
         elif given.command == "fewest":
-            count = fewest(code, log, given.model or log.model)
+            count, moves = fewest(code, log, given.model or log.model)
             print("impossible" if count is None else f"{count} switches")
+            if moves is not None:
+                keep_moves(given.model or log.model, moves)
         else:
             moves, states = search(code, log, given.model or log.model)
             print(f"possible, {len(moves)} moves" if moves is not None else "impossible", f"({states} states)")

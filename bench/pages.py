@@ -121,7 +121,7 @@ FAULTS = [
 ]
 
 # Requests of events, but for a store, and the failing step.
-EVENTS = {"load", "loadat", "swap", "cas", "fence", "exit", "lock", "unlock", "sleep", "wake", "broadcast", "signal", "create", "join"}
+EVENTS = machine.EXCHANGES | {"load", "loadat", "fence", "exit", "lock", "unlock", "sleep", "wake", "broadcast", "signal", "create", "join"}
 
 
 class Browser:

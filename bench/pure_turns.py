@@ -5,11 +5,11 @@ Each pair of visits of a place is tried, by what the definitions say of a turn.
 import machine
 
 IDLE = {"set", "load", "loadat", "inside", "branch", "goto", "holds", "ready", "assert", "nonzero", "inrange", "fence"}
-WRITES = {"set", "load", "loadat", "swap", "cas"}
+WRITES = machine.EXCHANGES | {"set", "load", "loadat"}
 # The places of an instruction's expressions.
 READS = {
     "set": [2], "store": [2], "loadat": [4], "storeat": [3, 4], "inside": [2], "branch": [1], "assert": [1], "nonzero": [1],
-    "inrange": [1], "swap": [3], "cas": [3, 4],
+    "inrange": [1], "swap": [3], "cas": [3, 4], "add": [3], "swapat": [4, 5], "casat": [4, 5, 6], "addat": [4, 5],
 }
 
 
@@ -56,14 +56,17 @@ def leads(i, place, slots):
 def failed(instrs, places, k, j):
     """Whether step k is a compare-and-exchange that a branch before step j shows to have failed."""
     i = instrs[places[k]]
-    if i[0] != "cas" or not isinstance(i[3], int) or k + 1 >= j:
+    if i[0] not in ("cas", "casat") or k + 1 >= j:
+        return False
+    expected = machine.operands(i[0], i[1:])[1][0]
+    if not isinstance(expected, int):
         return False
     copy = instrs[places[k + 1]]
     if copy[0] != "set" or copy[2] != ("slot", i[1]):
         return False
     for b in range(k + 2, j):
         at = instrs[places[b]]
-        if at[0] == "branch" and slots_of(at[1]) <= {copy[1]} and leads(at, places[b], {copy[1]: i[3]}) != places[b + 1]:
+        if at[0] == "branch" and slots_of(at[1]) <= {copy[1]} and leads(at, places[b], {copy[1]: expected}) != places[b + 1]:
             return True
         if copy[1] in written_by(at):
             return False

@@ -151,10 +151,12 @@ def words_of(code, before, after, move, wakers):
         cell = args[0] + (of(args[2]) if word == "storeat" else 0)
         put = f"{code.cells[cell]} = {of(args[-1])}"
         return (put if before.model == "sc" else f"store {put}, waits in its buffer"), None, None
-    if word in ("swap", "cas"):
-        took = before.memory[args[1]]
-        does = f"put {of(args[-1])}" if word == "swap" or took == of(args[2]) else "put nothing"
-        return f"{word} {code.cells[args[1]]}: took {took}, {does}", None, None
+    if word in machine.EXCHANGES:
+        cell_of, given = machine.operands(word, args)
+        cell, given, verb = cell_of(of), [of(e) for e in given], word.removesuffix("at")
+        took = before.memory[cell]
+        does = "put nothing" if verb == "cas" and took != given[0] else f"put {machine.exchanged(word, took, given)}"
+        return f"{verb} {code.cells[cell]}: took {took}, {does}", None, None
     choice = choice_at(function, thread.at)
     values = lambda: written(function, args[0], thread.slots)
 

@@ -17,7 +17,7 @@ import machine
 from pure_turns import Turns
 
 TOP = os.path.dirname(os.path.dirname(os.path.abspath(__file__)))
-USED = {"store", "storeat", "swap", "cas", "unlock", "sleep", "signal", "broadcast", "create"}
+USED = machine.EXCHANGES | {"store", "storeat", "unlock", "sleep", "signal", "broadcast", "create"}
 BLOCKING = {"lock", "wake", "join"}
 LONGEST = 3000
 
@@ -25,6 +25,7 @@ HEAD = "int x; int a[2]; mutex m; cond c; "
 PROGRAMS = {
     "kept ends": [
         "main { int r; r = x; x = 1; r = swap(x, 2); r = cas(x, 0, 1); a[1] = 3; fence(); stbar(); }",
+        "main { int r; r = add(x, 1); r = swap(a[r], x); r = cas(a[1], 2, 3); r = add(a[0], r); }",
         "thread f() { lock(m); x = 1; wait(c, m); unlock(m); signal(c); broadcast(c); } main { tid t; t = create f(); join(t); }",
     ],
     "failing ends": [
@@ -51,6 +52,7 @@ PROGRAMS = {
         "main { int again; int r; again = 1; while (again) { r = x; again = r & 1; } x = r; }",
         "main { int r; r = cas(x, 0, 1); while (r) { r = cas(x, 0, 1); } x = 2; }",
         "main { int r; r = 1; while (r != 0) { r = cas(x, 0, 1); } x = 2; }",
+        "main { int r; r = cas(a[1], 0, 1); while (r) { r = cas(a[1], 0, 1); } x = 2; }",
     ],
     "rounds that change something": [
         "main { while (x == 0) { a[0] = 1; } x = 1; }",
@@ -59,6 +61,8 @@ PROGRAMS = {
         "main { int r; while (a[0] == 0) { r = cas(x, 0, 1); } x = 2; }",
         "main { int r; while (a[0] == 0) { r = cas(x, 1, 2); r = cas(x, 0, 1); } x = 2; }",
         "main { int r; while (a[0] == 0) { r = swap(x, 1); } x = 2; }",
+        "main { int r; while (x == 0) { r = cas(a[1], 0, 1); } x = 2; }",
+        "main { int r; while (a[0] == 0) { r = add(x, 0); } x = 2; }",
         "main { int r; r = cas(x, 0, 1); while (r == 0) { r = cas(x, 0, 1); } x = 2; }",
         "main { while (x == 0) { stbar(); } x = 1; }",
         "main { lock(m); while (x == 0) { wait(c, m); } x = 1; }",
@@ -80,6 +84,7 @@ PROGRAMS = {
         "main { int r; r = 1; r = a[r]; if (r) { x = 1; } else { x = 2; } }",
         "main { int r; r = 1; r = swap(x, 2); if (r) { x = 1; } else { x = 2; } }",
         "main { int r; r = 1; r = cas(x, 2, 3); if (r) { x = 1; } else { x = 2; } }",
+        "main { int r; r = 1; r = add(a[r], 2); if (r) { x = 1; } else { x = 2; } }",
         "main { int r; int s; r = x; s = r * 0; if (s) { x = 1; } else { x = 2; } }",
     ],
 }

@@ -1,4 +1,4 @@
--- Orders that ask about every two contended events.
+-- Orders that ask about each contended event and every other event.
 use Rattle.std.proofs.Common.{◌≡◌, ℕ, ◌<◌, Bool, true, false, List, [], ◌∷◌, ◌++◌, refl, ap, ◌∙◌}
 use Rattle.std.specs.Prelude.{fold, if◌then◌else◌, nat_eq}
 use Rattle.std.specs.List.{All, list_any}
@@ -13,21 +13,24 @@ use Rattle.order_formula.specs.declared.literal.Literal.{Literal}
 use Rattle.order_formula.specs.declared.order.Pair.{Pair}
 use Rattle.order_formula.specs.declared.read.Candidate.{Candidate}
 use Rattle.order_formula.specs.Orders.{Order, AtomIsIn, LiteralIsIn, BodyIsIn, ConjunctIsIn, order_without_questions, with_pair}
-use Rattle.bit_order.specs.Comparators.{completed, pairs_among}
+use Rattle.bit_order.specs.Comparators.{completed, pairs_with}
 use Rattle.bit_blast.specs.Sizes.{whole_size}
 use Rattle.bit_blast.specs.Contended.{contended, is_literal, with_atom, with_body, with_candidate, with_case, with_event}
 
 -- more pairs keep the other parts of an order
 module _ {A : Type 0} (part : Order → A) (still : (o : Order) (p : Pair) → part (with_pair o p) ≡ part o) where
-  pub same_part : (o : Order) (ps : List Pair) → part (fold with_pair o ps) ≡ part o
+  same_part : (o : Order) (ps : List Pair) → part (fold with_pair o ps) ≡ part o
   same_part o [] = refl
   same_part o (p ∷ ps) = same_part (with_pair o p) ps ∙ still o p
 
 pub completed_events : (o : Order) (events : List ℕ) → (completed o events).events ≡ o.events
-completed_events o events = same_part (λ (k : Order). k.events) (λ k p. refl) o (pairs_among events)
+completed_events o events = same_part (λ (k : Order). k.events) (λ k p. refl) o (pairs_with o.events events)
 
 pub completed_sleeps : (o : Order) (events : List ℕ) → (completed o events).sleeps ≡ o.sleeps
-completed_sleeps o events = same_part (λ (k : Order). k.sleeps) (λ k p. refl) o (pairs_among events)
+completed_sleeps o events = same_part (λ (k : Order). k.sleeps) (λ k p. refl) o (pairs_with o.events events)
+
+pub completed_choices : (o : Order) (events : List ℕ) → (completed o events).choices ≡ o.choices
+completed_choices o events = same_part (λ (k : Order). k.choices) (λ k p. refl) o (pairs_with o.events events)
 
 -- the size depends only on the order's number of events and of sleeps
 pub same_size : (o p : Order) (loads : ℕ) (nodes : List Node) (formula : List Conjunct) → p.events ≡ o.events → p.sleeps ≡ o.sleeps

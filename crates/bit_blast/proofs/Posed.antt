@@ -1,5 +1,5 @@
--- A formula over the events of an order that asks about every two contended events has all answers
--- that its clauses need.
+-- A formula over the events of an order that asks about each contended event and every other event
+-- has all answers that its clauses need.
 use Rattle.std.proofs.Common.{◌≡◌, ℕ, ◌<◌, Bool, true, false, List, [], ◌∷◌, ◌++◌, inl, inr, refl, sym, ◌∙◌, subst, arith, map}
 use Rattle.std.specs.Prelude.{fold, if◌then◌else◌, nat_eq}
 use Rattle.std.specs.List.{All, Contains, list_any}
@@ -14,7 +14,6 @@ use Rattle.order_formula.specs.declared.formula.Conjunct.{Conjunct}
 use Rattle.order_formula.specs.declared.literal.Atom.{Atom}
 use Rattle.order_formula.specs.declared.literal.Atom.TheVariants.{Before, Ends, Test}
 use Rattle.order_formula.specs.declared.literal.Literal.{Literal}
-use Rattle.order_formula.specs.declared.order.Pair.{Pair}
 use Rattle.order_formula.specs.declared.read.Candidate.{Candidate}
 use Rattle.order_formula.specs.Orders.{Order, AtomIsIn, LiteralIsIn, BodyIsIn, ConjunctIsIn, ConjunctIsAsked, IsAsked, BodyIsAsked, IsOrder}
 use Rattle.order_formula.specs.Reads.{Read}
@@ -22,7 +21,6 @@ use Rattle.order_formula.specs.Worlds.{World}
 use Rattle.order_formula.proofs.Asked.{formula_stays}
 use Rattle.cnf_core.specs.Clauses.{Formula, satisfies}
 use Rattle.bit_ops.specs.bit_words.Words.{Walked}
-use Rattle.bit_order.specs.Comparators.{pairs_among}
 use Rattle.bit_order.specs.Laws.{IsWorldFor, SaysSame}
 use Rattle.bit_order.specs.Layouts.{Layout}
 use Rattle.bit_order.specs.Readings.{world_of}
@@ -31,7 +29,7 @@ use Rattle.bit_blast.specs.Blasted.{BlastMeans, IsApart, IsPosed, RootsTell, bla
 use Rattle.bit_blast.specs.Contended.{contended, is_literal, with_atom, with_body, with_candidate, with_case, with_event}
 use Rattle.bit_blast.specs.Laws.{BodyIsTold}
 use Rattle.bit_blast.specs.Whole.{IsReady, clauses_with_roots}
-use Rattle.bit_blast.proofs.Completed.{same_part}
+use Rattle.bit_blast.proofs.Completed.{completed_choices, completed_events, completed_sleeps}
 use Rattle.bit_blast.proofs.Lists.{all_of, contains_cases, contains_none}
 use Rattle.bit_blast.proofs.Prefixes.{first_part}
 use Rattle.bit_blast.proofs.Rooted.{roots_over}
@@ -122,17 +120,14 @@ module _ (nodes : List Node) (formula : List Conjunct) (o : Order) (loads : ℕ)
   abbrev y : Layout
   y = layout_of o loads formula
 
-  abbrev pairs : List Pair
-  pairs = pairs_among (contended formula)
-
   events : y.order.events ≡ o.events
-  events = same_part (λ (k : Order). k.events) (λ k p. refl) o pairs
+  events = completed_events o (contended formula)
 
   sleeps : y.order.sleeps ≡ o.sleeps
-  sleeps = same_part (λ (k : Order). k.sleeps) (λ k p. refl) o pairs
+  sleeps = completed_sleeps o (contended formula)
 
   choices : y.order.choices ≡ o.choices
-  choices = same_part (λ (k : Order). k.choices) (λ k p. refl) o pairs
+  choices = completed_choices o (contended formula)
 
   within : All (ConjunctIsIn y.order) formula
   within = formula_in o y.order events sleeps formula h.within
@@ -142,13 +137,17 @@ module _ (nodes : List Node) (formula : List Conjunct) (o : Order) (loads : ℕ)
 
   told_body : (c : Conjunct) → Contains formula c → (b : Body) → c.body ≡ b → BodyIsAsked y.order b → BodyIsIn y.order b → IsApart b → BodyIsTold y.order b
   told_body c there (body.Any cases) is all there_too apart = all
-  told_body c there (body.Read r) is all inside apart = record {
-    distinct = apart;
-    within = All-cons (λ e. e < y.order.events) r.event (map (λ (k : Candidate). k.event) r.candidates) inside.0
-        (All-map (λ e. e < y.order.events) (λ (k : Candidate). k.event) r.candidates inside.1);
-    asked = λ first second p q differ.
-        completed-asked o (contended formula) first second (contended_has formula c r first there is p) (contended_has formula c r second there is q) differ;
-  }
+  told_body c there (body.Read r) is all inside apart =
+      let own : All (λ e. e < y.order.events) (events_of r) =
+      All-cons (λ e. e < y.order.events) r.event (map (λ (k : Candidate). k.event) r.candidates) inside.0
+      (All-map (λ e. e < y.order.events) (λ (k : Candidate). k.event) r.candidates inside.1) in
+      record {
+        distinct = apart;
+        within = own;
+        asked = λ first second p q differ.
+            let below : second < y.order.events = All-contains (λ e. e < y.order.events) (events_of r) second own q in
+            completed-asked o (contended formula) first second (contended_has formula c r first there is p) (omega (arith, below, events)) differ;
+      }
 
   told : All (λ c. BodyIsTold y.order c.body) formula
   told = all_of (λ (c : Conjunct). BodyIsTold y.order c.body) formula

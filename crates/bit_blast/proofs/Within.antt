@@ -22,15 +22,16 @@ use Rattle.bit_blast.specs.helpers.Within.{ArePartsWithin}
 use Rattle.bit_blast.proofs.WholeLaws.{all_range}
 
 -- there is a word for each term
-words_from : (symbols : List (List ℤ)) (m : Words) (nodes : List Node) → length (fold (with_word symbols) m nodes).words ≡ length m.words + length nodes
-words_from symbols m [] = omega arith
-words_from symbols m (node ∷ nodes) =
-    let here : Walked Formula = node_word symbols m.words m.formula node in
-    let one : length (with_word symbols m node).words ≡ length m.words + 1 = length_push m.words here.word in
-    omega (arith, words_from symbols (with_word symbols m node) nodes, one)
+words_from : (symbols : List (List ℤ)) (all : List Node) (m : Words) (nodes : List Node)
+    → length (fold (with_word symbols all) m nodes).words ≡ length m.words + length nodes
+words_from symbols all m [] = omega arith
+words_from symbols all m (node ∷ nodes) =
+    let here : Walked Formula = node_word symbols all m node in
+    let one : length (with_word symbols all m node).words ≡ length m.words + 1 = length_push m.words here.word in
+    omega (arith, words_from symbols all (with_word symbols all m node) nodes, one)
 
 pub words_count : (nodes : List Node) (symbols : List (List ℤ)) (f : Formula) → length (term_words nodes symbols f).words ≡ length nodes
-words_count nodes symbols f = words_from symbols (record { formula = f; words = [] }) nodes ∙ omega arith
+words_count nodes symbols f = words_from symbols nodes (record { formula = f; words = [] }) nodes ∙ omega arith
 
 module _ (y : Layout) (lawful : IsOrder y.order) where
   literals : LiteralsMean y

@@ -1,5 +1,5 @@
--- The contended events, whose pairs are all asked about: loads and the writes that they may take,
--- and the events of conjuncts that leave an order open.
+-- The contended events, each of which is compared with every other event: loads and the writes that
+-- they may take, and the events of conjuncts that leave an order open.
 use Rattle.std.specs.Prelude.{ℕ, ◌&&◌, ◌==◌, Bool, if◌then◌else◌, nat_eq, List, [], fold, length}
 use Rattle.std.specs.List.{list_all}
 use Rattle.indexmap.specs.IndexSet.{insert_key}

@@ -1,5 +1,5 @@
 -- Which of two events comes first: compares their positions, and their numbers if those are equal.
-use Rattle.std.specs.Prelude.{ℕ, ◌+◌, ◌-◌, ◌*◌, false, if◌then◌else◌, nat_lt, nat_le, List, [], ◌∷◌, ◌++◌, ℤ, neg_ℤ, Option, Some, None, fold, map, slice_index_or, position}
+use Rattle.std.specs.Prelude.{ℕ, ◌+◌, ◌-◌, ◌*◌, ◌==◌, false, not, if◌then◌else◌, nat_lt, nat_le, List, [], ◌∷◌, ◌++◌, ℤ, neg_ℤ, Option, Some, None, fold, map, filter, slice_index_or, position}
 use Rattle.std.specs.List.{flat_map, range_with_len}
 use Rattle.std.specs.Option.{option_map, option_map_or}
 use Rattle.cnf_core.specs.Clauses.{Formula}
@@ -10,13 +10,17 @@ use Rattle.order_formula.specs.declared.order.Pair.{Pair}
 use Rattle.bit_order.specs.Clauses.{folded_clause}
 use Rattle.bit_order.specs.Layouts.{Layout, position_word, base}
 
--- all pairs among some events; `completed` adds them to the pairs that an order asks about
-abbrev pub pairs_among : List ℕ → List Pair
-pairs_among [] = []
-pairs_among (event ∷ events) = map (pair_of event) events ++ pairs_among events
+-- the events below `count` without one of them
+abbrev pub others : (count event : ℕ) → List ℕ
+others count event = filter (λ other. not (other == event)) (range_with_len 0 count)
 
+-- the pairs of each of some events with every other event below `count`
+abbrev pub pairs_with : (count : ℕ) → List ℕ → List Pair
+pairs_with count events = flat_map (λ event. map (pair_of event) (others count event)) events
+
+-- an order that also asks about each of some events and every other event
 abbrev pub completed : Order → List ℕ → Order
-completed o events = fold with_pair o (pairs_among events)
+completed o events = fold with_pair o (pairs_with o.events events)
 
 -- whether the lesser event of a pair comes before the greater
 unfoldable pub compared_pair : Formula → Pair → Made

@@ -1,5 +1,5 @@
 //! Laws of orders as clauses: each is the clause of a function that does nothing.
-ghost use Rattle.std.specs.Prelude.{◌≡◌, ◌≢◌, ◌≤◌, ℕ, ℤ, List, IsTrue, true};
+ghost use Rattle.std.specs.Prelude.{◌≡◌, ◌≢◌, ◌<◌, ◌≤◌, ℕ, ℤ, List, IsTrue, true};
 ghost use Rattle.std.specs.List.{All, Contains, list_any};
 ghost use Rattle.cnf_core.specs.Clauses.{Valuation, clause_true, satisfies};
 ghost use Rattle.cnf_core.specs.Gates.{Agree, IsOver};
@@ -45,9 +45,10 @@ pub fn first_variables_say_the_world()
     ensures { (y : Layout) (v w : Valuation) → Agree (base y).vars v w → world_of y v ≡ world_of y w }
 {}
 
-/// A completed order keeps its pairs, with their numbers, and asks about all pairs of the events.
+/// A completed order keeps its pairs, with their numbers, and asks about each of the events and
+/// every other event.
 pub fn completed_orders_ask_all()
     ensures grows { (o : Order) (events : List ℕ) → Grows o (completed o events) }
-    ensures asked { (o : Order) (events : List ℕ) (first second : ℕ) → Contains events first → Contains events second → first ≢ second
+    ensures asked { (o : Order) (events : List ℕ) (first second : ℕ) → Contains events first → second < o.events → first ≢ second
         → IsTrue (list_any (same_pair (pair_of first second)) (completed o events).pairs) }
 {}

@@ -5,7 +5,7 @@ ghost use Rattle.cnf_core.specs.Clauses.{var_of};
 ghost use Rattle.bit_gates.specs.Folded.{HasRoom, IsLarger};
 ghost use Rattle.bit_words.specs.Words.{AreWithin};
 ghost use Rattle.order_formula.specs.Orders.{pair_of, with_pair};
-ghost use Rattle.bit_order.specs.Comparators.{completed, compared_pair, with_comparator};
+ghost use Rattle.bit_order.specs.Comparators.{completed, compared_pair, others, with_comparator};
 ghost use Rattle.bit_order.specs.helpers.Places.{PairIsWithin};
 
 use crate::words::position_word;
@@ -15,31 +15,35 @@ use cnf_core::Lit;
 use order_formula::{Order, Pair};
 use std::alloc::{AllocError, Global};
 
-/// Makes the order ask about every two of these events. Earlier pairs keep their numbers.
+/// Makes the order ask about each of these events and every other event. Earlier pairs keep their
+/// numbers.
 ///
-/// Used for the events of loads and of conjuncts with several literals: transitivity then covers
-/// every three of them, and contended logs need far fewer conflicts.
+/// Used for the events of loads and of conjuncts that aren't a single literal. If a single literal
+/// has one event before another, transitivity then covers the two and each of these events. So unit
+/// propagation follows a chain of such literals from one of these events to the next.
 pub fn complete(order: &mut Order, events: &[u32]) -> Result<(), AllocError>
     requires few { order.old.events ≤ 256 }
     requires events { All (λ event. event < order.old.events) events.now }
     ensures { OnOk result (order.new ≡ completed order.old events.now) }
 {
-    for place in 0..events.len() {
-        ask_pairs(order, events[place], &events[place + 1..])?;
+    for event in events {
+        ask_others(order, *event)?;
     }
     Ok(())
 }
 
-/// Makes the order ask about an event and each of some others.
-fn ask_pairs(order: &mut Order, event: u32, others: &[u32]) -> Result<(), AllocError>
+/// Makes the order ask about an event and every other event.
+fn ask_others(order: &mut Order, event: u32) -> Result<(), AllocError>
     requires few { order.old.events ≤ 256 }
     requires event { event < order.old.events }
-    requires others { All (λ other. other < order.old.events) others.now }
-    ensures asked { OnOk result (order.new ≡ fold with_pair order.old (map (pair_of event) others.now)) }
+    ensures asked { OnOk result (order.new
+        ≡ fold with_pair order.old (map (pair_of event) (others order.old.events event))) }
     ensures events { OnOk result (order.new.events ≡ order.old.events) }
 {
-    for other in others {
-        ask_pair(order, event, *other)?;
+    for other in 0..order.events() {
+        if other != event {
+            ask_pair(order, event, other)?;
+        }
     }
     Ok(())
 }

@@ -1,9 +1,9 @@
 -- Orders stay lawful when they are asked about their own events and sleeps.
-use Rattle.std.proofs.Common.{◌≡◌, ℕ, ◌<◌, ◌==◌, ◌&&◌, Bool, true, false, List, [], ◌∷◌, map, fold, refl, ap, ap₂, arith}
+use Rattle.std.proofs.Common.{◌≡◌, ℕ, ◌<◌, ◌==◌, ◌&&◌, Bool, true, false, not, List, [], ◌∷◌, map, fold, refl, ap, ap₂, arith}
 use Rattle.std.specs.Cmp.{IsEquivalence, decided}
-use Rattle.std.specs.List.{All, IsDistinct, list_any}
+use Rattle.std.specs.List.{All, IsDistinct, list_any, range_with_len}
 use Rattle.std.proofs.lemmas.Bool.{and_from, and_parts, eqb-true, eq-eqb}
-use Rattle.std.proofs.lemmas.List.Elements.{All-nil, All-append, All-head, All-map, All-tail, All-weaker}
+use Rattle.std.proofs.lemmas.List.Elements.{All-nil, All-append, All-filter, All-head, All-map, All-tail, All-weaker}
 use Rattle.std.proofs.lemmas.Map.Keys.{IsDistinct-push}
 use Rattle.indexmap.specs.IndexSet.{insert_key}
 use Rattle.order_formula.specs.declared.formula.Body.{Body}
@@ -16,7 +16,8 @@ use Rattle.order_formula.specs.declared.order.Choice.{Choice}
 use Rattle.order_formula.specs.declared.order.Pair.{Pair}
 use Rattle.order_formula.specs.Orders.{AtomIsIn, BodyIsIn, ChoiceIsOf, ConjunctIsIn, IsOrder, LiteralIsIn, Order, PairIsOf, pair_of, same_choice, same_pair}
 use Rattle.order_formula.specs.Orders.{order_without_questions, with_atom, with_body, with_case, with_choice, with_conjunct, with_formula, with_pair}
-use Rattle.bit_blast.specs.bit_order.Comparators.{completed, pairs_among}
+use Rattle.bit_blast.specs.bit_order.Comparators.{completed, others, pairs_with}
+use Rattle.bit_blast.proofs.WholeLaws.{all_range}
 use Rattle.clap_system.proofs.Choices.{each_key}
 
 none_twice : {K : Type 0} (eq : K → K → Bool) → IsDistinct eq []
@@ -119,16 +120,18 @@ module _ (r : Order) where
   pub formula_for : (o : Order) (formula : List Conjunct) → IsFor r o → All (ConjunctIsIn r) formula → IsFor r (with_formula o formula)
   formula_for = all_for with_conjunct (ConjunctIsIn r) (λ o c. body_for o c.body)
 
--- the order that is asked about every two of some events
-among_within : (n : ℕ) (events : List ℕ) → All (λ e. e < n) events → All (PairIsOf n) (pairs_among events)
-among_within n [] all = All-nil (PairIsOf n)
-among_within n (event ∷ events) all =
+-- the order that is asked about each of some events and every other event
+others_within : (n event : ℕ) → All (λ e. e < n) (others n event)
+others_within n event = All-filter (λ e. not (e == event)) (λ e. e < n) (range_with_len 0 n) (all_range (λ e. e < n) 0 n (λ k below. omega (arith, below)))
+
+pairs_within : (n : ℕ) (events : List ℕ) → All (λ e. e < n) events → All (PairIsOf n) (pairs_with n events)
+pairs_within n [] all = All-nil (PairIsOf n)
+pairs_within n (event ∷ events) all =
     let own = All-head (λ e. e < n) event events all in
-    let rest = All-tail (λ e. e < n) event events all in
-    All-append (PairIsOf n) (map (pair_of event) events) (pairs_among events)
-    (All-map (PairIsOf n) (pair_of event) events
-    (All-weaker (λ e. e < n) (λ e. PairIsOf n (pair_of event e)) (λ e below. pair_is n event e own below) events rest))
-    (among_within n events rest)
+    All-append (PairIsOf n) (map (pair_of event) (others n event)) (pairs_with n events)
+    (All-map (PairIsOf n) (pair_of event) (others n event)
+    (All-weaker (λ e. e < n) (λ e. PairIsOf n (pair_of event e)) (λ e below. pair_is n event e own below) (others n event) (others_within n event)))
+    (pairs_within n events (All-tail (λ e. e < n) event events all))
 
 pub completed_lawful : (o : Order) (events : List ℕ) → IsOrder o → All (λ e. e < o.events) events → IsOrder (completed o events)
 completed_lawful o events is within =
@@ -138,4 +141,4 @@ completed_lawful o events is within =
       events = k.events;
       sleeps = k.sleeps;
     })
-    o (pairs_among events) (record { lawful = is; events = refl; sleeps = refl }) (among_within o.events events within)).lawful
+    o (pairs_with o.events events) (record { lawful = is; events = refl; sleeps = refl }) (pairs_within o.events events within)).lawful

@@ -22,8 +22,8 @@ use Rattle.sym_terms.specs.declared.node.Node.TheVariants.{Constant, Symbol, Bin
 use Rattle.sym_exec.specs.Executed.{Course, Symbolic, executed}
 use Rattle.sym_exec.specs.Ints.{HasInt}
 use Rattle.sym_exec.specs.declared.symbolic.Access.{Access}
-use Rattle.sym_exec.specs.declared.symbolic.Cell.{Cell}
-use Rattle.sym_exec.specs.declared.symbolic.Cell.TheVariants.{Fixed, Element}
+use Rattle.tc_code.specs.declared.cell.Cell.{Cell}
+use Rattle.tc_code.specs.declared.cell.Cell.TheVariants.{Fixed, Element}
 use Rattle.sym_exec.specs.declared.symbolic.Test.{Test}
 use Rattle.sym_exec.proofs.Constants.{executed_ints}
 use Rattle.sym_exec.proofs.Grown.{stays_within}
@@ -92,7 +92,7 @@ with_ints nodes (n ∷ ns) are more = with_ints (with_node nodes n) ns (one (lis
     one false is = rw is (All-push HasInt nodes n are (All-head HasInt n ns more))
 
 -- the constants in the test of two indexes are ints
-test_int : (nodes : List Node) (a b : Cell) (n : Node) → same_test nodes a b ≡ Some n → HasInt n
+test_int : (nodes : List Node) (a b : Cell ℕ) (n : Node) → same_test nodes a b ≡ Some n → HasInt n
 test_int nodes (Element f m i) (Element g k j) n is =
     subst HasInt (cond_some (is_none (known_same nodes (Element f m i) (Element g k j))) (Binary Eq i j) n is).1 tt
 test_int nodes (Element f m i) (Fixed c) n is = absurd (none-some n is)
@@ -105,7 +105,7 @@ kept_int buffered bound symbolic nodes t p n is =
     by (keeps buffered bound true p.first p.second && not (keeps buffered bound false p.first p.second)) is
   where
     by : (b : Bool) → cond b (option_and_then (λ c. same_test nodes c.0 c.1) (cells_of symbolic t p.first p.second)) None ≡ Some n → HasInt n
-    by true is = option_and_then_some (λ (c : Cell × Cell). same_test nodes c.0 c.1) (cells_of symbolic t p.first p.second) n is
+    by true is = option_and_then_some (λ (c : Cell ℕ × Cell ℕ). same_test nodes c.0 c.1) (cells_of symbolic t p.first p.second) n is
         (λ c at test. test_int nodes c.0 c.1 n test)
     by false is = absurd (none-some n is)
 
@@ -123,7 +123,7 @@ get_or_all P xs k d all own = elim (cases_lt k (length xs)) [
   | inr past ↦ subst P (sym (get_or_past xs k d past)) own
 ]
 
-start_int : (code : Code) → IsLawful code → (c : Cell) → IsInt (value_at_start code c)
+start_int : (code : Code) → IsLawful code → (c : Cell ℕ) → IsInt (value_at_start code c)
 start_int code lawful (Fixed c) = get_or_all IsInt code.memory c (pos 0) lawful.ints (truth_int false)
 start_int code lawful (Element f m i) = truth_int false
 

@@ -11,8 +11,8 @@ use Rattle.bit_blast.specs.sym_terms.declared.node.Node.{Node}
 use Rattle.bit_blast.specs.sym_terms.declared.node.Node.TheVariants.{Binary}
 use Rattle.switch_order.specs.int_ops.declared.arith.BinOp.TheVariants.{Eq}
 use Rattle.clap_system.specs.sym_exec.Executed.{Symbolic}
-use Rattle.clap_system.specs.sym_exec.declared.symbolic.Cell.{Cell}
-use Rattle.clap_system.specs.sym_exec.declared.symbolic.Cell.TheVariants.{Fixed, Element}
+use Rattle.clap_system.specs.tc_code.declared.cell.Cell.{Cell}
+use Rattle.clap_system.specs.tc_code.declared.cell.Cell.TheVariants.{Fixed, Element}
 use Rattle.bit_blast.specs.order_formula.declared.formula.Conjunct.{Conjunct}
 use Rattle.bit_blast.specs.order_formula.declared.group.Group.TheVariants.{Own}
 use Rattle.clap_system.specs.lawful_order.Events.{Placed, all_events}
@@ -43,7 +43,7 @@ twos_few (x ∷ xs) =
     omega (arith, with_few x [] xs, length-append (twos_with x [] xs) (twos xs), whole)
 
 -- the size of the test whether two elements of an array are the same
-pub test_size : (nodes : List Node) (c d : Cell) → terms_size (option_to_list (same_test nodes c d)) ≤ 224
+pub test_size : (nodes : List Node) (c d : Cell ℕ) → terms_size (option_to_list (same_test nodes c d)) ≤ 224
 test_size nodes (Fixed c) d = omega arith
 test_size nodes (Element f m i) (Fixed d) = omega arith
 test_size nodes (Element f m i) (Element g n j) = by (is_none (known_same nodes (Element f m i) (Element g n j)))
@@ -57,7 +57,7 @@ module _ (buffered : Bool) (bound : Binding) (symbolic : Symbolic) (nodes : List
   tests_size p =
       by (keeps buffered bound true p.first p.second && not (keeps buffered bound false p.first p.second)) (cells_of symbolic t p.first p.second)
     where
-      by : (b : Bool) (o : Option (Cell × Cell)) → terms_size (option_to_list (if b then option_and_then (λ c. same_test nodes c.0 c.1) o else None)) ≤ 224
+      by : (b : Bool) (o : Option (Cell ℕ × Cell ℕ)) → terms_size (option_to_list (if b then option_and_then (λ c. same_test nodes c.0 c.1) o else None)) ≤ 224
       by true (Some c) = test_size nodes c.0 c.1
       by true None = omega arith
       by false o = omega arith

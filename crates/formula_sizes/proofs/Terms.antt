@@ -8,19 +8,24 @@ use Rattle.switch_order.specs.int_ops.declared.arith.UnOp.{UnOp}
 use Rattle.switch_order.specs.int_ops.declared.arith.UnOp.TheVariants as un
 use Rattle.switch_order.specs.int_ops.declared.arith.BinOp.{BinOp}
 use Rattle.switch_order.specs.int_ops.declared.arith.BinOp.TheVariants as bin
+use Rattle.switch_order.specs.int_ops.Updates.{operands_of}
+use Rattle.switch_order.specs.int_ops.declared.update.Update.{Update}
+use Rattle.switch_order.specs.int_ops.declared.update.Update.TheVariants as update
 use Rattle.clap_system.specs.tc_code.Code.{Code, instr_at, line_at}
 use Rattle.clap_system.specs.tc_code.Expr as expr
 use Rattle.clap_system.specs.tc_code.Expr.{Expr}
+use Rattle.clap_system.specs.tc_code.declared.cell.Cell.{Cell}
+use Rattle.clap_system.specs.tc_code.declared.cell.Cell.TheVariants as cell
 use Rattle.clap_system.specs.tc_code.declared.instr.Instr.{Instr}
-use Rattle.clap_system.specs.tc_code.declared.instr.Instr.TheVariants.{Set, Load, LoadAt, Store, StoreAt, Inside, Branch, Create, Assert, Nonzero, InRange, Swap, Cas, Exit}
-use Rattle.clap_system.specs.path_walk.Events.{operators, operators_of}
+use Rattle.clap_system.specs.tc_code.declared.instr.Instr.TheVariants.{Set, Load, Store, Inside, Branch, Create, Assert, Nonzero, InRange, Exit, Modify}
+use Rattle.clap_system.specs.path_walk.Events.{operators, operators_in, operators_of}
 use Rattle.clap_system.specs.path_walk.Paths.{Walk, Paths}
 use Rattle.clap_system.specs.path_walk.Steps.{steps_at, step_at}
 use Rattle.bit_blast.specs.sym_terms.Terms.{same_node, with_node}
 use Rattle.bit_blast.specs.sym_terms.declared.node.Node.{Node}
 use Rattle.bit_blast.specs.sym_terms.declared.node.Node.TheVariants.{Constant, Symbol, Unary, Binary}
 use Rattle.clap_system.specs.sym_exec.Making.{Made, AllMade, term_of_node, expr_term, with_expr, range_test, last_index, replaced_term}
-use Rattle.clap_system.specs.sym_exec.Thread.{Doing, term_in, with_term, symbol_in, after_instr, wanted_of, after_step, after_all, Route, route_of}
+use Rattle.clap_system.specs.sym_exec.Thread.{Doing, term_in, symbol_in, with_nodes, cell_of, update_terms, updated_term, after_instr, wanted_of, after_step, after_all, Route, route_of}
 use Rattle.clap_system.specs.sym_exec.Executed.{Course, Executed, fails_at, thread_started, thread_done, with_thread, nothing, executed}
 use Rattle.clap_system.specs.sym_exec.declared.symbolic.Test.{Test}
 use Rattle.clap_system.specs.sym_exec.declared.symbolic.Access.{Access}
@@ -171,25 +176,38 @@ loading_adds ops d e x size tests accesses loads = record {
 -- whether an instruction accesses a cell
 abbrev pub cells_of : Instr → ℕ
 cells_of (Load k c) = 1
-cells_of (LoadAt k first len i) = 1
 cells_of (Store c e) = 1
-cells_of (StoreAt first len i e) = 1
-cells_of (Swap k c e) = 1
-cells_of (Cas k c e new) = 1
+cells_of (Modify k c u) = 1
 cells_of _ = 0
+
+cell_size : (d : Doing) (c : Cell Expr) → terms_size (cell_of d c).nodes ≤ terms_size d.nodes + 28_868 * operators_in c
+cell_size d (cell.Fixed c) = omega arith
+cell_size d (cell.Element first len i) = expr_size d.nodes d.slots i
+
+operands_size : (d : Doing) (u : Update Expr) → terms_size (update_terms d u).nodes ≤ terms_size d.nodes + 28_868 * sum (map operators (operands_of u))
+operands_size d (update.Swap e) = omega (arith, expr_size d.nodes d.slots e, sum_by-cons (λ n. n) (operators e) [])
+operands_size d (update.Add e) = omega (arith, expr_size d.nodes d.slots e, sum_by-cons (λ n. n) (operators e) [])
+operands_size d (update.Cas e new) =
+    omega (
+      arith,
+      expr_size d.nodes d.slots e,
+      expr_size (term_in d e).nodes d.slots new,
+      sum_by-cons (λ n. n) (operators e) (operators new ∷ []),
+      sum_by-cons (λ n. n) (operators new) [],
+    )
+
+updated_size : (nodes : List Node) (u : Update ℕ) (v : ℕ) → terms_size (updated_term nodes u v).nodes ≤ terms_size nodes + 1_152
+updated_size nodes (update.Swap x) v = omega arith
+updated_size nodes (update.Cas x y) v = replaced_size nodes v x y
+updated_size nodes (update.Add x) v = let h = with_size nodes (Binary bin.Add v x) in omega (arith, h)
 
 instr_adds : (line : ℕ) (wanted : Bool) (d : Doing) (i : Instr) → IsLarger (operators_of i) 1 (cells_of i) d (after_instr line wanted d i)
 instr_adds line wanted d (Set k e) = making_adds (operators e) d _ (expr_size d.nodes d.slots e) refl refl refl
 instr_adds line wanted d (Load k c) =
-    let h = with_size d.nodes (Symbol d.loads) in loading_adds 0 d _ _ (omega (arith, h)) refl refl refl
-instr_adds line wanted d (LoadAt k first len i) =
-    let x = term_in d i in
-    let h = with_size x.nodes (Symbol d.loads) in
-    loading_adds (operators i) d _ _ (omega (arith, h, expr_size d.nodes d.slots i)) refl refl refl
-instr_adds line wanted d (Store c e) = storing_adds (operators e) d _ _ (expr_size d.nodes d.slots e) refl refl refl
-instr_adds line wanted d (StoreAt first len i e) =
-    let x = term_in d i in
-    storing_adds (operators i + operators e) d _ _ (omega (arith, expr_size d.nodes d.slots i, expr_size x.nodes d.slots e)) refl refl refl
+    let h = with_size (cell_of d c).nodes (Symbol d.loads) in
+    loading_adds (operators_in c) d _ _ (omega (arith, h, cell_size d c)) refl refl refl
+instr_adds line wanted d (Store c e) =
+    storing_adds (operators_in c + operators e) d _ _ (omega (arith, cell_size d c, expr_size (cell_of d c).nodes d.slots e)) refl refl refl
 instr_adds line wanted d (Inside len i) =
     let x = term_in d i in
     testing_adds (operators i) d _ _ (omega (arith, expr_size d.nodes d.slots i, range_size x (last_index len))) refl refl refl
@@ -201,17 +219,13 @@ instr_adds line wanted d (Nonzero e) = testing_adds (operators e) d _ _ (omega (
 instr_adds line wanted d (InRange e) =
     let x = term_in d e in
     testing_adds (operators e) d _ _ (omega (arith, expr_size d.nodes d.slots e, range_size x (pos 31))) refl refl refl
-instr_adds line wanted d (Swap k c e) =
-    let x = term_in d e in
-    let h = with_size x.nodes (Symbol d.loads) in
-    loading_adds (operators e) d _ _ (omega (arith, h, expr_size d.nodes d.slots e)) refl refl refl
-instr_adds line wanted d (Cas k c e new) =
-    let x = term_in d e in
-    let y = term_in (with_term d x) new in
-    let v = symbol_in (with_term d y) in
+instr_adds line wanted d (Modify k c u) =
+    let x = with_nodes d (cell_of d c).nodes in
+    let y = update_terms x u in
+    let v = symbol_in (with_nodes x y.nodes) in
     let h = with_size y.nodes (Symbol d.loads) in
-    loading_adds (operators e + operators new) d _ _
-    (omega (arith, h, expr_size d.nodes d.slots e, expr_size x.nodes d.slots new, replaced_size v.nodes v.term x.term y.term)) refl refl refl
+    loading_adds (operators_in c + sum (map operators (operands_of u))) d _ _
+    (omega (arith, h, cell_size d c, operands_size x u, updated_size v.nodes y.update v.term)) refl refl refl
 instr_adds line wanted d _ = making_adds 0 d d (omega arith) refl refl refl
 
 -- the operators of the steps at places

@@ -12,7 +12,7 @@ use Rattle.clap_system.specs.tc_base.Names.{Name}
 use Rattle.clap_system.specs.tc_limits.declared.limits.TheConstants.{STEPS}
 use Rattle.clap_system.specs.tc_code.Code.{Code, line_at}
 use Rattle.clap_system.specs.tc_code.declared.instr.Instr.{Instr}
-use Rattle.clap_system.specs.tc_code.declared.instr.Instr.TheVariants.{Load, LoadAt, Store, StoreAt, Swap, Cas}
+use Rattle.clap_system.specs.tc_code.declared.instr.Instr.TheVariants.{Load, Store, Modify}
 use Rattle.clap_system.specs.path_walk.Events.{kind_with, events_of, region_of, regions_of, sleep_by, sleeps_of, create_by, join_by}
 use Rattle.clap_system.specs.path_walk.Fits.{ending_of, fails_in}
 use Rattle.clap_system.specs.path_walk.Marks.{Marks, marks_after_instr, marked_from, marks_at_start}
@@ -52,18 +52,12 @@ module _ (as_event : EventKind → Event) (t : Marks) (rest : List Event) where
     where
       one : (i : Instr) → cells_of i ≤ 1
       one (Load k c) = omega arith
-      one (LoadAt k first len i) = omega arith
       one (Store c e) = omega arith
-      one (StoreAt first len i e) = omega arith
-      one (Swap k c e) = omega arith
-      one (Cas k c e new) = omega arith
+      one (Modify k c u) = omega arith
       one _ = omega arith
   is_event false (Load k c) = omega arith
-  is_event false (LoadAt k first len i) = omega arith
   is_event false (Store c e) = omega arith
-  is_event false (StoreAt first len i e) = omega arith
-  is_event false (Swap k c e) = omega arith
-  is_event false (Cas k c e new) = omega arith
+  is_event false (Modify k c u) = omega arith
   is_event false i = let h = at_least (option_map as_event (kind_with t i false)) rest in omega (arith, h)
 
 module _ (code : Code) (f : ℕ) where

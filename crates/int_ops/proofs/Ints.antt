@@ -76,7 +76,7 @@ pub wrapped_int : (z : ℤ) → IsInt (wrapped z)
 wrapped_int z = SFits-int_wrap w32 z
 
 -- either of two ints is an int
-chosen : (b : Bool) (x y : ℤ) → IsInt x → IsInt y → IsInt (if b then x else y)
+pub chosen : (b : Bool) (x y : ℤ) → IsInt x → IsInt y → IsInt (if b then x else y)
 chosen true x y ix iy = ix
 chosen false x y ix iy = iy
 

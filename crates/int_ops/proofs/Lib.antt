@@ -1,3 +1,4 @@
 pub mod Bits
 pub mod Wraps
 pub mod Ints
+pub mod Updates

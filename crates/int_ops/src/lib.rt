@@ -1,6 +1,8 @@
-//! The operators of `int`, and what each of them computes.
+//! The operators of `int`, what each of them computes, and updates of a cell.
 #![tactic(auto)]
 
 pub mod arith;
+mod update;
 
 pub use arith::{BinOp, UnOp};
+pub use update::{Update, updated};

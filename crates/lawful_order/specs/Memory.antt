@@ -10,13 +10,13 @@ use Rattle.sym_exec.specs.path_walk.declared.event.EventKind.TheVariants as kind
 use Rattle.store_buffers.specs.Pending.{Binding}
 use Rattle.order_formula.specs.sym_terms.declared.node.Node.{Node}
 use Rattle.sym_exec.specs.Executed.{Symbolic}
-use Rattle.sym_exec.specs.declared.symbolic.Cell.{Cell}
+use Rattle.sym_exec.specs.tc_code.declared.cell.Cell.{Cell}
 use Rattle.order_formula.specs.Worlds.{World}
 use Rattle.lawful_order.specs.Cells.{is_same_cell}
 use Rattle.lawful_order.specs.Events.{HasEvent, IsBefore}
 
 -- the cell that a thread's step accesses, if any
-abbrev pub cell_of : Symbolic → (thread step : ℕ) → Option Cell
+abbrev pub cell_of : Symbolic → (thread step : ℕ) → Option (Cell ℕ)
 cell_of symbolic t k =
     option_map (λ a. a.cell)
     (option_and_then (λ c. find (λ a. a.step == k) c.accesses) (slice_get symbolic.threads t))

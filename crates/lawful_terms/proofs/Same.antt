@@ -15,8 +15,8 @@ use Rattle.memory_order.proofs.sym_terms.Folds.{keep}
 use Rattle.memory_order.specs.sym_exec.Alone.{Asked, asked_in, cell_by, outcome_by}
 use Rattle.memory_order.specs.sym_exec.Executed.{Course, Symbolic}
 use Rattle.memory_order.specs.sym_exec.declared.symbolic.Access.{Access}
-use Rattle.memory_order.specs.sym_exec.declared.symbolic.Cell.{Cell}
-use Rattle.memory_order.specs.sym_exec.declared.symbolic.Cell.TheVariants.{Fixed, Element}
+use Rattle.memory_order.specs.tc_code.declared.cell.Cell.{Cell}
+use Rattle.memory_order.specs.tc_code.declared.cell.Cell.TheVariants.{Fixed, Element}
 use Rattle.memory_order.specs.sym_exec.declared.symbolic.Test.{Test}
 use Rattle.memory_order.specs.order_formula.Worlds.{World}
 use Rattle.memory_order.specs.order_formula.declared.group.Group.{Group}
@@ -104,14 +104,14 @@ module _ (buffered : Bool) (bound : Binding) (code : Code) (paths : Paths) (symb
   -- adding terms after the named ones keeps the meaning
   module _ (nodes more : List Node) (have : HaveTerms nodes symbolic)
       (named : (t : ℕ) (c : Course) (x : Test) → slice_get symbolic.threads t ≡ Some c → Contains c.tests x → x.term < length nodes) where
-    both_cells : (o p : Option Cell) → ((c : Cell) → o ≡ Some c → CellIsOf (length nodes) c) → ((c : Cell) → p ≡ Some c → CellIsOf (length nodes) c)
+    both_cells : (o p : Option (Cell ℕ)) → ((c : Cell ℕ) → o ≡ Some c → CellIsOf (length nodes) c) → ((c : Cell ℕ) → p ≡ Some c → CellIsOf (length nodes) c)
         → option_eq (is_same_cell nodes w) o p ≡ option_eq (is_same_cell (nodes ++ more) w) o p
     both_cells None None f g = refl
     both_cells None (Some d) f g = refl
     both_cells (Some c) None f g = refl
     both_cells (Some c) (Some d) f g = sym (same_stays nodes more w c d (f c refl) (g d refl))
 
-    cell_stays : (c : Cell) → CellIsOf (length nodes) c → cell_by nodes w.loads c ≡ cell_by (nodes ++ more) w.loads c
+    cell_stays : (c : Cell ℕ) → CellIsOf (length nodes) c → cell_by nodes w.loads c ≡ cell_by (nodes ++ more) w.loads c
     cell_stays (Fixed c) below = refl
     cell_stays (Element f n i) below = ap (cell_at f) (sym (keep nodes more w.loads i below))
 

@@ -5,13 +5,17 @@ use Rattle.std.proofs.lemmas.Bool.{false≢true}
 use Rattle.std.proofs.lemmas.Bool.Decides.{Decides-int_eq}
 use Rattle.log_walk.specs.tc_base.States.{Local}
 use Rattle.log_walk.specs.tc_base.declared.request.Request.{Request}
-use Rattle.log_walk.specs.tc_base.declared.request.Request.TheVariants.{Silent, CompareExchange, Fail}
+use Rattle.log_walk.specs.tc_base.declared.request.Request.TheVariants.{Silent, Exchange, Fail}
 use Rattle.log_walk.specs.tc_code.Expr.{Expr}
 use Rattle.log_walk.specs.tc_code.int_ops.Arith.{is_distance}
+use Rattle.log_walk.specs.tc_code.int_ops.Updates.{replaced}
+use Rattle.log_walk.specs.tc_code.int_ops.declared.update.Update.{Update}
+use Rattle.log_walk.specs.tc_code.int_ops.declared.update.Update.TheVariants as update
 use Rattle.log_walk.specs.tc_code.Lawful.{written}
-use Rattle.log_walk.specs.tc_code.Step.{request, site, is_within, is_nonzero, value_in, can_be_joined, handle_of, holds, replaced, local_after}
+use Rattle.log_walk.specs.tc_code.Step.{request, site, is_within, is_nonzero, value_in, can_be_joined, handle_of, holds, local_after}
+use Rattle.log_walk.specs.tc_code.declared.cell.Cell.{Cell}
 use Rattle.log_walk.specs.tc_code.declared.instr.Instr.{Instr}
-use Rattle.log_walk.specs.tc_code.declared.instr.Instr.TheVariants.{Set, Load, LoadAt, Inside, Branch, Goto, Holds, Lock, Unlock, Sleep, Wake, Ready, Assert, Nonzero, InRange, Swap, Cas, Fence}
+use Rattle.log_walk.specs.tc_code.declared.instr.Instr.TheVariants.{Set, Load, Inside, Branch, Goto, Holds, Lock, Unlock, Sleep, Wake, Ready, Assert, Nonzero, InRange, Modify, Fence}
 use Rattle.pure_turns.proofs.run_laws.After.{branch_is}
 use Rattle.pure_turns.proofs.run_laws.Basics.{index_or-set_cases}
 use Rattle.short_runs.specs.Turns.{is_pure_step}
@@ -32,9 +36,7 @@ slot_after : (t : Local) (i : Instr) (v : ℤ) (slot : ℕ) → written i ≢ So
     → slice_index_or t.slots slot (pos 0) ≡ slice_index_or (local_after t i v).slots slot (pos 0)
 slot_after t (Set k e) v slot other = set_apart t.slots k slot (value_in t e) other
 slot_after t (Load k c) v slot other = set_apart t.slots k slot v other
-slot_after t (LoadAt k first len e) v slot other = set_apart t.slots k slot v other
-slot_after t (Swap k c e) v slot other = set_apart t.slots k slot v other
-slot_after t (Cas k c e new) v slot other = set_apart t.slots k slot v other
+slot_after t (Modify k c u) v slot other = set_apart t.slots k slot v other
 slot_after t (Branch e to) v slot other = sym (ap (λ (x : Local). slice_index_or x.slots slot (pos 0)) (branch_is t (is_nonzero (value_in t e)) to))
 slot_after t _ v slot other = refl
 
@@ -61,10 +63,10 @@ held_stays t i Fail v idle = refl
 held_stays t i Silent v idle = held_after t i v idle
 held_stays t i r v idle = held_after t i v idle
 
-pub held_by_cas : (t : Local) (k c : ℕ) (e new : Expr) (r : Request) (v : ℤ) → t.held ≡ (after_step t (Cas k c e new) r v).held
-held_by_cas t k c e new Fail v = refl
-held_by_cas t k c e new Silent v = refl
-held_by_cas t k c e new r v = refl
+pub held_by_update : (t : Local) (k : ℕ) (c : Cell Expr) (u : Update Expr) (r : Request) (v : ℤ) → t.held ≡ (after_step t (Modify k c u) r v).held
+held_by_update t k c u Fail v = refl
+held_by_update t k c u Silent v = refl
+held_by_update t k c u r v = refl
 
 -- Requests.
 
@@ -77,7 +79,6 @@ pub idle_pure : (t : Local) (i : Instr) (held : List Bool) (v : ℤ) → is_idle
     → is_pure_step held (request t i) v ≡ true
 idle_pure t (Set k e) held v idle going = refl
 idle_pure t (Load k c) held v idle going = refl
-idle_pure t (LoadAt k first len e) held v idle going = refl
 idle_pure t (Inside len e) held v idle going = site_pure (is_within len (value_in t e)) held v going
 idle_pure t (Branch e to) held v idle going = refl
 idle_pure t (Goto to) held v idle going = refl
@@ -90,7 +91,7 @@ idle_pure t Fence held v idle going = refl
 idle_pure t _ held v idle going = absurd (false≢true idle)
 
 -- a compare-and-exchange that read another value than it expects is pure
-pub cas_pure : (held : List Bool) (c : ℕ) (expected new took : ℤ) → took ≢ expected → is_pure_step held (CompareExchange c expected new) took ≡ true
+pub cas_pure : (held : List Bool) (c : ℕ) (expected new took : ℤ) → took ≢ expected → is_pure_step held (Exchange c (update.Cas expected new)) took ≡ true
 cas_pure held c expected new took other = by (int_eq took expected) refl
   where
     by : (b : Bool) → int_eq took expected ≡ b → int_eq (replaced took expected new) took ≡ true

@@ -10,14 +10,15 @@ use Rattle.std.proofs.lemmas.Option.{none-some, same_Some}
 use Rattle.tc_record.specs.tc_base.Names.{Name}
 use Rattle.tc_record.specs.tc_base.States.{Local}
 use Rattle.tc_record.specs.tc_base.declared.request.Request.{Request}
-use Rattle.tc_record.specs.tc_base.declared.request.Request.TheVariants.{Silent, CompareExchange, Fail}
+use Rattle.tc_record.specs.tc_base.declared.request.Request.TheVariants.{Silent, Exchange, Fail}
 use Rattle.tc_record.specs.tc_code.Code.{Code}
 use Rattle.tc_record.specs.tc_code.Expr.{Number, Slot}
 use Rattle.tc_record.specs.tc_code.Lawful.{names_what_is, IsLawful}
-use Rattle.tc_record.specs.tc_code.Step.{request, value_in, instr_of}
+use Rattle.tc_record.specs.tc_code.Step.{request, cell_in, value_in, instr_of}
+use Rattle.tc_record.specs.tc_code.int_ops.declared.update.Update.TheVariants.{Cas}
 use Rattle.tc_record.specs.tc_code.declared.code.Func.{Func}
 use Rattle.tc_record.specs.tc_code.declared.instr.Instr.{Instr}
-use Rattle.tc_record.specs.tc_code.declared.instr.Instr.TheVariants.{Set, Cas}
+use Rattle.tc_record.specs.tc_code.declared.instr.Instr.TheVariants.{Set, Modify}
 use Rattle.tc_record.proofs.tc_code.Facts.{placed_next}
 use Rattle.least_runs.specs.run_follows.run_laws.Whole.{IsWholeThread}
 use Rattle.least_runs.proofs.run_laws.Whole.{names_next, reached_is_whole}
@@ -37,7 +38,7 @@ use Rattle.tc_record.specs.path_laws.history.Next.{IsNextOnPath}
 use Rattle.tc_record.proofs.path_laws.of_events.Steps.{steps_both, step_at, IsStep, step_is}
 use Rattle.least_runs.proofs.run_history.of_pending.In.{In, in_at, in_any}
 use Rattle.log_walk.specs.thread_paths.Turns.{is_idle, RulesOut, HasFailed, IsTurn, place_of, instr_of as instr_on}
-use Rattle.lean_logs.proofs.Idle.{slot_stays, held_stays, held_by_cas, idle_pure, cas_pure, ruled_out}
+use Rattle.lean_logs.proofs.Idle.{slot_stays, held_stays, held_by_update, idle_pure, cas_pure, ruled_out}
 use Rattle.lean_logs.proofs.Carried.{own_step, place_is, instr_is, count_own, StepIn, step_in, reach}
 
 -- a thread has each slot that its next instruction writes
@@ -108,12 +109,12 @@ module _ {B : Type 0} (setting : Setting B) (history : HistoryAlong setting) (th
     x = s.next
 
     abbrev exchange : Instr
-    exchange = Cas failed.read failed.cell (Number failed.expected) failed.new
+    exchange = Modify failed.read failed.cell (Cas (Number failed.expected) failed.new)
 
     exchanges : x.instr ≡ exchange
     exchanges = sym (instr_is setting history thread older x) ∙ failed.is
 
-    asks_so : CompareExchange failed.cell failed.expected (value_in x.local failed.new) ≡ r
+    asks_so : Exchange (cell_in x.local failed.cell) (Cas failed.expected (value_in x.local failed.new)) ≡ r
     asks_so = ap (request x.local) (sym exchanges) ∙ s.asks
 
     -- what it reads is in its slot after it
@@ -129,7 +130,7 @@ module _ {B : Type 0} (setting : Setting B) (history : HistoryAlong setting) (th
         ap (λ q. slice_index_or (after_step x.local exchange q took).slots failed.read (pos 0)) (sym asks_so)
         ∙ get_or-set_same x.local.slots failed.read took (pos 0)
         (slot_within code x.local exchange failed.read lawful (whole_at older (d ∷ rest) x at) (x.next ∙ ap (λ i. Some i) exchanges)
-        (λ g names. (and_parts _ _ (and_parts _ _ (and_parts _ _ names).0).0).0))
+        (λ g names. (and_parts _ _ (and_parts _ _ names).0).0))
 
     -- the next step copies it
     c : StepIn setting history thread (older ++ d ∷ []) (m + 1)
@@ -278,7 +279,7 @@ module _ {B : Type 0} (setting : Setting B) (history : HistoryAlong setting) (th
         by k t r v (inl idle) = held_stays t (instr_on code f ps k) r v idle
         by k t r v (inr failed) =
             subst (λ i. t.held ≡ (after_step t i r v).held) (sym failed.is)
-            (held_by_cas t failed.read failed.cell (Number failed.expected) failed.new r v)
+            (held_by_update t failed.read failed.cell (Cas (Number failed.expected) failed.new) r v)
 
     -- the thread does a step in it
     some_step : list_any (is_step_of n) round ≡ true
@@ -324,9 +325,10 @@ module _ {B : Type 0} (setting : Setting B) (history : HistoryAlong setting) (th
           (subst (λ i. is_idle i ≡ true) (instr_is setting history thread older x) idle)
           (λ fail. not_failing older (after ++ newer) k r took o at_one (omega (arith, most, more)) (sym s.asks ∙ fail)))
       pure_by (inr failed) =
+          let x = (s last older (after ++ newer) k r took o at_one more failed).next in
           subst (λ q. is_pure_step begin.local.held q took ≡ true)
           (asks_so last older (after ++ newer) k r took o at_one more failed)
-          (cas_pure begin.local.held failed.cell failed.expected _ took
+          (cas_pure begin.local.held (cell_in x.local failed.cell) failed.expected (value_in x.local failed.new) took
           (other_value last older (after ++ newer) k r took o at_one more failed))
 
       pure : is_pure_step begin.local.held r took ≡ true

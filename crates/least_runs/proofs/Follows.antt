@@ -12,7 +12,7 @@ use Rattle.run_follows.specs.list_laws.Lists.{is_nil}
 use Rattle.run_follows.specs.tc_base.Names.{Name, child}
 use Rattle.run_follows.specs.tc_base.States.{Local}
 use Rattle.run_follows.specs.tc_base.declared.request.Request.{Request}
-use Rattle.run_follows.specs.tc_base.declared.request.Request.TheVariants.{Silent, Read, Write, Exchange, CompareExchange, Bar, Acquire, EndWait}
+use Rattle.run_follows.specs.tc_base.declared.request.Request.TheVariants.{Silent, Read, Write, Exchange, Bar, Acquire, EndWait}
 use Rattle.run_follows.specs.tc_base.declared.request.Request.TheVariants.{WakeOne, Start, Await, Finish}
 use Rattle.run_follows.specs.tc_code.Step.{request, instr_of, drains_first}
 use Rattle.run_follows.specs.store_buffers.Pending.{stores}
@@ -137,7 +137,6 @@ module _ {B : Type 0} (machine : Machine B) (older later : List Deed) (n : Name)
           → taken_in ops.buffered code (older ++ Did n k r took other ∷ front) q s ≡ taken_in ops.buffered code (older ++ front) q s
       taken_still (Read c) = seen_still c
       taken_still (Exchange c v) = value_still n k took other later older front r unused ops.buffered code c
-      taken_still (CompareExchange c e v) = value_still n k took other later older front r unused ops.buffered code c
       taken_still Silent = refl
       taken_still s = refl
 

@@ -9,7 +9,7 @@ use Rattle.std.proofs.lemmas.List.Elements.{filter_map-append, filter_agree}
 use Rattle.run_follows.specs.tc_base.Names.{Name}
 use Rattle.run_follows.specs.store_buffers.Buffers.{newest}
 use Rattle.run_follows.specs.tc_base.declared.request.Request.{Request}
-use Rattle.run_follows.specs.tc_base.declared.request.Request.TheVariants.{Silent, Write, Exchange, CompareExchange, Bar, Acquire, Release, BeginWait, EndWait}
+use Rattle.run_follows.specs.tc_base.declared.request.Request.TheVariants.{Silent, Write, Exchange, Bar, Acquire, Release, BeginWait, EndWait}
 use Rattle.run_follows.specs.tc_base.declared.request.Request.TheVariants.{WakeOne, WakeAll, Start, Finish, Fail}
 use Rattle.run_follows.specs.tc_code.Code.{Code}
 use Rattle.run_follows.specs.tc_code.Step.{NameSet}
@@ -29,7 +29,6 @@ module _ (n : Name) (k : ℕ) (took : ℤ) (other : Option Name) (later : List D
   reaches_none : (buffered : Bool) (r : Request) → IsUnused n r other later → reaches buffered (Did n k r took other) ≡ None
   reaches_none buffered (Write c v) unused = absurd unused
   reaches_none buffered (Exchange c v) unused = absurd unused
-  reaches_none buffered (CompareExchange c e v) unused = absurd unused
   reaches_none buffered Silent unused = refl
   reaches_none buffered r unused = refl
 

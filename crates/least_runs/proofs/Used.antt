@@ -6,7 +6,7 @@ use Rattle.std.proofs.lemmas.Bool.{false≢true, eqb-true}
 use Rattle.std.proofs.lemmas.Option.{none-some, same_Some}
 use Rattle.run_follows.specs.tc_base.Names.{Name, child}
 use Rattle.run_follows.specs.tc_base.declared.request.Request.{Request}
-use Rattle.run_follows.specs.tc_base.declared.request.Request.TheVariants.{Silent, Read, Write, Exchange, CompareExchange, Bar, Acquire, Release, BeginWait, EndWait}
+use Rattle.run_follows.specs.tc_base.declared.request.Request.TheVariants.{Silent, Read, Write, Exchange, Bar, Acquire, Release, BeginWait, EndWait}
 use Rattle.run_follows.specs.tc_base.declared.request.Request.TheVariants.{WakeOne, WakeAll, Start, Await, OrderStores, Finish, Fail}
 use Rattle.run_follows.proofs.run_laws.Names.{same_self}
 use Rattle.run_follows.specs.run_history.History.{Deed, Did}
@@ -56,7 +56,6 @@ unused_is n Finish other newer is = unawaited n newer is
 unused_is n (Start f) other newer is = idle other newer is
 unused_is n (Write c v) other newer is = false≢true is
 unused_is n (Exchange c v) other newer is = false≢true is
-unused_is n (CompareExchange c e v) other newer is = false≢true is
 unused_is n (Release m) other newer is = false≢true is
 unused_is n (BeginWait c m) other newer is = false≢true is
 unused_is n (WakeOne c) other newer is = false≢true is

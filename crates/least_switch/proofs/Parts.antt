@@ -20,11 +20,10 @@ use Rattle.std.specs.List.{All}
 use Rattle.order_events.specs.lawful_order.Events.{all_events}
 use Rattle.cnf_core.specs.Clauses.{Formula}
 use Rattle.cnf_core.specs.declared.cnf.TheConstants.{LIMIT}
-use Rattle.bit_order.specs.Comparators.{pairs_among}
 use Rattle.bit_order.specs.Layouts.{Layout}
 use Rattle.bit_blast.specs.Blasted.{Blasted, impossible}
 use Rattle.bit_blast.specs.Sizes.{whole_size}
-use Rattle.bit_blast.proofs.Completed.{completed_events, completed_sleeps, same_part, same_size}
+use Rattle.bit_blast.proofs.Completed.{completed_events, completed_sleeps, same_size}
 use Rattle.bit_blast.proofs.Posed.{formula_in}
 use Rattle.clap_system.specs.Ready.{IsSound}
 use Rattle.clap_system.specs.Systems.{System, execution_of, system_of}
@@ -49,8 +48,7 @@ asked_events o = completed_events o (range_with_len 0 o.events)
 
 pub asked_within : (o : Order) (formula : List Conjunct) → All (ConjunctIsIn o) formula → All (ConjunctIsIn (asked_of_all o)) formula
 asked_within o formula within =
-    formula_in o (asked_of_all o) (asked_events o)
-    (same_part (λ (k : Order). k.sleeps) (λ k p. refl) o (pairs_among (range_with_len 0 o.events))) formula within
+    formula_in o (asked_of_all o) (asked_events o) (completed_sleeps o (range_with_len 0 o.events)) formula within
 
 -- the size of its clauses is the same
 pub size_asked : (o asked : Order) (loads : ℕ) (nodes : List Node) (formula : List Conjunct) → asked ≡ asked_of_all o

@@ -15,7 +15,7 @@ use Rattle.sym_terms.specs.Terms.{AreTerms, id_of}
 use Rattle.sym_terms.specs.declared.node.Node.{Node}
 use Rattle.sym_exec.specs.Executed.{Symbolic}
 use Rattle.sym_exec.specs.declared.symbolic.Access.{Access}
-use Rattle.sym_exec.specs.declared.symbolic.Cell.{Cell}
+use Rattle.sym_exec.specs.tc_code.declared.cell.Cell.{Cell}
 use Rattle.order_formula.specs.Truth.{passes_at}
 use Rattle.order_formula.specs.Worlds.{World}
 use Rattle.order_cells.specs.lawful_order.Cells.{is_same_cell}
@@ -105,7 +105,7 @@ find_some {X} p (z ∷ zs) x i hit = by (p z) refl (λ rest. find_some p zs x re
 module _ (buffered : Bool) (bound : Binding) (symbolic : Symbolic) (t : ℕ) where
   -- the cells of a thread's stores exist
   store_has_cell : (paths : Paths) → IsExecutedBy paths symbolic → (x : Event) → HasEvent paths t x → is_store x.kind ≡ true
-      → (a : Cell) × (cell_of symbolic t x.step ≡ Some a)
+      → (a : Cell ℕ) × (cell_of symbolic t x.step ≡ Some a)
   store_has_cell paths executed x there store =
       let e = executed.events t x there (inr (inl (only_store x.kind store))) in
       let h = e.1 in
@@ -117,7 +117,7 @@ module _ (buffered : Bool) (bound : Binding) (symbolic : Symbolic) (t : ℕ) whe
 
   -- two events with cells, or for which cells don't matter
   pub data HaveCells (x y : Event) : Type 0 where
-    Cells : (a b : Cell) → cell_of symbolic t x.step ≡ Some a → cell_of symbolic t y.step ≡ Some b → HaveCells x y
+    Cells : (a b : Cell ℕ) → cell_of symbolic t x.step ≡ Some a → cell_of symbolic t y.step ≡ Some b → HaveCells x y
     -- whether the cells are the same changes nothing
     Apart : ((same other : Bool) → keeps buffered bound same x y ≡ keeps buffered bound other x y) → HaveCells x y
 
@@ -155,7 +155,7 @@ module _ (buffered : Bool) (bound : Binding) (symbolic : Symbolic) (t : ℕ) whe
         by_same (is_settled buffered p.first.kind) (not (may_overtake p.second.kind)) (is_store p.second.kind) (λ b. bound b barred) (up barred) h same
 
     -- the same for two cells
-    cells_told : (p : Two Event) (a b : Cell) (o : Option Bool) (test : Option Node) → known_same nodes a b ≡ o → same_test nodes a b ≡ test
+    cells_told : (p : Two Event) (a b : Cell ℕ) (o : Option Bool) (test : Option Node) → known_same nodes a b ≡ o → same_test nodes a b ≡ test
         → Told nodes w (keeps buffered bound (is_same_cell nodes w a b) p.first p.second) (keeps buffered bound (unwrap_or o false) p.first p.second)
         (cond (keeps buffered bound true p.first p.second && not (keeps buffered bound false p.first p.second)) test None)
     cells_told p a b (Some v) test known is =

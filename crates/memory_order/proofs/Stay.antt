@@ -15,7 +15,7 @@ use Rattle.sym_terms.specs.declared.node.Node.{Node}
 use Rattle.sym_exec.specs.Executed.{Course, Symbolic}
 use Rattle.sym_exec.specs.Making.{Grows}
 use Rattle.sym_exec.specs.declared.symbolic.Access.{Access}
-use Rattle.sym_exec.specs.declared.symbolic.Cell.{Cell}
+use Rattle.sym_exec.specs.tc_code.declared.cell.Cell.{Cell}
 use Rattle.order_formula.specs.declared.formula.Conjunct.{Conjunct}
 use Rattle.order_formula.specs.declared.group.Group.TheVariants.{Own}
 use Rattle.order_cells.specs.lawful_order.Events.{Placed, all_events}
@@ -51,7 +51,7 @@ each_agree {A} f g xs agree =
 of_find : {X : Type 0} (p : X → Bool) (xs : List X) (x : X) → find p xs ≡ Some x → Contains xs x
 of_find p xs x is = at_in xs (position_or_len p xs) x (sym (find_at p xs) ∙ is)
 
-pub cell_has_access : (symbolic : Symbolic) (t k : ℕ) (c : Cell) → cell_of symbolic t k ≡ Some c → (a : Access) × HasAccess symbolic t a × (a.cell ≡ c)
+pub cell_has_access : (symbolic : Symbolic) (t k : ℕ) (c : Cell ℕ) → cell_of symbolic t k ≡ Some c → (a : Access) × HasAccess symbolic t a × (a.cell ≡ c)
 cell_has_access symbolic t k c is = by (slice_get symbolic.threads t) refl is
   where
     found : (course : Course) (o : Option Access) → slice_get symbolic.threads t ≡ Some course → find (λ (a : Access). a.step == k) course.accesses ≡ o
@@ -66,33 +66,33 @@ cell_has_access symbolic t k c is = by (slice_get symbolic.threads t) refl is
     by (Some course) at is = found course (find (λ (a : Access). a.step == k) course.accesses) at refl is
 
 -- both cells of two events
-both_there : (o p : Option Cell) (c : Cell × Cell) → option_and_then (λ a. option_and_then (λ b. Some (a, b)) p) o ≡ Some c
+both_there : (o p : Option (Cell ℕ)) (c : Cell ℕ × Cell ℕ) → option_and_then (λ a. option_and_then (λ b. Some (a, b)) p) o ≡ Some c
     → (o ≡ Some c.0) × (p ≡ Some c.1)
 both_there None p c is = absurd (none-some c is)
 both_there (Some a) None c is = absurd (none-some c is)
 both_there (Some a) (Some b) c is =
-    let e = same_Some (a, b) c is in (ap (λ (d : Cell × Cell). Some d.0) e, ap (λ (d : Cell × Cell). Some d.1) e)
+    let e = same_Some (a, b) c is in (ap (λ (d : Cell ℕ × Cell ℕ). Some d.0) e, ap (λ (d : Cell ℕ × Cell ℕ). Some d.1) e)
 
 module _ (symbolic : Symbolic) (nodes : List Node) (have : HaveTerms nodes symbolic) where
   -- the indexes of the cells are among the terms
-  pub cell_within : (t k : ℕ) (c : Cell) → cell_of symbolic t k ≡ Some c → CellIsOf (length nodes) c
+  pub cell_within : (t k : ℕ) (c : Cell ℕ) → cell_of symbolic t k ≡ Some c → CellIsOf (length nodes) c
   cell_within t k c is =
       let a = cell_has_access symbolic t k c is in subst (CellIsOf (length nodes)) a.2 (have t a.0 a.1).cell
 
-  pub cells_within : (t : ℕ) (x y : Event) (c : Cell × Cell) → cells_of symbolic t x y ≡ Some c → CellIsOf (length nodes) c.0 × CellIsOf (length nodes) c.1
+  pub cells_within : (t : ℕ) (x y : Event) (c : Cell ℕ × Cell ℕ) → cells_of symbolic t x y ≡ Some c → CellIsOf (length nodes) c.0 × CellIsOf (length nodes) c.1
   cells_within t x y c is =
       let both = both_there (cell_of symbolic t x.step) (cell_of symbolic t y.step) c is in
       (cell_within t x.step c.0 both.0, cell_within t y.step c.1 both.1)
 
   module _ (later : List Node) (grows : Grows nodes later) where
-    known_later : (t : ℕ) (x y : Event) (o : Option (Cell × Cell)) → cells_of symbolic t x y ≡ o
+    known_later : (t : ℕ) (x y : Event) (o : Option (Cell ℕ × Cell ℕ)) → cells_of symbolic t x y ≡ o
         → option_and_then (λ c. known_same later c.0 c.1) o ≡ option_and_then (λ c. known_same nodes c.0 c.1) o
     known_later t x y None is = refl
     known_later t x y (Some c) is =
         let w = cells_within t x y c is in
         ap (λ ns. known_same ns c.0 c.1) grows.1 ∙ known_stays nodes grows.0 c.0 c.1 w.0 w.1
 
-    same_later : (t : ℕ) (x y : Event) (o : Option (Cell × Cell)) → cells_of symbolic t x y ≡ o
+    same_later : (t : ℕ) (x y : Event) (o : Option (Cell ℕ × Cell ℕ)) → cells_of symbolic t x y ≡ o
         → option_and_then (λ c. same_test later c.0 c.1) o ≡ option_and_then (λ c. same_test nodes c.0 c.1) o
     same_later t x y None is = refl
     same_later t x y (Some c) is =
@@ -148,7 +148,7 @@ module _ (symbolic : Symbolic) (nodes : List Node) (have : HaveTerms nodes symbo
           (in_needs buffered bound paths symbolic nodes t q p test at i is)))))
 
 -- the test for two events that are kept in order exactly if their cells are the same
-pub test_of_cells : (buffered : Bool) (bound : Binding) (symbolic : Symbolic) (nodes : List Node) (t : ℕ) (p : Two Event) (c : Cell × Cell)
+pub test_of_cells : (buffered : Bool) (bound : Binding) (symbolic : Symbolic) (nodes : List Node) (t : ℕ) (p : Two Event) (c : Cell ℕ × Cell ℕ)
     → keeps buffered bound true p.first p.second ≡ true → keeps buffered bound false p.first p.second ≡ false
     → cells_of symbolic t p.first p.second ≡ Some c
     → kept_test buffered bound symbolic nodes t p ≡ same_test nodes c.0 c.1

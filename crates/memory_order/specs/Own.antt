@@ -10,7 +10,7 @@ use Rattle.store_buffers.specs.Pending.{Binding}
 use Rattle.sym_terms.specs.Terms.{id_of}
 use Rattle.sym_terms.specs.declared.node.Node.{Node}
 use Rattle.sym_exec.specs.Executed.{Symbolic}
-use Rattle.sym_exec.specs.declared.symbolic.Cell.{Cell}
+use Rattle.sym_exec.specs.tc_code.declared.cell.Cell.{Cell}
 use Rattle.order_formula.specs.declared.formula.Conjunct.{Conjunct}
 use Rattle.order_formula.specs.declared.group.Group.TheVariants.{Own}
 use Rattle.order_formula.specs.declared.literal.Atom.TheVariants.{Test}
@@ -36,7 +36,7 @@ keeps buffered bound same x y =
     || (not (may_overtake y.kind) || is_store y.kind && bound same (not (x.bars == y.bars)))
 
 -- the cells of two events of a thread
-abbrev pub cells_of : Symbolic → (t : ℕ) → (x y : Event) → Option (Cell × Cell)
+abbrev pub cells_of : Symbolic → (t : ℕ) → (x y : Event) → Option (Cell ℕ × Cell ℕ)
 cells_of symbolic t x y =
     option_and_then (λ a. option_and_then (λ b. Some (a, b)) (cell_of symbolic t y.step))
     (cell_of symbolic t x.step)

@@ -1,3 +1,5 @@
 pub mod Stops
 pub mod Picks
 pub mod Syntax
+pub mod Shapes
+pub mod Missed

@@ -2,9 +2,11 @@
 #![tactic(auto)]
 
 mod kinds;
+mod laws;
 mod stuck;
 mod texts;
 
 pub use kinds::ALL_KINDS;
+pub use laws::no_kind_is_missed;
 pub use stuck::{Stuck, find_stuck};
 pub use texts::stuck_of;

@@ -1,6 +1,7 @@
-//! The first word with which no program goes on, and the tokens that are possible in its place.
-ghost use Rattle.std.specs.Prelude.{◌≡◌, ◌↔◌, ◌++◌, ◌∷◌, [], true, IfOk, MatchOption, OnOk, if◌then◌else◌};
+//! The first token with which no program goes on, and those that are possible in its place.
+ghost use Rattle.std.specs.Prelude.{◌≡◌, ◌≤◌, ◌↔◌, ◌++◌, ◌∷◌, [], true, length, IfOk, MatchOption, OnOk, if◌then◌else◌};
 ghost use Rattle.tc_tree.specs.Grammar.{Begins, IsSyntaxFault};
+ghost use Rattle.tc_tree.specs.Words.{words_of};
 ghost use Rattle.next_tokens.specs.Next.{all_kinds, sample, AreProgram, ArePicked, GoesOnWith, IsStuck};
 ghost use Rattle.next_tokens.specs.helpers.Searched.{IsLeft};
 
@@ -8,12 +9,12 @@ use crate::kinds::ALL_KINDS;
 use std::alloc::{AllocError, Global};
 use tc_lexer::{Place, Token, TokenKind};
 use tc_syntax::{Stop, read_program};
-use tc_tree::Word;
+use tc_tree::{Word, words_of};
 
-/// Where words stop being a program's.
+/// Where tokens stop being a program's.
 #[derive(Debug, Drop)]
 pub struct Stuck {
-    /// The number of words before the first with which no program goes on.
+    /// The number of tokens before the first with which no program goes on.
     pub place: usize,
     /// The kinds of tokens that are possible there, in the order of [`ALL_KINDS`].
     pub kinds: Vec<TokenKind>,
@@ -21,19 +22,30 @@ pub struct Stuck {
     pub may_end: bool,
 }
 
-/// Where the words stop being a program's, or `None` if they are a program.
-pub fn find_stuck(alloc: Global, words: &[Word]) -> Result<Option<Stuck>, AllocError>
-    ensures { IfOk result (λ stuck. MatchOption stuck (AreProgram words.now) (IsStuck words.now)) }
+/// Where the tokens of a text stop being a program's, or `None` if they are a program.
+pub fn find_stuck(alloc: Global, text: &[u8], tokens: &[Token]) -> Result<Option<Stuck>, AllocError>
+    ensures { IfOk result (λ stuck. MatchOption stuck (AreProgram text.now tokens.now) (IsStuck text.now tokens.now)) }
 {
-    let end = words_left(alloc, words)?;
+    let end = tokens_left(alloc, text, tokens)?;
     match end {
         None => Ok(None),
-        Some(left) => Ok(Some(stuck_at(alloc, words, words.len() - left)?)),
+        Some(left) => {
+            let place = tokens.len() - left;
+            Ok(Some(stuck_at(alloc, text, tokens, place)?))
+        }
     }
 }
 
-/// The number of words left from the first with which no program goes on, or `None` if they are a
+/// The number of tokens left from the first with which no program goes on, or `None` if they are a
 /// program.
+fn tokens_left(alloc: Global, text: &[u8], tokens: &[Token]) -> Result<Option<usize>, AllocError>
+    ensures { IfOk result (IsLeft (words_of 4 text.now tokens.now)) }
+{
+    let words = words_of(alloc, text, tokens)?;
+    words_left(alloc, words.as_slice())
+}
+
+/// The same for words.
 fn words_left(alloc: Global, words: &[Word]) -> Result<Option<usize>, AllocError>
     ensures { IfOk result (IsLeft words.now) }
 {
@@ -44,14 +56,15 @@ fn words_left(alloc: Global, words: &[Word]) -> Result<Option<usize>, AllocError
     }
 }
 
-/// The kinds of tokens that are possible at a place where words stop being a program's.
-fn stuck_at(alloc: Global, words: &[Word], place: usize) -> Result<Stuck, AllocError>
-    requires { IsSyntaxFault 3 words.now place }
-    ensures { IfOk result (IsStuck words.now) }
+/// The kinds of tokens that are possible at a place where tokens stop being a program's.
+fn stuck_at(alloc: Global, text: &[u8], tokens: &[Token], place: usize) -> Result<Stuck, AllocError>
+    requires within { place ≤ length tokens.now }
+    requires fault { IsSyntaxFault 4 (words_of 4 text.now tokens.now) place }
+    ensures { IfOk result (IsStuck text.now tokens.now) }
 {
-    let before = &words[..place];
-    let kinds = kinds_after(alloc, before)?;
-    let may_end = is_program(alloc, before)?;
+    let before = &tokens[..place];
+    let kinds = kinds_after(alloc, text, before)?;
+    let may_end = is_program(alloc, text, before)?;
     Ok(Stuck {
         place,
         kinds,
@@ -59,14 +72,14 @@ fn stuck_at(alloc: Global, words: &[Word], place: usize) -> Result<Stuck, AllocE
     })
 }
 
-/// The kinds of tokens with which some program goes on after these words.
-fn kinds_after(alloc: Global, before: &[Word]) -> Result<Vec<TokenKind>, AllocError>
-    ensures { IfOk result (λ found. ArePicked (GoesOnWith before.now) all_kinds found.items) }
+/// The kinds of tokens with which some program goes on after these.
+fn kinds_after(alloc: Global, text: &[u8], before: &[Token]) -> Result<Vec<TokenKind>, AllocError>
+    ensures { IfOk result (λ found. ArePicked (GoesOnWith text.now before.now) all_kinds found.items) }
 {
     let mut found = Vec::new(alloc);
     let mut rest: &[TokenKind] = &ALL_KINDS;
     while let Some((kind, later)) = first_of(rest) {
-        let goes_on = goes_on_with(alloc, before, kind)?;
+        let goes_on = goes_on_with(alloc, text, before, kind)?;
         push_if(&mut found, kind, goes_on)?;
         rest = later;
     }
@@ -93,47 +106,52 @@ fn push_if(found: &mut Vec<TokenKind>, kind: TokenKind, is_wanted: bool) -> Resu
     Ok(())
 }
 
-/// Whether some program begins with these words and then a token of this kind.
-fn goes_on_with(alloc: Global, before: &[Word], kind: TokenKind) -> Result<bool, AllocError>
-    ensures { IfOk result (λ goes_on. (goes_on ≡ true) ↔ GoesOnWith before.now kind) }
+/// Whether some program begins with these tokens and then one of this kind.
+fn goes_on_with(
+    alloc: Global,
+    text: &[u8],
+    before: &[Token],
+    kind: TokenKind,
+) -> Result<bool, AllocError>
+    ensures { IfOk result (λ goes_on. (goes_on ≡ true) ↔ GoesOnWith text.now before.now kind) }
 {
-    let words = with_sample(alloc, before, kind)?;
-    begins_program(alloc, words.as_slice())
+    let tokens = with_sample(alloc, before, kind)?;
+    begins_program(alloc, text, tokens.as_slice())
 }
 
-/// The words, and then a token of this kind.
-fn with_sample(alloc: Global, before: &[Word], kind: TokenKind) -> Result<Vec<Word>, AllocError>
-    ensures { IfOk result (λ words. words.items ≡ before.now ++ sample kind ∷ []) }
+/// The tokens, and then one of this kind.
+fn with_sample(alloc: Global, before: &[Token], kind: TokenKind) -> Result<Vec<Token>, AllocError>
+    ensures { IfOk result (λ tokens. tokens.items ≡ before.now ++ sample kind ∷ []) }
 {
-    let mut words = before.to_vec(alloc)?;
-    words.push(sample(kind))?;
-    Ok(words)
+    let mut tokens = before.to_vec(alloc)?;
+    tokens.push(sample(kind))?;
+    Ok(tokens)
 }
 
-/// A token of this kind, as the grammar sees it.
-fn sample(kind: TokenKind) -> Word
+/// A token of this kind.
+fn sample(kind: TokenKind) -> Token
     ensures { result ≡ sample kind }
 {
-    Word::new(&Token {
+    Token {
         kind,
         start: 0,
         end: 0,
         place: Place { line: 1, col: 1 },
-    })
+    }
 }
 
-/// Whether some program begins with these words: then none of them is left at their fault.
-fn begins_program(alloc: Global, words: &[Word]) -> Result<bool, AllocError>
-    ensures { IfOk result (λ begins. (begins ≡ true) ↔ Begins 3 words.now) }
+/// Whether some program begins with these tokens: then none of them is left at their fault.
+fn begins_program(alloc: Global, text: &[u8], tokens: &[Token]) -> Result<bool, AllocError>
+    ensures { IfOk result (λ begins. (begins ≡ true) ↔ Begins 4 (words_of 4 text.now tokens.now)) }
 {
-    let left = words_left(alloc, words)?;
+    let left = tokens_left(alloc, text, tokens)?;
     Ok(left.unwrap_or(0) == 0)
 }
 
-/// Whether the words are a program.
-fn is_program(alloc: Global, words: &[Word]) -> Result<bool, AllocError>
-    ensures { IfOk result (λ is. (is ≡ true) ↔ AreProgram words.now) }
+/// Whether the tokens are a program.
+fn is_program(alloc: Global, text: &[u8], tokens: &[Token]) -> Result<bool, AllocError>
+    ensures { IfOk result (λ is. (is ≡ true) ↔ AreProgram text.now tokens.now) }
 {
-    let left = words_left(alloc, words)?;
+    let left = tokens_left(alloc, text, tokens)?;
     Ok(left.is_none())
 }

@@ -2,7 +2,6 @@
 ghost use Rattle.std.specs.Prelude.{◌≡◌, ◌≤◌, length, IfOk};
 ghost use Rattle.tc_lexer.specs.tc_limits.declared.limits.TheConstants.{PROGRAM_BYTES};
 ghost use Rattle.tc_lexer.specs.Text.{AreTokens};
-ghost use Rattle.tc_tree.specs.Words.{words_of};
 ghost use Rattle.tc_parser.specs.Programs.{IsTextFault};
 ghost use Rattle.tc_parser.specs.declared.fault.TextFault.TheVariants.{Parse};
 ghost use Rattle.next_tokens.specs.Texts.{Tells};
@@ -10,14 +9,13 @@ ghost use Rattle.next_tokens.specs.helpers.Searched.{IsSearched};
 
 use crate::stuck::{Stuck, find_stuck};
 use std::alloc::{AllocError, Global};
-use tc_lexer::{Token, Tokens, lex};
+use tc_lexer::{Tokens, lex};
 use tc_parser::{ParseFault, TextFault};
-use tc_tree::Word;
 
 /// The tokens that are possible at the fault of a text, if it is a syntax fault.
 pub fn stuck_of(alloc: Global, text: &[u8], fault: &TextFault) -> Result<Option<Stuck>, AllocError>
     requires size { length text.now ≤ PROGRAM_BYTES }
-    requires fault { IsTextFault 3 text.now fault.now }
+    requires fault { IsTextFault 4 text.now fault.now }
     ensures { IfOk result (Tells text.now fault.now) }
 {
     match fault {
@@ -33,7 +31,7 @@ fn stuck_of_parse(
     fault: &ParseFault,
 ) -> Result<Option<Stuck>, AllocError>
     requires size { length text.now ≤ PROGRAM_BYTES }
-    requires fault { IsTextFault 3 text.now (Parse fault.now) }
+    requires fault { IsTextFault 4 text.now (Parse fault.now) }
     ensures { IfOk result (Tells text.now (Parse fault.now)) }
 {
     match fault {
@@ -55,16 +53,8 @@ fn search(alloc: Global, text: &[u8]) -> Result<Option<Stuck>, AllocError>
 
 /// Where the tokens of a text stop being a program's.
 fn search_tokens(alloc: Global, text: &[u8], tokens: &Tokens) -> Result<Option<Stuck>, AllocError>
-    requires { AreTokens 3 text.now tokens.now }
+    requires { AreTokens 4 text.now tokens.now }
     ensures { IfOk result (IsSearched text.now) }
 {
-    let words = words_of(alloc, tokens.as_slice())?;
-    find_stuck(alloc, words.as_slice())
-}
-
-/// The tokens as the grammar sees them.
-fn words_of(alloc: Global, tokens: &[Token]) -> Result<Vec<Word>, AllocError>
-    ensures { IfOk result (λ words. words.items ≡ words_of tokens.now) }
-{
-    tokens.iter().map(Word::new).collect(alloc)
+    find_stuck(alloc, text, tokens.as_slice())
 }

@@ -11,7 +11,7 @@ use Rattle.std.proofs.lemmas.Option.{none-some, same_Some}
 use Rattle.tc_record.specs.tc_base.Names.{Name, child}
 use Rattle.tc_record.specs.tc_base.declared.moves.Move.{Move}
 use Rattle.tc_record.specs.tc_base.declared.request.Request.{Request}
-use Rattle.tc_record.specs.tc_base.declared.request.Request.TheVariants.{Silent, Write, Exchange, CompareExchange, Release, BeginWait, WakeOne, WakeAll}
+use Rattle.tc_record.specs.tc_base.declared.request.Request.TheVariants.{Silent, Write, Exchange, Release, BeginWait, WakeOne, WakeAll}
 use Rattle.tc_record.specs.tc_base.declared.request.Request.TheVariants.{Start, Await, Finish, Fail}
 use Rattle.tc_record.specs.tc_code.Code.{Code}
 use Rattle.tc_record.specs.tc_code.Run.{Reproduces}
@@ -129,8 +129,6 @@ module _ {B : Type 0} (setting : Setting B) (moves : List Move) (again : Reprodu
           → EndsUsed code log w
       used_by (Write c v) at made used = record { asked = kind.Store; ends = ends (Write c v) kind.Store at refl; used = tt }
       used_by (Exchange c v) at made used = record { asked = kind.Exchange; ends = ends (Exchange c v) kind.Exchange at refl; used = tt }
-      used_by (CompareExchange c e v) at made used =
-          record { asked = kind.Exchange; ends = ends (CompareExchange c e v) kind.Exchange at refl; used = tt }
       used_by (Release m) at made used = record { asked = kind.Unlock m; ends = ends (Release m) (kind.Unlock m) at refl; used = tt }
       used_by (BeginWait c m) at made used = record { asked = kind.Sleep c m; ends = ends (BeginWait c m) (kind.Sleep c m) at refl; used = tt }
       used_by (WakeOne c) at made used = record { asked = kind.Signal c; ends = ends (WakeOne c) (kind.Signal c) at refl; used = tt }

@@ -14,8 +14,8 @@ use Rattle.sym_exec.specs.Executed.{Symbolic}
 use Rattle.sym_exec.specs.Making.{Grows}
 use Rattle.sym_exec.proofs.Grown.{grows_both, stays_within}
 use Rattle.sym_exec.specs.declared.symbolic.Access.{Access}
-use Rattle.sym_exec.specs.declared.symbolic.Cell.{Cell}
-use Rattle.sym_exec.specs.declared.symbolic.Cell.TheVariants.{Fixed, Element}
+use Rattle.sym_exec.specs.tc_code.declared.cell.Cell.{Cell}
+use Rattle.sym_exec.specs.tc_code.declared.cell.Cell.TheVariants.{Fixed, Element}
 use Rattle.lawful_order.specs.order_formula.Worlds.{World}
 use Rattle.lawful_order.specs.Cells.{is_same_cell}
 use Rattle.order_cells.proofs.Needs.{id_made, id_stays, made_there, grows_all}
@@ -37,20 +37,20 @@ module _ (nodes more : List Node) where
   equal_stays a b first second = ap₂ (λ x y. cond (a == b) (Some true) (option_and_then (λ m. option_map (int_eq m) y) x))
       (constant_stays a first) (constant_stays b second)
 
-  pub known_stays : (a b : Cell) → CellIsOf (length nodes) a → CellIsOf (length nodes) b → known_same all a b ≡ known_same nodes a b
+  pub known_stays : (a b : Cell ℕ) → CellIsOf (length nodes) a → CellIsOf (length nodes) b → known_same all a b ≡ known_same nodes a b
   known_stays (Fixed c) (Fixed d) first second = refl
   known_stays (Fixed c) (Element g n j) first second = refl
   known_stays (Element f m i) (Fixed d) first second = refl
   known_stays (Element f m i) (Element g n j) first second = ap (λ o. cond (f == g) o (Some false)) (equal_stays i j first second)
 
-  pub test_stays : (a b : Cell) → CellIsOf (length nodes) a → CellIsOf (length nodes) b → same_test all a b ≡ same_test nodes a b
+  pub test_stays : (a b : Cell ℕ) → CellIsOf (length nodes) a → CellIsOf (length nodes) b → same_test all a b ≡ same_test nodes a b
   test_stays (Fixed c) (Fixed d) first second = refl
   test_stays (Fixed c) (Element g n j) first second = refl
   test_stays (Element f m i) (Fixed d) first second = refl
   test_stays (Element f m i) (Element g n j) first second =
       ap (λ o. cond (is_none (cond (f == g) o (Some false))) (Some (Binary Eq i j)) None) (equal_stays i j first second)
 
-  pub same_stays : (w : World) (a b : Cell) → CellIsOf (length nodes) a → CellIsOf (length nodes) b
+  pub same_stays : (w : World) (a b : Cell ℕ) → CellIsOf (length nodes) a → CellIsOf (length nodes) b
       → is_same_cell all w a b ≡ is_same_cell nodes w a b
   same_stays w (Fixed c) (Fixed d) first second = refl
   same_stays w (Fixed c) (Element g n j) first second = refl
@@ -59,7 +59,7 @@ module _ (nodes more : List Node) where
       ap₂ (λ x y. f == g && int_eq x y) (keep nodes more w.loads i first) (keep nodes more w.loads j second)
 
 -- the id of the test of two cells, once it is made and later
-pub made_later : (nodes later : List Node) (a b : Cell) → CellIsOf (length nodes) a → CellIsOf (length nodes) b
+pub made_later : (nodes later : List Node) (a b : Cell ℕ) → CellIsOf (length nodes) a → CellIsOf (length nodes) b
     → Grows (fold with_node nodes (option_to_list (same_test nodes a b))) later
     → option_map (id_of nodes) (same_test nodes a b) ≡ option_map (id_of later) (same_test later a b)
 made_later nodes later a b first second g = by (same_test nodes a b) g ∙ sym (ap (option_map (id_of later)) stays)
@@ -76,7 +76,7 @@ made_later nodes later a b first second g = by (same_test nodes a b) g ∙ sym (
         ap Some (sym (id_made nodes test) ∙ sym (id_stays (with_node nodes test) later test g (made_there nodes test)))
 
 -- the terms of an access stay terms
-cell_later : (nodes later : List Node) (c : Cell) → Grows nodes later → CellIsOf (length nodes) c → CellIsOf (length later) c
+cell_later : (nodes later : List Node) (c : Cell ℕ) → Grows nodes later → CellIsOf (length nodes) c → CellIsOf (length later) c
 cell_later nodes later (Fixed c) g below = tt
 cell_later nodes later (Element f m i) g below = stays_within nodes later i g below
 

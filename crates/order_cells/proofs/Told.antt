@@ -14,8 +14,8 @@ use Rattle.sym_terms.specs.Values.{value_of, values_of, node_value}
 use Rattle.sym_terms.specs.declared.node.Node.{Node}
 use Rattle.sym_terms.specs.declared.node.Node.TheVariants.{Constant, Symbol, Unary, Binary}
 use Rattle.sym_terms.proofs.Folds.{of_node}
-use Rattle.sym_exec.specs.declared.symbolic.Cell.{Cell}
-use Rattle.sym_exec.specs.declared.symbolic.Cell.TheVariants.{Fixed, Element}
+use Rattle.sym_exec.specs.tc_code.declared.cell.Cell.{Cell}
+use Rattle.sym_exec.specs.tc_code.declared.cell.Cell.TheVariants.{Fixed, Element}
 use Rattle.lawful_order.specs.order_formula.Truth.{passes_at}
 use Rattle.lawful_order.specs.order_formula.Worlds.{World}
 use Rattle.lawful_order.specs.Cells.{is_same_cell}
@@ -56,7 +56,7 @@ module _ (nodes : List Node) (w : World) where
       by false two is = option_and_then_some (λ m. option_map (int_eq m) (constant_of nodes b)) (constant_of nodes a) same is
           (λ m first both. both_told a b m (constant_of nodes b) same first refl both)
 
-  pub told : (a b : Cell) (same : Bool) → known_same nodes a b ≡ Some same → is_same_cell nodes w a b ≡ same
+  pub told : (a b : Cell ℕ) (same : Bool) → known_same nodes a b ≡ Some same → is_same_cell nodes w a b ≡ same
   told (Fixed c) (Fixed d) same is = same_Some (c == d) same is
   told (Fixed c) (Element g n j) same is = same_Some false same is
   told (Element f m i) (Fixed d) same is = same_Some false same is
@@ -70,7 +70,7 @@ module _ (nodes : List Node) (w : World) where
   truth_tells true = refl
   truth_tells false = refl
 
-  pub tested : (a b : Cell) (test : Node) → AreTerms nodes → same_test nodes a b ≡ Some test → Contains nodes test
+  pub tested : (a b : Cell ℕ) (test : Node) → AreTerms nodes → same_test nodes a b ≡ Some test → Contains nodes test
       → is_same_cell nodes w a b ≡ passes_at nodes w (id_of nodes test)
   tested (Fixed c) (Fixed d) test are is there = absurd (none-some test is)
   tested (Fixed c) (Element g n j) test are is there = absurd (none-some test is)
@@ -88,7 +88,7 @@ module _ (nodes : List Node) (w : World) where
       by false is = absurd (none-some test is)
 
 -- there is a test exactly if nothing is known
-pub either : (nodes : List Node) (a b : Cell) → is_some (same_test nodes a b) ≡ is_none (known_same nodes a b)
+pub either : (nodes : List Node) (a b : Cell ℕ) → is_some (same_test nodes a b) ≡ is_none (known_same nodes a b)
 either nodes (Fixed c) (Fixed d) = refl
 either nodes (Fixed c) (Element g n j) = refl
 either nodes (Element f m i) (Fixed d) = refl

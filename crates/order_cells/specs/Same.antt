@@ -4,8 +4,8 @@ use Rattle.std.specs.Ordering.{int_eq}
 use Rattle.int_ops.specs.declared.arith.BinOp.TheVariants.{Eq}
 use Rattle.sym_terms.specs.declared.node.Node.{Node}
 use Rattle.sym_terms.specs.declared.node.Node.TheVariants.{Constant, Binary}
-use Rattle.sym_exec.specs.declared.symbolic.Cell.{Cell}
-use Rattle.sym_exec.specs.declared.symbolic.Cell.TheVariants.{Fixed, Element}
+use Rattle.sym_exec.specs.tc_code.declared.cell.Cell.{Cell}
+use Rattle.sym_exec.specs.tc_code.declared.cell.Cell.TheVariants.{Fixed, Element}
 
 -- the value of a node, if it is a constant
 abbrev pub number_in : Node → Option ℤ
@@ -23,14 +23,14 @@ known_equal nodes a b =
     else option_and_then (λ m. option_map (int_eq m) (constant_of nodes b)) (constant_of nodes a)
 
 -- whether two cells are the same, if known
-abbrev pub known_same : List Node → Cell → Cell → Option Bool
+abbrev pub known_same : List Node → Cell ℕ → Cell ℕ → Option Bool
 known_same nodes (Fixed c) (Fixed d) = Some (c == d)
 known_same nodes (Element f m i) (Element g n j) =
     if f == g then known_equal nodes i j else Some false
 known_same nodes _ _ = Some false
 
 -- the test that the indexes of two elements are equal, if that isn't known
-abbrev pub same_test : List Node → Cell → Cell → Option Node
+abbrev pub same_test : List Node → Cell ℕ → Cell ℕ → Option Node
 same_test nodes (Element f m i) (Element g n j) =
     if is_none (known_same nodes (Element f m i) (Element g n j)) then Some (Binary Eq i j)
     else None

@@ -4,12 +4,12 @@ use Rattle.std.specs.Option.{IfSome}
 use Rattle.sym_terms.specs.declared.node.Node.{Node}
 use Rattle.sym_exec.specs.Executed.{Symbolic}
 use Rattle.sym_exec.specs.declared.symbolic.Access.{Access}
-use Rattle.sym_exec.specs.declared.symbolic.Cell.{Cell}
-use Rattle.sym_exec.specs.declared.symbolic.Cell.TheVariants.{Fixed, Element}
+use Rattle.sym_exec.specs.tc_code.declared.cell.Cell.{Cell}
+use Rattle.sym_exec.specs.tc_code.declared.cell.Cell.TheVariants.{Fixed, Element}
 use Rattle.lawful_order.specs.Reads.{HasAccess}
 
 -- a cell's index is less than `terms`
-abbrev pub CellIsOf : ℕ → Cell → Type 0
+abbrev pub CellIsOf : ℕ → Cell ℕ → Type 0
 CellIsOf terms (Fixed c) = Unit {0}
 CellIsOf terms (Element f m i) = i < terms
 

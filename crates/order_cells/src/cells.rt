@@ -2,7 +2,7 @@
 ghost use Rattle.std.specs.Prelude.{◌≡◌, ℕ, length, fold, option_map, OnOk, OnErr, IfOk};
 ghost use Rattle.std.specs.Option.{option_to_list};
 ghost use Rattle.sym_terms.specs.Terms.{with_node, id_of};
-ghost use Rattle.sym_exec.specs.declared.symbolic.Cell.TheVariants.{Element};
+ghost use Rattle.sym_exec.specs.tc_code.declared.cell.Cell.TheVariants.{Element};
 ghost use Rattle.order_cells.specs.Same as spec;
 ghost use Rattle.order_cells.specs.Terms.{CellIsOf};
 

@@ -17,8 +17,8 @@ use Rattle.clap_system.specs.sym_terms.declared.node.Node.TheVariants.{Constant,
 use Rattle.clap_system.proofs.sym_terms.Growth.{are_with, grows}
 use Rattle.clap_system.specs.sym_exec.Executed.{Executed, Symbolic, executed}
 use Rattle.clap_system.specs.sym_exec.declared.symbolic.Access.{Access}
-use Rattle.clap_system.specs.sym_exec.declared.symbolic.Cell.{Cell}
-use Rattle.clap_system.specs.sym_exec.declared.symbolic.Cell.TheVariants.{Fixed, Element}
+use Rattle.clap_system.specs.tc_code.declared.cell.Cell.{Cell}
+use Rattle.clap_system.specs.tc_code.declared.cell.Cell.TheVariants.{Fixed, Element}
 use Rattle.plan_runs.proofs.sym_laws.Executed.{whole_on}
 use Rattle.clap_system.proofs.sym_events.Terms.{have_terms}
 use Rattle.lawful_terms.specs.lawful_order.Cells.{value_at_start}
@@ -63,7 +63,7 @@ more_terms nodes (n ∷ ns) are names =
     (All-tail (NamesBelow (length nodes)) n ns names))
 
 -- the test of two indexes names their terms
-test_names : (nodes : List Node) (a b : Cell) (n : Node) → CellIsOf (length nodes) a → CellIsOf (length nodes) b → same_test nodes a b ≡ Some n
+test_names : (nodes : List Node) (a b : Cell ℕ) (n : Node) → CellIsOf (length nodes) a → CellIsOf (length nodes) b → same_test nodes a b ≡ Some n
     → NamesBelow (length nodes) n
 test_names nodes (Element f m i) (Element g k j) n one other is =
     subst (NamesBelow (length nodes)) (cond_some (is_none (known_same nodes (Element f m i) (Element g k j))) (Binary Eq i j) n is).1 (one, other)
@@ -80,7 +80,7 @@ module _ (symbolic : Symbolic) (nodes : List Node) (have : HaveTerms nodes symbo
       by (keeps buffered bound true p.first p.second && not (keeps buffered bound false p.first p.second)) is
     where
       by : (b : Bool) → cond b (option_and_then (λ c. same_test nodes c.0 c.1) (cells_of symbolic t p.first p.second)) None ≡ Some n → Names n
-      by true is = option_and_then_some (λ (c : Cell × Cell). same_test nodes c.0 c.1) (cells_of symbolic t p.first p.second) n is (λ c at test.
+      by true is = option_and_then_some (λ (c : Cell ℕ × Cell ℕ). same_test nodes c.0 c.1) (cells_of symbolic t p.first p.second) n is (λ c at test.
           let both = cells_within symbolic nodes have t p.first p.second c at in test_names nodes c.0 c.1 n both.0 both.1 test)
       by false is = absurd (none-some n is)
 

@@ -3,7 +3,7 @@ use Rattle.std.specs.Prelude.{ℕ, List, Option, Some, None, option_map, option_
 use Rattle.std.specs.List.{filter, last_or}
 use Rattle.path_walk.specs.tc_base.Names.{Name}
 use Rattle.path_walk.specs.tc_base.declared.request.Request.{Request}
-use Rattle.path_walk.specs.tc_base.declared.request.Request.TheVariants.{Silent, Read, Write, Exchange, CompareExchange, Bar, Acquire, Release, BeginWait}
+use Rattle.path_walk.specs.tc_base.declared.request.Request.TheVariants.{Silent, Read, Write, Exchange, Bar, Acquire, Release, BeginWait}
 use Rattle.path_walk.specs.tc_base.declared.request.Request.TheVariants.{EndWait, WakeOne, WakeAll, Start, Await, OrderStores, Finish, Fail}
 use Rattle.run_follows.specs.run_history.History.{Deed, Did, same}
 use Rattle.path_walk.specs.declared.event.Event.{Event}
@@ -20,8 +20,7 @@ abbrev pub kind_of : Request → Option Name → Option EventKind
 kind_of Silent other = None
 kind_of (Read c) other = Some kind.Load
 kind_of (Write c v) other = Some kind.Store
-kind_of (Exchange c v) other = Some kind.Exchange
-kind_of (CompareExchange c e v) other = Some kind.Exchange
+kind_of (Exchange c u) other = Some kind.Exchange
 kind_of Bar other = None
 kind_of (Acquire m) other = Some (kind.Lock m)
 kind_of (Release m) other = Some (kind.Unlock m)

@@ -4,11 +4,14 @@ use Rattle.std.specs.Prelude.{if◌then◌else◌}
 use Rattle.std.specs.List.{filter_map, cons_option}
 use Rattle.std.specs.Option.{option_map_or}
 use Rattle.std.specs.Bool.{beq}
+use Rattle.tc_code.specs.int_ops.Updates.{operands_of}
+use Rattle.tc_code.specs.declared.cell.Cell.{Cell}
+use Rattle.tc_code.specs.declared.cell.Cell.TheVariants.{Fixed, Element}
 use Rattle.tc_code.specs.Expr.{Expr, Number, Slot, Unary, Binary}
 use Rattle.tc_code.specs.Code.{Code, line_at}
 use Rattle.tc_code.specs.declared.instr.Instr.{Instr}
-use Rattle.tc_code.specs.declared.instr.Instr.TheVariants.{Set, Load, LoadAt, Store, StoreAt, Inside, Branch, Holds, Lock, Unlock, Sleep, Wake}
-use Rattle.tc_code.specs.declared.instr.Instr.TheVariants.{Signal, Broadcast, Create, Ready, Join, Assert, Nonzero, InRange, Swap, Cas, Fence, Exit}
+use Rattle.tc_code.specs.declared.instr.Instr.TheVariants.{Set, Load, Store, Inside, Branch, Holds, Lock, Unlock, Sleep, Wake}
+use Rattle.tc_code.specs.declared.instr.Instr.TheVariants.{Signal, Broadcast, Create, Ready, Join, Assert, Nonzero, InRange, Modify, Fence, Exit}
 use Rattle.tc_code.specs.Step.{child_number, can_be_joined}
 use Rattle.path_walk.specs.Marks.{Marks, Marked, has_mutex, handle_in}
 use Rattle.path_walk.specs.declared.event.Event.{Event}
@@ -23,11 +26,8 @@ use Rattle.path_walk.specs.declared.event.Link.{Link}
 -- the event kind of an instruction that doesn't fail, if it is an event; a bar is none
 abbrev pub asks : Marks → Instr → Option EventKind
 asks t (Load k c) = Some kind.Load
-asks t (LoadAt k first len i) = Some kind.Load
 asks t (Store c e) = Some kind.Store
-asks t (StoreAt first len i e) = Some kind.Store
-asks t (Swap k c e) = Some kind.Exchange
-asks t (Cas k c e new) = Some kind.Exchange
+asks t (Modify k c u) = Some kind.Exchange
 asks t (Lock m) = Some (kind.Lock m)
 asks t (Unlock m) = Some (kind.Unlock m)
 asks t (Sleep c m) = Some (kind.Sleep c m)
@@ -143,18 +143,21 @@ operators (Slot k) = 0
 operators (Unary op a) = 1 + operators a
 operators (Binary op a b) = 1 + (operators a + operators b)
 
+-- the number of operators in the index of an element
+abbrev pub operators_in : Cell Expr → ℕ
+operators_in (Fixed c) = 0
+operators_in (Element first len i) = operators i
+
 -- the number of operators in all expressions of an instruction
 abbrev pub operators_of : Instr → ℕ
 operators_of (Set k e) = operators e
-operators_of (LoadAt k first len i) = operators i
-operators_of (Store c e) = operators e
-operators_of (StoreAt first len i e) = operators i + operators e
+operators_of (Load k c) = operators_in c
+operators_of (Store c e) = operators_in c + operators e
 operators_of (Inside len i) = operators i
 operators_of (Branch e to) = operators e
 operators_of (Create h f es) = sum (map operators es)
 operators_of (Assert e) = operators e
 operators_of (Nonzero e) = operators e
 operators_of (InRange e) = operators e
-operators_of (Swap k c e) = operators e
-operators_of (Cas k c e new) = operators e + operators new
+operators_of (Modify k c u) = operators_in c + sum (map operators (operands_of u))
 operators_of _ = 0

@@ -7,7 +7,7 @@ pub enum EventKind {
     Load,
     /// To write a cell.
     Store,
-    /// To read and write a cell at once: a `swap` or a `cas`.
+    /// To read and write a cell at once: a `swap`, a `cas` or an `add`.
     Exchange,
     /// To acquire the mutex.
     Lock(u32),

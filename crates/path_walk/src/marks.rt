@@ -73,9 +73,9 @@ impl Marks {
         ensures { result ≡ asks self.now instr.now }
     {
         match instr {
-            Instr::Load { .. } | Instr::LoadAt { .. } => Some(EventKind::Load),
-            Instr::Store { .. } | Instr::StoreAt { .. } => Some(EventKind::Store),
-            Instr::Swap { .. } | Instr::Cas { .. } => Some(EventKind::Exchange),
+            Instr::Load { .. } => Some(EventKind::Load),
+            Instr::Store { .. } => Some(EventKind::Store),
+            Instr::Modify { .. } => Some(EventKind::Exchange),
             Instr::Lock { mutex } => Some(EventKind::Lock(*mutex)),
             Instr::Unlock { mutex } => Some(EventKind::Unlock(*mutex)),
             Instr::Sleep { condition, mutex } => Some(EventKind::Sleep {

@@ -1,12 +1,14 @@
 //! The number of operators in instructions.
 ghost use Rattle.std.specs.Prelude.{◌≡◌, ℕ, map, sum, IfOk, slice_get, slice_index_or};
 ghost use Rattle.tc_code.specs.Code.{instr_at};
+ghost use Rattle.tc_code.specs.int_ops.Updates.{operands_of};
 ghost use Rattle.path_walk.specs.Steps.{step_at, steps_at};
-ghost use Rattle.path_walk.specs.Events.{operators, operators_of};
+ghost use Rattle.path_walk.specs.Events.{operators, operators_in, operators_of};
 ghost use Rattle.path_walk.specs.Paths.{saturated_count};
 
+use int_ops::Update;
 use std::alloc::{AllocError, Global};
-use tc_code::{Code, Expr, Instr, Node};
+use tc_code::{Cell, Code, Expr, Instr, Node};
 
 /// The number of operators in an expression.
 fn in_expr(e: &Expr) -> u64
@@ -32,24 +34,39 @@ fn in_exprs(exprs: &[Expr]) -> u64
     count
 }
 
+/// The number of operators in the index of an element.
+fn in_cell(cell: &Cell<Expr>) -> u64
+    ensures { result ≡ saturated_count (operators_in cell.now) }
+{
+    match cell {
+        Cell::Fixed(_) => 0,
+        Cell::Element { index, .. } => in_expr(index),
+    }
+}
+
+/// The number of operators in the operands of an update.
+fn in_update(update: &Update<Expr>) -> u64
+    ensures { result ≡ saturated_count (sum (map operators (operands_of update.now))) }
+{
+    match update {
+        Update::Swap(value) | Update::Add(value) => in_expr(value),
+        Update::Cas(expected, value) => in_expr(expected).saturating_add(in_expr(value)),
+    }
+}
+
 /// The number of operators in an instruction's expressions.
 fn in_instr(instr: &Instr) -> u64
     ensures { result ≡ saturated_count (operators_of instr.now) }
 {
     match instr {
-        Instr::Set { value, .. } | Instr::Store { value, .. } | Instr::Swap { value, .. } => {
-            in_expr(value)
-        }
-        Instr::LoadAt { index, .. } | Instr::Inside { index, .. } => in_expr(index),
-        Instr::StoreAt { index, value, .. } => in_expr(index).saturating_add(in_expr(value)),
+        Instr::Set { value, .. } => in_expr(value),
+        Instr::Load { cell, .. } => in_cell(cell),
+        Instr::Store { cell, value } => in_cell(cell).saturating_add(in_expr(value)),
+        Instr::Modify { cell, update, .. } => in_cell(cell).saturating_add(in_update(update)),
+        Instr::Inside { index, .. } => in_expr(index),
         Instr::Branch { condition, .. } => in_expr(condition),
         Instr::Create { arguments, .. } => in_exprs(arguments.as_slice()),
         Instr::Assert(e) | Instr::Nonzero(e) | Instr::InRange(e) => in_expr(e),
-        Instr::Cas {
-            expected,
-            value,
-            ..
-        } => in_expr(expected).saturating_add(in_expr(value)),
         _ => 0,
     }
 }

@@ -7,7 +7,7 @@ use Rattle.std.proofs.lemmas.Option.{same_Some}
 use Rattle.condition_order.specs.list_laws.Lists.{is_nil}
 use Rattle.condition_order.specs.tc_base.Names.{Name}
 use Rattle.condition_order.specs.tc_base.declared.request.Request.{Request}
-use Rattle.condition_order.specs.tc_base.declared.request.Request.TheVariants.{Silent, Read, Write, Exchange, CompareExchange, Bar, Acquire, Release, BeginWait}
+use Rattle.condition_order.specs.tc_base.declared.request.Request.TheVariants.{Silent, Read, Write, Exchange, Bar, Acquire, Release, BeginWait}
 use Rattle.condition_order.specs.tc_base.declared.request.Request.TheVariants.{EndWait, WakeOne, WakeAll, Start, Await, OrderStores, Finish, Fail}
 use Rattle.condition_order.specs.store_buffers.Pending.{stores}
 use Rattle.sym_steps.specs.run_history.History.{Deed, pending}
@@ -80,7 +80,6 @@ module _ {B : Type 0} (setting : Setting B) (nodes : List Node) (w : World) (g :
   event_may (Write c v) e = refl
   event_may Fail e = refl
   event_may (Exchange c v) e = and_from _ _ (drained kind.Exchange (same_Some kind.Exchange x.kind e) refl) refl
-  event_may (CompareExchange c a v) e = and_from _ _ (drained kind.Exchange (same_Some kind.Exchange x.kind e) refl) refl
   event_may (Acquire m) e =
       let same = same_Some (kind.Lock m) x.kind e in
       and_from _ _ (drained (kind.Lock m) same refl) (free m (kind.Lock m) same refl)

@@ -124,11 +124,17 @@ fn is_operator(sign: Sign) -> bool {
 /// The tokens that are possible: groups that are possible whole, then the other kinds, and the end
 /// of the text.
 pub(crate) fn expected_words(alloc: Global, stuck: &Stuck) -> Result<String, AllocError> {
-    let kinds = stuck.kinds.as_slice();
     let mut words = Vec::new(alloc);
+    push_all(alloc, &mut words, stuck)?;
+    joined(alloc, words.as_slice())
+}
+
+/// Adds the words for each token that is possible.
+fn push_all(alloc: Global, words: &mut Vec<String>, stuck: &Stuck) -> Result<(), AllocError> {
+    let kinds = stuck.kinds.as_slice();
     for group in GROUPS.iter() {
         if group.is_whole(kinds) {
-            words.push(String::from_str(alloc, group.words())?)?;
+            push_words(alloc, words, group.words())?;
         }
     }
     for kind in kinds {
@@ -137,9 +143,15 @@ pub(crate) fn expected_words(alloc: Global, stuck: &Stuck) -> Result<String, All
         }
     }
     if stuck.may_end {
-        words.push(String::from_str(alloc, "the end of the text")?)?;
+        push_words(alloc, words, "the end of the text")
+    } else {
+        Ok(())
     }
-    joined(alloc, words.as_slice())
+}
+
+/// Adds words.
+fn push_words(alloc: Global, all: &mut Vec<String>, words: &str) -> Result<(), AllocError> {
+    Ok(all.push(String::from_str(alloc, words)?)?)
 }
 
 /// Whether a kind is in a group that is possible whole.

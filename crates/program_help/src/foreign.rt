@@ -16,11 +16,11 @@ const NO_PRINT: &str = "a program prints nothing: store what you want to see, or
 const NO_TRUTH: &str = "there is no such name: write 1 for true, and 0 for false";
 
 const ATOMIC: &str =
-    "each load and each store of an `int` is atomic; `swap`, `cas`, `fence()` and `stbar()` do the rest";
+    "each load and each store of an `int` is atomic; `swap`, `cas`, `add`, `fence()` and `stbar()` do the rest";
 
 /// Words that people write from habit, or the beginnings of some with a `*` after them, and what to
 /// write instead.
-static WORDS: [(&str, &str); 56] = [
+static WORDS: [(&str, &str); 57] = [
     (
         "for",
         "there is no `for`: write `i = 0; while (i < n) { .. i = i + 1; }`",
@@ -104,6 +104,10 @@ static WORDS: [(&str, &str); 56] = [
     (
         "atomic_compare_exchange*",
         "write `r = cas(x, old, new);`, where r is an int of the body",
+    ),
+    (
+        "atomic_fetch_add*",
+        "write `r = add(x, e);`, where r is an int of the body",
     ),
     ("atomic_thread_fence", "write `fence();`"),
     ("atomic_*", ATOMIC),

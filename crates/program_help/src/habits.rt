@@ -44,13 +44,14 @@ const ARRAY_VALUE: &str = "an array has no first values: each element begins as 
 const FIRST_VALUE: &str =
     "a global begins as a number, with or without `-`: compute anything else in main";
 
-const ELEMENT: &str = "`swap` and `cas` work on a variable, not on an element of an array";
-
 const CAS: &str =
     "`cas` gives the old value: write `r = cas(x, old, new);`, where r is an int of the body";
 
 const SWAP: &str =
     "`swap` gives the old value: write `r = swap(x, new);`, where r is an int of the body";
+
+const ADD: &str =
+    "`add` gives the old value: write `r = add(x, e);`, where r is an int of the body";
 
 const CREATE: &str = "`create` gives a tid: declare `tid t;`, and write `t = create f(1);`";
 
@@ -111,8 +112,6 @@ static HABITS: [(&str, &str); 77] = [
     ("int NAME = @_", FIRST_VALUE),
     ("int NAME = _ @_", FIRST_VALUE),
     ("int NAME = - _ @_", FIRST_VALUE),
-    ("cas ( NAME @[", ELEMENT),
-    ("swap ( NAME @[", ELEMENT),
     ("lock ( NAME @[", MUTEX_ARRAY),
     ("unlock ( NAME @[", MUTEX_ARRAY),
     ("signal ( NAME @[", MUTEX_ARRAY),
@@ -130,9 +129,14 @@ static HABITS: [(&str, &str); 77] = [
         "] = @swap",
         "`swap` gives its value to an int of the body: write `r = swap(x, new);`, then `a[i] = r;`",
     ),
+    (
+        "] = add @(",
+        "`add` gives its value to an int of the body: write `r = add(x, e);`, then `a[i] = r;`",
+    ),
     ("] = @create", HANDLE_ARRAY),
     ("@cas", CAS),
     ("@swap", SWAP),
+    ("add @(", ADD),
     ("@create", CREATE),
     ("( NAME @=", COMPARE),
     ("&& NAME @=", COMPARE),

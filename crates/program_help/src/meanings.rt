@@ -56,7 +56,7 @@ impl Wanted {
     pub(crate) fn hint(self, meaning: Meaning) -> Option<&'static str> {
         match (self, meaning) {
             (Wanted::Global, _) => Some(
-                "`swap` and `cas` work on a global int, not on an array or a local",
+                "`swap`, `cas` and `add` work on a global int or on an element, as in `swap(a[i], 1)`",
             ),
             (Wanted::Local, Meaning::Global) => {
                 Some("let an int of the body take the old value, and store that")
@@ -91,11 +91,17 @@ pub(crate) fn wanted_at(source: Source, number: usize) -> Wanted {
         if let Some(wanted) = wanted_in(source.before(number, 2)) {
             return wanted;
         }
+        if source.before(number, 2) == "add" && source.before(number, 3) == "=" {
+            return Wanted::Global;
+        }
     }
     if source.before(number, 1) == "," && source.before(number, 4) == "wait" {
         return Wanted::Mutex;
     }
     if source.after(number, 1) == "=" {
+        if source.after(number, 2) == "add" && source.after(number, 3) == "(" {
+            return Wanted::Local;
+        }
         return wanted_left(source.after(number, 2));
     }
     Wanted::Int

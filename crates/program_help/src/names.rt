@@ -56,22 +56,35 @@ impl<'a> Fault<'a> {
     }
 
     /// Explains a name without a declaration.
-    pub(crate) fn unknown(&self, alloc: Global) -> Result<String, AllocError> {
+    pub(crate) fn push_unknown(&self, out: &mut String) -> Result<(), AllocError> {
         let name = self.name();
-        let mut lines = format!(in alloc; "found: the name `{name}`, which isn't declared\n")?;
-        if let Some(hint) = foreign_hint(self.source.word(self.number)) {
-            lines.push_str(format!(in alloc; "hint: {hint}\n")?.as_str())?;
+        writeln!(out, "found: the name `{name}`, which isn't declared")?;
+        if let Some(hint) = foreign_hint(name) {
+            writeln!(out, "hint: {hint}")
         } else if let Some(other) = self.known.iter().find(|known| self.is_named(known)) {
-            let line = other.name.place.line;
-            let owner = self.owner(alloc, other.scope)?;
-            let hint = format!(in alloc;
-                "hint: the `{name}` of line {line} is known only in {owner}\n"
-            )?;
-            lines.push_str(hint.as_str())?;
-        } else if let Some(near) = self.nearest(alloc, name)? {
-            lines.push_str(format!(in alloc; "hint: did you mean `{near}`?\n")?.as_str())?;
+            self.push_elsewhere(out, other)
+        } else {
+            self.push_nearest(out)
         }
-        Ok(lines)
+    }
+
+    /// Adds where the name is known.
+    fn push_elsewhere(&self, out: &mut String, other: &Known) -> Result<(), AllocError> {
+        let name = self.name();
+        let line = other.name.place.line;
+        let owner = self.owner(*out.allocator(), other.scope)?;
+        writeln!(
+            out,
+            "hint: the `{name}` of line {line} is known only in {owner}"
+        )
+    }
+
+    /// Adds the known name that is spelled most like this one, if one is close.
+    fn push_nearest(&self, out: &mut String) -> Result<(), AllocError> {
+        match self.nearest(*out.allocator(), self.name())? {
+            Some(near) => writeln!(out, "hint: did you mean `{near}`?"),
+            None => Ok(()),
+        }
     }
 
     /// A scope in words.
@@ -105,50 +118,56 @@ impl<'a> Fault<'a> {
     }
 
     /// Explains a name that is declared twice.
-    pub(crate) fn twice(&self, alloc: Global) -> Result<String, AllocError> {
+    pub(crate) fn push_twice(&self, out: &mut String) -> Result<(), AllocError> {
         let name = self.name();
+        match self.known_in(self.scope_of_second()) {
+            Some(first) => {
+                let line = first.name.place.line;
+                let meaning = meaning_words(*out.allocator(), first.meaning)?;
+                writeln!(
+                    out,
+                    "found: the name `{name}`, already declared in line {line}, as {meaning}"
+                )
+            }
+            None => writeln!(out, "found: the name `{name}`, already declared"),
+        }
+    }
+
+    /// The scope of the declaration at the name's place.
+    fn scope_of_second(&self) -> Scope {
         let mut scope = Scope::Whole;
         for known in self.known.iter() {
             if known.name.place == self.place {
                 scope = known.scope;
             }
         }
-        match self.known_in(scope) {
-            Some(first) => {
-                let line = first.name.place.line;
-                let meaning = meaning_words(alloc, first.meaning)?;
-                format!(in alloc;
-                    "found: the name `{name}`, already declared in line {line}, as {meaning}\n"
-                )
-            }
-            None => format!(in alloc; "found: the name `{name}`, already declared\n"),
-        }
+        scope
     }
 
     /// Explains a name of another kind than its use asks for, or the length 0.
-    pub(crate) fn kind(&self, alloc: Global) -> Result<String, AllocError> {
+    pub(crate) fn push_kind(&self, out: &mut String) -> Result<(), AllocError> {
         let Some(known) = self.known_in(self.scope).or(self.known_in(Scope::Whole)) else {
-            return String::from_str(alloc, "found: the length 0\nexpected: a number from 1 on\n");
+            return out.push_str("found: the length 0\nexpected: a number from 1 on\n");
         };
         let wanted = wanted_at(self.source, self.number);
-        let is = self.declared(alloc, known)?;
+        let is = self.declared(*out.allocator(), known)?;
         let words = wanted.words();
-        let mut lines = format!(in alloc; "found: {is}\nexpected: {words}\n")?;
-        if let Some(hint) = wanted.hint(known.meaning) {
-            lines.push_str(format!(in alloc; "hint: {hint}\n")?.as_str())?;
+        writeln!(out, "found: {is}\nexpected: {words}")?;
+        match wanted.hint(known.meaning) {
+            Some(hint) => writeln!(out, "hint: {hint}"),
+            None => Ok(()),
         }
-        Ok(lines)
     }
 
     /// Explains a create whose number of arguments isn't that of the thread's parameters.
-    pub(crate) fn arguments(&self, alloc: Global) -> Result<String, AllocError> {
+    pub(crate) fn push_arguments(&self, out: &mut String) -> Result<(), AllocError> {
         let Some(known) = self.known_in(Scope::Whole) else {
-            return Ok(String::new(alloc));
+            return Ok(());
         };
         let given = self.given();
-        let is = self.declared(alloc, known)?;
+        let is = self.declared(*out.allocator(), known)?;
         let plural = if given == 1 { "" } else { "s" };
-        format!(in alloc; "found: {given} argument{plural} for {is}\n")
+        writeln!(out, "found: {given} argument{plural} for {is}")
     }
 
     /// A name, what it means, and where it is declared.

@@ -10,7 +10,7 @@ use tc_lexer::{Keyword, TokenKind, lex};
 use tc_limits::limits::{
     BRACKETS, CELLS, CONDITIONS, DEPTH, EVENTS, MUTEXES, OPERATORS, PROGRAM_BYTES, STRETCH, THREADS,
 };
-use tc_tree::{Global, Initial, Name, Program};
+use tc_tree::{Global, Initial, Name, Program, Thread};
 
 /// Describes a program: its globals, its threads, and its limits.
 pub fn describe(
@@ -29,94 +29,96 @@ pub fn describe(
         tokens: tokens.as_slice(),
     };
     let mut out = String::new(alloc);
-    out.push_str("globals\n")?;
-    for global in &program.globals {
-        push_global(alloc, &mut out, text, global)?;
-    }
-    out.push_str("threads\n")?;
-    push_threads(alloc, &mut out, text, program, code)?;
-    push_main(alloc, &mut out, source, code)?;
-    out.push_str("limits\n")?;
-    push_text_limits(alloc, &mut out, source)?;
-    push_code_limits(alloc, &mut out, code)?;
+    push_program(&mut out, source, program, code)?;
     Ok(out)
 }
 
-/// Adds a row with the number of its line.
-fn push_row(alloc: Heap, out: &mut String, line: u32, words: &str) -> Result<(), AllocError> {
-    out.push_str(format!(in alloc; "  line {line}: {words}\n")?.as_str())
-}
-
-/// Adds a global.
-fn push_global(
-    alloc: Heap,
+/// Adds the parts of a program.
+fn push_program(
     out: &mut String,
-    text: &[u8],
-    global: &Global,
-) -> Result<(), AllocError> {
-    let (name, words) = match global {
-        Global::Int(name, initial) => (name, int_words(alloc, text, name, initial)?),
-        Global::Array(name, length) => {
-            let (word, length) = (word_of(text, name), length.value);
-            (name, format!(in alloc; "int {word}[{length}]")?)
-        }
-        Global::Mutex(name) => {
-            let word = word_of(text, name);
-            (name, format!(in alloc; "mutex {word}")?)
-        }
-        Global::Condition(name) => {
-            let word = word_of(text, name);
-            (name, format!(in alloc; "cond {word}")?)
-        }
-    };
-    push_row(alloc, out, name.place.line, words.as_str())
-}
-
-/// An int with its first value.
-fn int_words(
-    alloc: Heap,
-    text: &[u8],
-    name: &Name,
-    initial: &Initial,
-) -> Result<String, AllocError> {
-    let word = word_of(text, name);
-    match initial {
-        Initial::Zero => format!(in alloc; "int {word} = 0"),
-        Initial::Plain(number) => {
-            let value = number.value;
-            format!(in alloc; "int {word} = {value}")
-        }
-        Initial::Negated(number) => {
-            let value = number.value;
-            format!(in alloc; "int {word} = -{value}")
-        }
-    }
-}
-
-/// Adds the threads.
-fn push_threads(
-    alloc: Heap,
-    out: &mut String,
-    text: &[u8],
+    source: Source,
     program: &Program,
     code: &Code,
 ) -> Result<(), AllocError> {
+    out.push_str("globals\n")?;
+    for global in &program.globals {
+        push_global(out, source.text, global)?;
+    }
+    out.push_str("threads\n")?;
     for (thread, function) in program.threads.iter().zip(code.functions().iter()) {
-        let name = word_of(text, &thread.name);
-        let mut words = format!(in alloc; "{name}(")?;
-        for (i, parameter) in thread.parameters.iter().enumerate() {
-            words.push_str(if i > 0 { ", int " } else { "int " })?;
-            words.push_str(word_of(text, parameter))?;
+        push_thread(out, source.text, thread, function)?;
+    }
+    push_main(out, source, code)?;
+    out.push_str("limits\n")?;
+    push_text_limits(out, source)?;
+    push_code_limits(out, code)
+}
+
+/// The name of a global.
+fn name_of(global: &Global) -> &Name {
+    match global {
+        Global::Int(name, _)
+        | Global::Array(name, _)
+        | Global::Mutex(name)
+        | Global::Condition(name) => name,
+    }
+}
+
+/// Adds a global, with the number of its line.
+fn push_global(out: &mut String, text: &[u8], global: &Global) -> Result<(), AllocError> {
+    let name = name_of(global);
+    let (line, word) = (name.place.line, word_of(text, name));
+    match global {
+        Global::Int(_, initial) => {
+            let (sign, value) = value_of(initial);
+            writeln!(out, "  line {line}: int {word} = {sign}{value}")
         }
-        words.push_str("): ")?;
-        words.push_str(function_words(alloc, function)?.as_str())?;
-        push_row(alloc, out, thread.name.place.line, words.as_str())?;
+        Global::Array(_, length) => {
+            let length = length.value;
+            writeln!(out, "  line {line}: int {word}[{length}]")
+        }
+        Global::Mutex(_) => writeln!(out, "  line {line}: mutex {word}"),
+        Global::Condition(_) => writeln!(out, "  line {line}: cond {word}"),
+    }
+}
+
+/// The first value of an int: its sign, and its number.
+fn value_of(initial: &Initial) -> (&'static str, i32) {
+    match initial {
+        Initial::Zero => ("", 0),
+        Initial::Plain(number) => ("", number.value),
+        Initial::Negated(number) => ("-", number.value),
+    }
+}
+
+/// Adds a thread, with the number of its line.
+fn push_thread(
+    out: &mut String,
+    text: &[u8],
+    thread: &Thread,
+    function: &Func,
+) -> Result<(), AllocError> {
+    let line = thread.name.place.line;
+    let name = word_of(text, &thread.name);
+    write!(out, "  line {line}: {name}(")?;
+    push_parameters(out, text, thread.parameters.as_slice())?;
+    out.push_str("): ")?;
+    push_function(out, function)
+}
+
+/// Adds the parameters of a thread.
+fn push_parameters(out: &mut String, text: &[u8], names: &[Name]) -> Result<(), AllocError> {
+    let mut before = "int";
+    for name in names {
+        let word = word_of(text, name);
+        write!(out, "{before} {word}")?;
+        before = ", int";
     }
     Ok(())
 }
 
-/// Adds main, which is the last function.
-fn push_main(alloc: Heap, out: &mut String, source: Source, code: &Code) -> Result<(), AllocError> {
+/// Adds main, which is the last function, with the number of its line.
+fn push_main(out: &mut String, source: Source, code: &Code) -> Result<(), AllocError> {
     let Some(main) = code.functions().last() else {
         return Ok(());
     };
@@ -126,19 +128,21 @@ fn push_main(alloc: Heap, out: &mut String, source: Source, code: &Code) -> Resu
             line = token.place.line;
         }
     }
-    let mut words = String::from_str(alloc, "main: ")?;
-    words.push_str(function_words(alloc, main)?.as_str())?;
-    push_row(alloc, out, line, words.as_str())
+    write!(out, "  line {line}: main: ")?;
+    push_function(out, main)
 }
 
-/// The number of instructions of each kind in a function.
-fn function_words(alloc: Heap, function: &Func) -> Result<String, AllocError> {
+/// Adds the number of instructions of each kind in a function.
+fn push_function(out: &mut String, function: &Func) -> Result<(), AllocError> {
     let instrs = function.instrs.as_slice();
     let whole = instrs.len();
     let branches = instrs.iter().filter(|it| is_branch(it)).count();
     let sites = instrs.iter().filter(|it| is_site(it)).count();
     let creates = instrs.iter().filter(|it| is_create(it)).count();
-    format!(in alloc; "instructions {whole}, branches {branches}, sites {sites}, creates {creates}")
+    writeln!(
+        out,
+        "instructions {whole}, branches {branches}, sites {sites}, creates {creates}"
+    )
 }
 
 fn is_branch(instr: &Instr) -> bool {
@@ -163,58 +167,41 @@ fn is_site(instr: &Instr) -> bool {
 }
 
 /// Adds how near the text is to its limits.
-fn push_text_limits(alloc: Heap, out: &mut String, source: Source) -> Result<(), AllocError> {
-    push_limit(
-        alloc,
-        out,
-        "bytes",
-        source.text.len(),
-        PROGRAM_BYTES as usize,
-    )?;
-    push_limit(
-        alloc,
-        out,
-        "brackets open at once",
-        most_open(source),
-        BRACKETS,
-    )?;
-    push_limit(
-        alloc,
-        out,
-        "tokens in a row without `;`, `{` or `}`",
-        longest_stretch(source),
-        STRETCH,
-    )
+fn push_text_limits(out: &mut String, source: Source) -> Result<(), AllocError> {
+    let stretch = "tokens in a row without `;`, `{` or `}`";
+    let counts = [
+        ("bytes", source.text.len(), PROGRAM_BYTES as usize),
+        ("brackets open at once", most_open(source), BRACKETS),
+        (stretch, longest_stretch(source), STRETCH),
+    ];
+    push_limits(out, &counts)
 }
 
 /// Adds how near the code is to its limits, and those of a run.
-fn push_code_limits(alloc: Heap, out: &mut String, code: &Code) -> Result<(), AllocError> {
-    push_limit(alloc, out, "cells", code.memory().len(), CELLS)?;
-    push_limit(alloc, out, "mutexes", code.mutexes() as usize, MUTEXES)?;
-    push_limit(
-        alloc,
+fn push_code_limits(out: &mut String, code: &Code) -> Result<(), AllocError> {
+    let counts = [
+        ("cells", code.memory().len(), CELLS),
+        ("mutexes", code.mutexes() as usize, MUTEXES),
+        ("conditions", code.conditions() as usize, CONDITIONS),
+    ];
+    push_limits(out, &counts)?;
+    writeln!(
         out,
-        "conditions",
-        code.conditions() as usize,
-        CONDITIONS,
+        "  in a run: at most {THREADS} threads, created at most {DEPTH} deep"
     )?;
-    let run = format!(in alloc;
-        "  in a run: at most {THREADS} threads, created at most {DEPTH} deep\n"
-    )?;
-    out.push_str(run.as_str())?;
-    let solved = format!(in alloc;
-        "  in a log to be solved: at most {EVENTS} events and {OPERATORS} operators\n"
-    )?;
-    out.push_str(solved.as_str())
+    writeln!(
+        out,
+        "  in a log to be solved: at most {EVENTS} events and {OPERATORS} operators"
+    )
 }
 
-/// Adds a count with its limit.
-fn push_limit(
-    alloc: Heap,
+/// Adds counts, each with its limit.
+fn push_limits(
     out: &mut String,
-    what: &str,
-    number: usize,
-    limit: usize,
+    counts: &[(&'static str, usize, usize)],
 ) -> Result<(), AllocError> {
-    out.push_str(format!(in alloc; "  {what}: {number} of {limit}\n")?.as_str())
+    for (what, number, limit) in counts {
+        writeln!(out, "  {what}: {number} of {limit}")?;
+    }
+    Ok(())
 }

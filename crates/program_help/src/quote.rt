@@ -10,26 +10,33 @@ const BEFORE: usize = 60;
 const WIDTH: usize = 100;
 
 /// Adds the line of a place with its number, and a caret under the place.
-pub(crate) fn push_quote(
-    alloc: Global,
-    out: &mut String,
-    text: &[u8],
-    place: Place,
-) -> Result<(), AllocError> {
+pub(crate) fn push_quote(out: &mut String, text: &[u8], place: Place) -> Result<(), AllocError> {
+    let alloc = *out.allocator();
     let line = line_at(text, place.line);
     let column = (place.col as usize).saturating_sub(1).min(line.len());
     let before = legible(alloc, line.get(..column).unwrap_or(line))?.len();
     let hidden = before.saturating_sub(BEFORE);
-    let number = place.line;
-    let head = format!(in alloc; "{number} | ")?;
-    out.push_str(head.as_str())?;
-    for c in legible(alloc, line)?.chars().skip(hidden).take(WIDTH) {
+    let start = out.len();
+    write!(out, "{} ", place.line)?;
+    let width = out.len().saturating_sub(start);
+    push_line(out, legible(alloc, line)?.as_str(), hidden)?;
+    push_caret(out, width, before.saturating_sub(hidden))
+}
+
+/// Adds a line from its first character that is shown.
+fn push_line(out: &mut String, line: &str, first: usize) -> Result<(), AllocError> {
+    out.push_str("| ")?;
+    for c in line.chars().skip(first).take(WIDTH) {
         out.push(c)?;
     }
-    out.push('\n')?;
-    push_blanks(out, head.len().saturating_sub(2))?;
+    out.push('\n')
+}
+
+/// Adds a caret below a line: after the width of its number, and `before` characters of it.
+fn push_caret(out: &mut String, width: usize, before: usize) -> Result<(), AllocError> {
+    push_blanks(out, width)?;
     out.push_str("| ")?;
-    push_blanks(out, before.saturating_sub(hidden))?;
+    push_blanks(out, before)?;
     out.push_str("^\n")
 }
 

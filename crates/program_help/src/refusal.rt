@@ -11,10 +11,11 @@ use crate::quote::{legible, push_quote, rest_at};
 use crate::source::Source;
 use next_tokens::Stuck;
 use std::alloc::{AllocError, Global};
-use tc_lexer::{LexFault, Place, Token, TokenKind, lex};
+use std::mem::drop;
+use tc_lexer::{LexFault, Place, TokenKind, lex};
 use tc_parser::{ParseFault, TextFault, What};
 use tc_syntax::read_program;
-use tc_tree::{Program, Word};
+use tc_tree::{Program, words_of};
 
 /// Explains this fault of a text: the line with a caret, the token that was found, the tokens that
 /// are possible there, and a hint. For a syntax fault, `stuck` says where the words stop being a
@@ -27,42 +28,46 @@ pub fn explain(
 ) -> Result<String, AllocError>
     requires { length text.now ≤ PROGRAM_BYTES }
 {
+    let mut out = String::from_str(alloc, "\n")?;
+    push_fault(&mut out, text, fault, stuck)?;
+    Ok(out)
+}
+
+/// Adds why a text isn't a program.
+fn push_fault(
+    out: &mut String,
+    text: &[u8],
+    fault: &TextFault,
+    stuck: Option<&Stuck>,
+) -> Result<(), AllocError>
+    requires { length text.now ≤ PROGRAM_BYTES }
+{
     match fault {
-        TextFault::Lex(fault) => lex_lines(alloc, text, fault),
+        TextFault::Lex(fault) => push_lex(out, text, fault),
         TextFault::Parse(fault) => {
-            let Ok(tokens) = lex(alloc, text) else {
+            let Ok(tokens) = lex(*out.allocator(), text) else {
                 return Err(AllocError);
             };
             let source = Source {
                 text,
                 tokens: tokens.as_slice(),
             };
-            parse_lines(alloc, source, fault, stuck)
+            push_parse(out, source, fault, stuck)
         }
     }
 }
 
 /// Explains a text that has no tokens.
-fn lex_lines(alloc: Global, text: &[u8], fault: &LexFault) -> Result<String, AllocError> {
+fn push_lex(out: &mut String, text: &[u8], fault: &LexFault) -> Result<(), AllocError> {
     let place = match fault {
         LexFault::BadByte(place) | LexFault::Number(place) | LexFault::OpenComment(place) => *place,
         LexFault::Memory => return Err(AllocError),
     };
     let rest = rest_at(text, place);
-    let mut out = String::from_str(alloc, "\n")?;
-    push_quote(alloc, &mut out, text, place)?;
-    push_line(
-        alloc,
-        &mut out,
-        "found",
-        found_bytes(alloc, fault, rest)?.as_str(),
-    )?;
-    push_hint(
-        alloc,
-        &mut out,
-        kind_of_file(text).or(bytes_hint(fault, rest)),
-    )?;
-    Ok(out)
+    push_quote(out, text, place)?;
+    let found = found_bytes(*out.allocator(), fault, rest)?;
+    push_line(out, "found", found.as_str())?;
+    push_hint(out, kind_of_file(text).or(bytes_hint(fault, rest)))
 }
 
 /// The bytes with which no token begins, in words.
@@ -89,51 +94,39 @@ fn word_length(rest: &[u8]) -> usize {
 }
 
 /// Explains a text whose tokens aren't a program.
-fn parse_lines(
-    alloc: Global,
+fn push_parse(
+    out: &mut String,
     source: Source,
     fault: &ParseFault,
     stuck: Option<&Stuck>,
-) -> Result<String, AllocError> {
-    let mut out = String::from_str(alloc, "\n")?;
+) -> Result<(), AllocError> {
     match fault {
         ParseFault::Syntax(place) => {
-            push_quote(alloc, &mut out, source.text, *place)?;
-            push_stuck(alloc, &mut out, source, stuck)?;
+            push_quote(out, source.text, *place)?;
+            push_stuck(out, source, stuck)
         }
-        ParseFault::Count(what, _) => push_count(alloc, &mut out, source, *what)?,
+        ParseFault::Count(what, _) => push_count(out, source, *what),
         ParseFault::Unknown(place)
         | ParseFault::Twice(place)
         | ParseFault::Kind(place)
         | ParseFault::Arguments(place) => {
-            push_quote(alloc, &mut out, source.text, *place)?;
-            push_name(alloc, &mut out, source, fault, *place)?;
+            push_quote(out, source.text, *place)?;
+            push_name(out, source, fault, *place)
         }
-        ParseFault::Memory => return Err(AllocError),
+        ParseFault::Memory => Err(AllocError),
     }
-    Ok(out)
 }
 
 /// Adds the token with which no program goes on, the tokens that are possible there, and a hint.
-fn push_stuck(
-    alloc: Global,
-    out: &mut String,
-    source: Source,
-    stuck: Option<&Stuck>,
-) -> Result<(), AllocError> {
+fn push_stuck(out: &mut String, source: Source, stuck: Option<&Stuck>) -> Result<(), AllocError> {
     let Some(stuck) = stuck else {
         return Ok(());
     };
-    let found = found_token(alloc, source, stuck.place)?;
-    push_line(alloc, out, "found", found.as_str())?;
-    push_line(
-        alloc,
-        out,
-        "expected",
-        expected_words(alloc, stuck)?.as_str(),
-    )?;
+    let found = found_token(*out.allocator(), source, stuck.place)?;
+    push_line(out, "found", found.as_str())?;
+    let expected = expected_words(*out.allocator(), stuck)?;
+    push_line(out, "expected", expected.as_str())?;
     push_hint(
-        alloc,
         out,
         kind_of_file(source.text).or(syntax_hint(source, stuck)),
     )
@@ -153,42 +146,43 @@ fn found_token(alloc: Global, source: Source, number: usize) -> Result<String, A
 }
 
 /// Adds where a text passes a limit, and a hint.
-fn push_count(
-    alloc: Global,
-    out: &mut String,
-    source: Source,
-    what: What,
-) -> Result<(), AllocError> {
+fn push_count(out: &mut String, source: Source, what: What) -> Result<(), AllocError> {
     if let Some(token) = count_token(source, what) {
-        push_quote(alloc, out, source.text, token.place)?;
+        push_quote(out, source.text, token.place)?;
     }
-    push_hint(alloc, out, Some(count_hint(what)))
+    push_hint(out, Some(count_hint(what)))
 }
 
 /// Adds what is wrong with the name at a place.
 fn push_name(
-    alloc: Global,
     out: &mut String,
     source: Source,
     fault: &ParseFault,
     place: Place,
 ) -> Result<(), AllocError> {
-    let Some(program) = program_of(alloc, source.tokens)? else {
+    let alloc = *out.allocator();
+    let Some(program) = program_of(alloc, source)? else {
         return Ok(());
     };
-    let name = Fault::at(alloc, source, &program, place)?;
-    let lines = match fault {
-        ParseFault::Unknown(_) => name.unknown(alloc)?,
-        ParseFault::Twice(_) => name.twice(alloc)?,
-        ParseFault::Kind(_) => name.kind(alloc)?,
-        _ => name.arguments(alloc)?,
-    };
-    out.push_str(lines.as_str())
+    let name = Fault::at(alloc, source, &program, place);
+    drop(program);
+    push_name_fault(out, &name?, fault)
+}
+
+/// Adds what is wrong with a name.
+fn push_name_fault(out: &mut String, name: &Fault, fault: &ParseFault) -> Result<(), AllocError> {
+    match fault {
+        ParseFault::Unknown(_) => name.push_unknown(out),
+        ParseFault::Twice(_) => name.push_twice(out),
+        ParseFault::Kind(_) => name.push_kind(out),
+        ParseFault::Arguments(_) => name.push_arguments(out),
+        ParseFault::Syntax(_) | ParseFault::Count(..) | ParseFault::Memory => Ok(()),
+    }
 }
 
 /// The program of these tokens, whatever its names mean; `None` if they aren't a program.
-fn program_of(alloc: Global, tokens: &[Token]) -> Result<Option<Program>, AllocError> {
-    let words: Vec<Word> = tokens.iter().map(Word::new).collect(alloc)?;
+fn program_of(alloc: Global, source: Source) -> Result<Option<Program>, AllocError> {
+    let words = words_of(alloc, source.text, source.tokens)?;
     match read_program(alloc, words.as_slice()) {
         Ok(program) => Ok(Some(program)),
         Err(_) => Ok(None),
@@ -196,14 +190,14 @@ fn program_of(alloc: Global, tokens: &[Token]) -> Result<Option<Program>, AllocE
 }
 
 /// Adds a line: its head, a colon, its words.
-fn push_line(alloc: Global, out: &mut String, head: &str, words: &str) -> Result<(), AllocError> {
-    out.push_str(format!(in alloc; "{head}: {words}\n")?.as_str())
+fn push_line(out: &mut String, head: &str, words: &str) -> Result<(), AllocError> {
+    writeln!(out, "{head}: {words}")
 }
 
 /// Adds the hint, if there is one.
-fn push_hint(alloc: Global, out: &mut String, hint: Option<&str>) -> Result<(), AllocError> {
+fn push_hint(out: &mut String, hint: Option<&str>) -> Result<(), AllocError> {
     match hint {
-        Some(hint) => push_line(alloc, out, "hint", hint),
+        Some(hint) => push_line(out, "hint", hint),
         None => Ok(()),
     }
 }

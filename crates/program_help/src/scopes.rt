@@ -3,7 +3,7 @@
 use std::alloc::{AllocError, Global as Heap};
 use tc_lexer::Place;
 use tc_names::Meaning;
-use tc_tree::{Body, Global, Local, Name, Program};
+use tc_tree::{Body, Global, Local, Name, Program, Thread};
 
 /// Where a name is known.
 #[derive(Clone, Copy, PartialEq, Eq)]
@@ -27,6 +27,16 @@ pub(crate) struct Known {
 /// All names of a program, in the order of their scopes: those of the whole program first.
 pub(crate) fn known_names(alloc: Heap, program: &Program) -> Result<Vec<Known>, AllocError> {
     let mut known = Vec::new(alloc);
+    push_whole(&mut known, program)?;
+    for thread in &program.threads {
+        push_thread(&mut known, thread)?;
+    }
+    push_locals(&mut known, &program.main, Scope::Main)?;
+    Ok(known)
+}
+
+/// Adds the names that are known in the whole program.
+fn push_whole(known: &mut Vec<Known>, program: &Program) -> Result<(), AllocError> {
     for global in &program.globals {
         known.push(known_global(global))?;
     }
@@ -37,19 +47,20 @@ pub(crate) fn known_names(alloc: Heap, program: &Program) -> Result<Vec<Known>, 
             scope: Scope::Whole,
         })?;
     }
-    for thread in &program.threads {
-        let scope = Scope::Thread(thread.name);
-        for name in &thread.parameters {
-            known.push(Known {
-                name: *name,
-                meaning: Meaning::Parameter,
-                scope,
-            })?;
-        }
-        push_locals(&mut known, &thread.body, scope)?;
+    Ok(())
+}
+
+/// Adds the names that are known in the body of a thread.
+fn push_thread(known: &mut Vec<Known>, thread: &Thread) -> Result<(), AllocError> {
+    let scope = Scope::Thread(thread.name);
+    for name in &thread.parameters {
+        known.push(Known {
+            name: *name,
+            meaning: Meaning::Parameter,
+            scope,
+        })?;
     }
-    push_locals(&mut known, &program.main, Scope::Main)?;
-    Ok(known)
+    push_locals(known, &thread.body, scope)
 }
 
 fn known_global(global: &Global) -> Known {

@@ -1,5 +1,5 @@
 -- Two threads at one place that agree on its live slots have the same request, and agree after it.
-use Rattle.std.proofs.Common.{◌≡◌, ◌≢◌, ◌∙◌, inl, inr, ℕ, ◌+◌, ℤ, [], ◌∷◌, length, Bool, true, false, cond, IsTrue}
+use Rattle.std.proofs.Common.{◌≡◌, ◌≢◌, ◌∙◌, inl, inr, ℕ, ◌+◌, ℤ, List, [], ◌∷◌, ◌++◌, length, Bool, true, false, cond, IsTrue}
 use Rattle.std.proofs.Common.{Option, Some, None, refl, sym, ap, ap₂, subst, slice_set, slice_index_or, arith}
 use Rattle.std.specs.Option.{option_map_or}
 use Rattle.std.proofs.lemmas.Option.{none-some, same_Some}
@@ -7,14 +7,19 @@ use Rattle.std.proofs.lemmas.List.{length-append}
 use Rattle.run_laws.specs.tc_base.States.{Local}
 use Rattle.run_laws.specs.tc_base.declared.handle.Handle.TheVariants.{Unset, Child, Joined}
 use Rattle.run_laws.specs.tc_base.declared.request.Request.{Request}
-use Rattle.run_laws.specs.tc_base.declared.request.Request.TheVariants.{Read, Write, Exchange, CompareExchange, Await, Fail}
+use Rattle.run_laws.specs.tc_base.declared.request.Request.TheVariants.{Read, Write, Exchange, Await, Fail}
 use Rattle.run_laws.specs.tc_code.Expr.{Expr}
+use Rattle.run_laws.specs.tc_code.int_ops.Updates.{operands_of}
+use Rattle.run_laws.specs.tc_code.int_ops.declared.update.Update.{Update}
+use Rattle.run_laws.specs.tc_code.int_ops.declared.update.Update.TheVariants as update
+use Rattle.run_laws.specs.tc_code.declared.cell.Cell.{Cell}
+use Rattle.run_laws.specs.tc_code.declared.cell.Cell.TheVariants.{Fixed, Element}
 use Rattle.run_laws.specs.tc_code.declared.instr.Instr.{Instr}
-use Rattle.run_laws.specs.tc_code.declared.instr.Instr.TheVariants.{Set, LoadAt, Store, StoreAt, Inside, Branch, Goto, Holds, Lock, Unlock, Sleep, Wake}
-use Rattle.run_laws.specs.tc_code.declared.instr.Instr.TheVariants.{Create, Ready, Join, Assert, Nonzero, InRange, Swap, Cas, Exit}
+use Rattle.run_laws.specs.tc_code.declared.instr.Instr.TheVariants.{Set, Load, Store, Inside, Branch, Goto, Holds, Lock, Unlock, Sleep, Wake}
+use Rattle.run_laws.specs.tc_code.declared.instr.Instr.TheVariants.{Create, Ready, Join, Assert, Nonzero, InRange, Modify, Exit}
 use Rattle.run_laws.specs.tc_code.Code.{Code, instr_at}
-use Rattle.run_laws.specs.tc_code.Lawful.{exprs_of, written}
-use Rattle.run_laws.specs.tc_code.Step.{request, site, is_within, is_nonzero, cell_at, value_in, can_be_joined, child_number, step_in_place, step_by_branch, local_after, arguments_of, instr_of}
+use Rattle.run_laws.specs.tc_code.Lawful.{exprs_of, index_of, written}
+use Rattle.run_laws.specs.tc_code.Step.{request, site, is_within, is_nonzero, cell_at, cell_in, update_in, value_in, can_be_joined, child_number, step_in_place, step_by_branch, local_after, arguments_of, instr_of}
 use Rattle.run_laws.specs.int_ops.Arith.{is_distance}
 use Rattle.run_laws.proofs.tc_code.Facts.{at_its_place}
 use Rattle.run_laws.proofs.After.{branch_is, after_has}
@@ -83,11 +88,26 @@ module _ (t u : Local) where
       ap (λ (x : Local). x.has_exited) (branch_is t _ to) ∙ exited ∙ sym (ap (λ (x : Local). x.has_exited) (branch_is u _ to))
   exited_same _ v exited = exited
 
+  -- the two threads access the same cell, and update it alike
+  cell_same : (c : Cell Expr) → SameValues t.slots u.slots (index_of c) → cell_in u c ≡ cell_in t c
+  cell_same (Fixed c) same = refl
+  cell_same (Element first len i) same = ap (cell_at first) (sym same.0)
+
+  parts_same : (c : Cell Expr) (es : List Expr) → SameValues t.slots u.slots (index_of c ++ es)
+      → SameValues t.slots u.slots (index_of c) × SameValues t.slots u.slots es
+  parts_same (Fixed c) es same = (tt, same)
+  parts_same (Element first len i) es same = ((same.0, tt), same.1)
+
+  update_same : (w : Update Expr) → SameValues t.slots u.slots (operands_of w) → update_in u w ≡ update_in t w
+  update_same (update.Swap e) same = ap update.Swap (sym same.0)
+  update_same (update.Cas e new) same = ap₂ update.Cas (sym same.0) (sym same.1.0)
+  update_same (update.Add e) same = ap update.Add (sym same.0)
+
   -- the two threads have the same request
   asks_same : (i : Instr) → SameValues t.slots u.slots (exprs_of i) → t.held ≡ u.held → t.handles ≡ u.handles → request u i ≡ request t i
-  asks_same (LoadAt k first len e) same held handles = ap (λ v. Read (cell_at first v)) (sym same.0)
-  asks_same (Store c e) same held handles = ap (Write c) (sym same.0)
-  asks_same (StoreAt first len e x) same held handles = ap₂ (λ v w. Write (cell_at first v) w) (sym same.0) (sym same.1.0)
+  asks_same (Load k c) same held handles = ap Read (cell_same c same)
+  asks_same (Store c e) same held handles = let p = parts_same c (e ∷ []) same in ap₂ Write (cell_same c p.0) (sym p.1.0)
+  asks_same (Modify k c w) same held handles = let p = parts_same c (operands_of w) same in ap₂ Exchange (cell_same c p.0) (update_same w p.1)
   asks_same (Inside len e) same held handles = ap (λ v. site (is_within len v)) (sym same.0)
   asks_same (Holds m) same held handles = ap (λ hs. site (slice_index_or hs m false)) (sym held)
   asks_same (Ready h) same held handles = ap (λ hs. site (can_be_joined (slice_index_or hs h Unset))) (sym handles)
@@ -95,8 +115,6 @@ module _ (t u : Local) where
   asks_same (Assert e) same held handles = ap (λ v. site (is_nonzero v)) (sym same.0)
   asks_same (Nonzero e) same held handles = ap (λ v. site (is_nonzero v)) (sym same.0)
   asks_same (InRange e) same held handles = ap (λ v. site (is_distance v)) (sym same.0)
-  asks_same (Swap k c e) same held handles = ap (Exchange c) (sym same.0)
-  asks_same (Cas k c e new) same held handles = ap₂ (CompareExchange c) (sym same.0) (sym same.1.0)
   asks_same _ same held handles = refl
 
   -- they pass the same arguments

@@ -11,7 +11,7 @@ use Rattle.run_laws.specs.tc_base.States.{Local, Thread, State}
 use Rattle.run_laws.specs.tc_base.declared.moves.Move.{Move}
 use Rattle.run_laws.specs.tc_base.declared.moves.Move.TheVariants as move
 use Rattle.run_laws.specs.tc_base.declared.request.Request.{Request}
-use Rattle.run_laws.specs.tc_base.declared.request.Request.TheVariants.{Read, Write, Exchange, CompareExchange, Bar, Start, Silent}
+use Rattle.run_laws.specs.tc_base.declared.request.Request.TheVariants.{Read, Write, Exchange, Bar, Start, Silent}
 use Rattle.run_laws.specs.tc_code.declared.instr.Instr.{Instr}
 use Rattle.run_laws.specs.tc_code.declared.instr.Instr.TheVariants.{Signal}
 use Rattle.run_laws.specs.tc_code.Code.{Code}
@@ -64,8 +64,6 @@ module _ {B : Type 0} (ops : BufferOps B) (code : Code) (n : Name) where
       let x : Thread B = record { local = t; buffer = b } in
       record { value = loaded ops s x c; buffer = b; differ = record { shared = refl; owners = refl; threads = put_own n t u _ _ b b s.threads vs d } }
   performs t u b s vs i (Exchange c w) d children arguments =
-      record { value = in_memory s c; buffer = b; differ = record { shared = refl; owners = refl; threads = put_own n t u _ _ b b s.threads vs d } }
-  performs t u b s vs i (CompareExchange c e w) d children arguments =
       record { value = in_memory s c; buffer = b; differ = record { shared = refl; owners = refl; threads = put_own n t u _ _ b b s.threads vs d } }
   performs t u b s vs i (Write c w) d children arguments =
       either_way (Performs t u i (Write c w)) ops.buffered _ _ _ _

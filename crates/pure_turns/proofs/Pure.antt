@@ -16,12 +16,13 @@ use Rattle.run_laws.specs.tc_base.States.{Local, Thread, State}
 use Rattle.run_laws.specs.tc_base.declared.moves.Move.{Move}
 use Rattle.run_laws.specs.tc_base.declared.moves.Move.TheVariants as move
 use Rattle.run_laws.specs.tc_base.declared.request.Request.{Request}
-use Rattle.run_laws.specs.tc_base.declared.request.Request.TheVariants.{Silent, Read, Exchange, CompareExchange, Acquire, Release, OrderStores}
+use Rattle.run_laws.specs.tc_base.declared.request.Request.TheVariants.{Silent, Read, Exchange, Acquire, Release, OrderStores}
 use Rattle.run_laws.specs.tc_code.declared.instr.Instr.{Instr}
-use Rattle.run_laws.specs.tc_code.declared.instr.Instr.TheVariants.{Set, Load, LoadAt, Branch, Inside, Holds, Ready, Assert, Nonzero, InRange, Unlock, Signal, Create, Join, Swap, Cas, Exit}
+use Rattle.run_laws.specs.tc_code.declared.instr.Instr.TheVariants.{Set, Load, Branch, Inside, Holds, Ready, Assert, Nonzero, InRange, Unlock, Signal, Create, Join, Modify, Exit}
 use Rattle.run_laws.specs.tc_code.Code.{Code}
 use Rattle.run_laws.specs.tc_code.Lawful.{IsLawful}
-use Rattle.run_laws.specs.tc_code.Step.{request, site, holds, drains_first, is_let, allows, instr_of, in_memory, loaded, replaced, local_after, perform, step}
+use Rattle.run_laws.specs.tc_code.int_ops.Updates.{updated}
+use Rattle.run_laws.specs.tc_code.Step.{request, site, holds, drains_first, is_let, allows, instr_of, in_memory, loaded, local_after, perform, step}
 use Rattle.run_laws.specs.tc_code.Run.{IsReached, run_from}
 use Rattle.run_laws.proofs.tc_code.Facts.{step_is_reached}
 use Rattle.run_laws.proofs.After.{branch_is}
@@ -59,11 +60,7 @@ pure_keeps s held t (Set k e) v pure =
     record { function = refl; slots = sym (length-set t.slots k _); handles = refl; children = refl; has_exited = refl }
 pure_keeps s held t (Load k c) v pure =
     record { function = refl; slots = sym (length-set t.slots k v); handles = refl; children = refl; has_exited = refl }
-pure_keeps s held t (LoadAt k first len e) v pure =
-    record { function = refl; slots = sym (length-set t.slots k v); handles = refl; children = refl; has_exited = refl }
-pure_keeps s held t (Swap k c e) v pure =
-    record { function = refl; slots = sym (length-set t.slots k v); handles = refl; children = refl; has_exited = refl }
-pure_keeps s held t (Cas k c e new) v pure =
+pure_keeps s held t (Modify k c u) v pure =
     record { function = refl; slots = sym (length-set t.slots k v); handles = refl; children = refl; has_exited = refl }
 pure_keeps s held t (Branch e to) v pure =
     subst (HasKept t) (sym (branch_is t _ to)) (record { function = refl; slots = refl; handles = refl; children = refl; has_exited = refl })
@@ -132,15 +129,7 @@ module _ {B : Type 0} (ops : BufferOps B) (code : Code) (lawful : IsLawful code)
     performs_pure (Exchange c w) pure free = record {
       value = in_memory s c;
       differ = record {
-        shared = ap (λ m. record lagging { memory = m }) (writes_back s.memory c w pure);
-        owners = more;
-        threads = puts (in_memory s c);
-      };
-    }
-    performs_pure (CompareExchange c e w) pure free = record {
-      value = in_memory s c;
-      differ = record {
-        shared = ap (λ m. record lagging { memory = m }) (writes_back s.memory c (replaced (in_memory s c) e w) pure);
+        shared = ap (λ m. record lagging { memory = m }) (writes_back s.memory c (updated w (in_memory s c)) pure);
         owners = more;
         threads = puts (in_memory s c);
       };

@@ -10,9 +10,10 @@ use Rattle.run_laws.specs.tc_base.States.{Local, Thread, State}
 use Rattle.run_laws.specs.tc_base.declared.moves.Move.{Move}
 use Rattle.run_laws.specs.tc_base.declared.moves.Move.TheVariants as move
 use Rattle.run_laws.specs.tc_base.declared.request.Request.{Request}
-use Rattle.run_laws.specs.tc_base.declared.request.Request.TheVariants.{Silent, Read, Exchange, CompareExchange, Acquire, Release, OrderStores}
+use Rattle.run_laws.specs.tc_base.declared.request.Request.TheVariants.{Silent, Read, Exchange, Acquire, Release, OrderStores}
 use Rattle.run_laws.specs.tc_code.Code.{Code}
-use Rattle.run_laws.specs.tc_code.Step.{request, instr_of, in_memory, replaced}
+use Rattle.run_laws.specs.tc_code.int_ops.Updates.{updated}
+use Rattle.run_laws.specs.tc_code.Step.{request, instr_of, in_memory}
 use Rattle.run_laws.specs.tc_code.Run.{run, run_from}
 use Rattle.run_laws.specs.Alone.{same}
 use Rattle.pure_turns.specs.Live.{Liveness, AgreeWhereLive, AreAlike}
@@ -23,8 +24,7 @@ abbrev pub is_pure : {B : Type 0} → State B → (held : List Bool) → Request
 is_pure s held Silent = true
 is_pure s held (Read c) = true
 is_pure s held OrderStores = true
-is_pure s held (Exchange c v) = int_eq v (in_memory s c)
-is_pure s held (CompareExchange c e v) = int_eq (replaced (in_memory s c) e v) (in_memory s c)
+is_pure s held (Exchange c u) = int_eq (updated u (in_memory s c)) (in_memory s c)
 is_pure s held (Acquire m) = true
 is_pure s held (Release m) = not (slice_index_or held m false)
 is_pure s held _ = false

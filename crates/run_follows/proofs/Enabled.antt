@@ -14,7 +14,7 @@ use Rattle.run_history.specs.memory_models.declared.model.Model.{Model}
 use Rattle.run_history.specs.tc_base.declared.moves.Move.{Move}
 use Rattle.run_history.specs.tc_base.declared.moves.Move.TheVariants as move
 use Rattle.run_history.specs.tc_base.declared.request.Request.{Request}
-use Rattle.run_history.specs.tc_base.declared.request.Request.TheVariants.{Read, Exchange, CompareExchange, Acquire, EndWait, WakeOne, Await}
+use Rattle.run_history.specs.tc_base.declared.request.Request.TheVariants.{Read, Exchange, Acquire, EndWait, WakeOne, Await}
 use Rattle.run_history.specs.tc_code.declared.instr.Instr.{Instr}
 use Rattle.run_history.specs.tc_code.declared.instr.Instr.TheVariants.{Inside, Holds, Signal, Ready, Assert, Nonzero, InRange}
 use Rattle.run_history.specs.tc_code.Code.{Code}
@@ -112,7 +112,6 @@ module _ {B : Type 0} (ops : BufferOps B) (model : Model) (bound : Binding) (law
     pub taken_told : (r : Request) → AsksOf code r → value_taken ops code s t r ≡ taken_in ops.buffered code h n r
     taken_told (Read c) within = load_told c within
     taken_told (Exchange c v) within = a.memory.values c within
-    taken_told (CompareExchange c e v) within = a.memory.values c within
     taken_told _ within = refl
 
     let_told : (r : Request) → AsksOf code r → is_let s n r ≡ is_let_in h n r

@@ -8,7 +8,7 @@ use Rattle.run_history.specs.list_laws.Lists.{is_nil}
 use Rattle.run_history.specs.tc_base.declared.moves.Move.{Move}
 use Rattle.run_history.specs.tc_base.declared.moves.Move.TheVariants as move
 use Rattle.run_history.specs.tc_base.declared.request.Request.{Request}
-use Rattle.run_history.specs.tc_base.declared.request.Request.TheVariants.{Read, Exchange, CompareExchange, Acquire, EndWait}
+use Rattle.run_history.specs.tc_base.declared.request.Request.TheVariants.{Read, Exchange, Acquire, EndWait}
 use Rattle.run_history.specs.tc_base.declared.request.Request.TheVariants.{WakeOne, Start, Await}
 use Rattle.run_history.specs.tc_code.Code.{Code}
 use Rattle.run_history.specs.tc_code.Step.{drains_first}
@@ -45,8 +45,7 @@ may_wake_in buffered h n u _ = false
 -- the value that a request reads, and 0 if it reads none
 abbrev pub taken_in : Bool → Code → List Deed → Name → Request → ℤ
 taken_in buffered code h n (Read c) = seen_in buffered code h n c
-taken_in buffered code h n (Exchange c v) = value_in buffered code h c
-taken_in buffered code h n (CompareExchange c e v) = value_in buffered code h c
+taken_in buffered code h n (Exchange c u) = value_in buffered code h c
 taken_in buffered code h n _ = pos 0
 
 -- whether a step with this request and this other thread may be done

@@ -11,7 +11,7 @@ use Rattle.store_buffers.specs.tc_base.States.{Thread, State}
 use Rattle.store_buffers.specs.memory_models.declared.model.Model.{Model}
 use Rattle.store_buffers.specs.tc_base.declared.moves.Move.{Move}
 use Rattle.store_buffers.specs.tc_base.declared.request.Request.{Request}
-use Rattle.store_buffers.specs.tc_base.declared.request.Request.TheVariants.{Read, Exchange, CompareExchange}
+use Rattle.store_buffers.specs.tc_base.declared.request.Request.TheVariants.{Read, Exchange}
 use Rattle.run_laws.specs.tc_code.Code.{Code}
 use Rattle.run_laws.specs.tc_code.Lawful.{IsLawful}
 use Rattle.run_laws.specs.tc_code.Run.{run}
@@ -100,7 +100,6 @@ module _ {B : Type 0} (ops : BufferOps B) where
     pub taken_int : (s : State B) (t : Thread B) (r : Request) → StateHasInts ops s → ThreadHasInts ops t → IsInt (value_taken ops code s t r)
     taken_int s t (Read c) has ints = loaded_int ops code passes s has t c ints
     taken_int s t (Exchange c v) has ints = in_memory_int ops code passes s has c
-    taken_int s t (CompareExchange c e v) has ints = in_memory_int ops code passes s has c
     taken_int s t r has ints = zero_int
 
     keeps_ints : Keeps ops code (λ s h. All DeedHasInts h)

@@ -9,7 +9,7 @@ use Rattle.store_buffers.specs.tc_base.States.{Local, Thread, State}
 use Rattle.store_buffers.specs.tc_base.declared.moves.Move.{Move}
 use Rattle.store_buffers.specs.tc_base.declared.moves.Move.TheVariants as move
 use Rattle.store_buffers.specs.tc_base.declared.request.Request.{Request}
-use Rattle.store_buffers.specs.tc_base.declared.request.Request.TheVariants.{Read, Write, Exchange, CompareExchange, Bar, Start}
+use Rattle.store_buffers.specs.tc_base.declared.request.Request.TheVariants.{Read, Write, Exchange, Bar, Start}
 use Rattle.run_laws.specs.tc_code.Code.{Code}
 use Rattle.run_laws.specs.tc_code.Step.{request, instr_of, loaded, in_memory, step, opening}
 use Rattle.store_buffers.specs.Pending.{Pending, Store, Bar as barred}
@@ -64,8 +64,7 @@ module _ {B : Type 0} (ops : BufferOps B) (code : Code) where
   -- the value that a request reads, and 0 if it reads none
   abbrev pub value_taken : State B → Thread B → Request → ℤ
   value_taken s t (Read c) = loaded ops s t c
-  value_taken s t (Exchange c v) = in_memory s c
-  value_taken s t (CompareExchange c e v) = in_memory s c
+  value_taken s t (Exchange c u) = in_memory s c
   value_taken s t _ = pos 0
 
   -- the child that a thread's request creates, if any

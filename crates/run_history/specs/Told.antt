@@ -6,19 +6,19 @@ use Rattle.std.specs.FinSet as set
 use Rattle.store_buffers.specs.tc_base.Names.{Name, main}
 use Rattle.store_buffers.specs.tc_base.Buffers.{Entry}
 use Rattle.store_buffers.specs.Buffers.{newest}
-use Rattle.store_buffers.specs.tc_base.declared.request.Request.TheVariants.{Write, Exchange, CompareExchange, Acquire, Release, BeginWait, EndWait}
+use Rattle.store_buffers.specs.tc_base.declared.request.Request.TheVariants.{Write, Exchange, Acquire, Release, BeginWait, EndWait}
 use Rattle.store_buffers.specs.tc_base.declared.request.Request.TheVariants.{WakeOne, WakeAll, Start, Finish, Fail}
 use Rattle.run_laws.specs.tc_code.Code.{Code}
-use Rattle.run_laws.specs.tc_code.Step.{replaced, NameSet}
+use Rattle.run_laws.specs.tc_code.int_ops.Updates.{updated}
+use Rattle.run_laws.specs.tc_code.Step.{NameSet}
 use Rattle.run_history.specs.History.{Deed, Did, Drained, same}
 
 -- the store that reaches memory by a deed, if any; with buffers, a write has to drain first
 abbrev pub reaches : Bool → Deed → Option Entry
 reaches buffered (Did n k (Write c v) took other) =
     if buffered then None else Some (record { cell = c; value = v })
-reaches buffered (Did n k (Exchange c v) took other) = Some (record { cell = c; value = v })
-reaches buffered (Did n k (CompareExchange c e v) took other) =
-    Some (record { cell = c; value = replaced took e v })
+reaches buffered (Did n k (Exchange c u) took other) =
+    Some (record { cell = c; value = updated u took })
 reaches buffered (Did n k _ took other) = None
 reaches buffered (Drained n k c v) = Some (record { cell = c; value = v })
 

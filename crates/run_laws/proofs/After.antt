@@ -4,7 +4,7 @@ use Rattle.std.proofs.lemmas.List.{length-set}
 use Rattle.tc_code.specs.tc_base.States.{Local}
 use Rattle.tc_code.specs.Expr.{Expr}
 use Rattle.tc_code.specs.declared.instr.Instr.{Instr}
-use Rattle.tc_code.specs.declared.instr.Instr.TheVariants.{Set, Load, LoadAt, Branch, Goto, Lock, Unlock, Sleep, Wake, Create, Join, Swap, Cas}
+use Rattle.tc_code.specs.declared.instr.Instr.TheVariants.{Set, Load, Branch, Goto, Lock, Unlock, Sleep, Wake, Create, Join, Modify}
 use Rattle.tc_code.specs.Lawful.{target}
 use Rattle.tc_code.specs.Step.{step_by_branch, local_after}
 
@@ -40,9 +40,7 @@ pub record HasAsMuch (old new : Local) : Type 0 where
 pub after_has : (t : Local) (i : Instr) (v : ℤ) → HasAsMuch t (local_after t i v)
 after_has t (Set k e) v = record { function = refl; slots = length-set t.slots k _; handles = refl; held = refl }
 after_has t (Load k c) v = record { function = refl; slots = length-set t.slots k v; handles = refl; held = refl }
-after_has t (LoadAt k first len i) v = record { function = refl; slots = length-set t.slots k v; handles = refl; held = refl }
-after_has t (Swap k c e) v = record { function = refl; slots = length-set t.slots k v; handles = refl; held = refl }
-after_has t (Cas k c e new) v = record { function = refl; slots = length-set t.slots k v; handles = refl; held = refl }
+after_has t (Modify k c u) v = record { function = refl; slots = length-set t.slots k v; handles = refl; held = refl }
 after_has t (Branch e to) v = subst (HasAsMuch t) (sym (branch_is t _ to)) (record { function = refl; slots = refl; handles = refl; held = refl })
 after_has t (Lock m) v = record { function = refl; slots = refl; handles = refl; held = length-set t.held m true }
 after_has t (Unlock m) v = record { function = refl; slots = refl; handles = refl; held = length-set t.held m false }

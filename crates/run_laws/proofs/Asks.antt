@@ -9,16 +9,19 @@ use Rattle.tc_code.specs.tc_base.Names.{Name}
 use Rattle.tc_code.specs.tc_base.Buffers.{BufferOps}
 use Rattle.tc_code.specs.tc_base.States.{Local, Thread, State}
 use Rattle.tc_code.specs.tc_base.declared.request.Request.{Request}
+use Rattle.tc_code.specs.Expr.{Expr}
+use Rattle.tc_code.specs.declared.cell.Cell.{Cell}
+use Rattle.tc_code.specs.declared.cell.Cell.TheVariants.{Fixed, Element}
 use Rattle.tc_code.specs.declared.instr.Instr.{Instr}
-use Rattle.tc_code.specs.declared.instr.Instr.TheVariants.{Load, LoadAt, Store, StoreAt, Inside, Holds, Lock, Unlock, Sleep, Wake}
-use Rattle.tc_code.specs.declared.instr.Instr.TheVariants.{Signal, Broadcast, Ready, Assert, Nonzero, InRange, Swap, Cas}
+use Rattle.tc_code.specs.declared.instr.Instr.TheVariants.{Load, Store, Inside, Holds, Lock, Unlock, Sleep, Wake}
+use Rattle.tc_code.specs.declared.instr.Instr.TheVariants.{Signal, Broadcast, Ready, Assert, Nonzero, InRange, Modify}
 use Rattle.tc_code.specs.Code.{Code}
-use Rattle.tc_code.specs.Lawful.{names_what_is, IsLawful}
+use Rattle.tc_code.specs.Lawful.{has_cell, names_what_is, IsLawful}
 use Rattle.tc_code.specs.declared.code.Func.{Func}
-use Rattle.tc_code.specs.Step.{request, site, is_within, cell_at, value_in, instr_of}
+use Rattle.tc_code.specs.Step.{request, site, is_within, cell_at, cell_in, value_in, instr_of}
 use Rattle.tc_code.specs.Run.{IsReached}
 use Rattle.tc_code.proofs.Facts.{placed_next}
-use Rattle.run_laws.specs.Whole.{IndexIsWithin}
+use Rattle.run_laws.specs.Whole.{CellIsWithin, IndexIsWithin}
 use Rattle.run_laws.specs.helpers.Asks.{AsksWithin}
 use Rattle.run_laws.proofs.Guards.{index_is_within}
 use Rattle.run_laws.proofs.Whole.{names_next, reached_is_whole}
@@ -49,11 +52,13 @@ module _ (code : Code) where
   site_asks true = tt
   site_asks false = tt
 
+  reached_within : (f : Func) (t : Local) (c : Cell Expr) → IsTrue (has_cell code f c) → CellIsWithin t c → cell_in t c < length code.memory
+  reached_within f t (Fixed c) h at = is_below _ _ h
+  reached_within f t (Element a len i) h at = cell_within (length code.memory) a len (value_in t i) (and_parts _ _ h).0 at
+
   asks_within : (f : Func) (t : Local) (i : Instr) → IsTrue (names_what_is code f i) → IndexIsWithin t i → AsksOf (request t i)
-  asks_within f t (Load k c) h at = and_below _ _ _ h
-  asks_within f t (LoadAt k a len i) h at = cell_within (length code.memory) a len (value_in t i) (and_parts _ _ (and_parts _ _ h).0).1 at
-  asks_within f t (Store c e) h at = below _ _ _ h
-  asks_within f t (StoreAt a len i e) h at = cell_within (length code.memory) a len (value_in t i) (and_parts _ _ (and_parts _ _ h).0).0 at
+  asks_within f t (Load k c) h at = reached_within f t c (and_parts _ _ h).1 at
+  asks_within f t (Store c e) h at = reached_within f t c (and_parts _ _ h).0 at
   asks_within f t (Inside len i) h at = site_asks _
   asks_within f t (Holds m) h at = site_asks _
   asks_within f t (Lock m) h at = is_below _ _ h
@@ -66,8 +71,7 @@ module _ (code : Code) where
   asks_within f t (Assert e) h at = site_asks _
   asks_within f t (Nonzero e) h at = site_asks _
   asks_within f t (InRange e) h at = site_asks _
-  asks_within f t (Swap k c e) h at = and_below _ _ _ (and_parts _ _ h).0
-  asks_within f t (Cas k c e new) h at = and_below _ _ _ (and_parts _ _ (and_parts _ _ h).0).0
+  asks_within f t (Modify k c u) h at = reached_within f t c (and_parts _ _ (and_parts _ _ h).0).1 at
   asks_within f t i h at = tt
 
 module _ {B : Type 0} (ops : BufferOps B) (code : Code) (s : State B) (n : Name) (t : Thread B) (i : Instr) (lawful : IsLawful code)

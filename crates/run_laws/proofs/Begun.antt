@@ -11,7 +11,7 @@ use Rattle.tc_code.specs.tc_base.declared.moves.Move.{Move}
 use Rattle.tc_code.specs.tc_base.declared.moves.Move.TheVariants as move
 use Rattle.tc_code.specs.Expr.{Expr}
 use Rattle.tc_code.specs.declared.instr.Instr.{Instr}
-use Rattle.tc_code.specs.declared.instr.Instr.TheVariants.{Store, StoreAt, Inside, Holds, Create, Ready, Assert, Nonzero, InRange}
+use Rattle.tc_code.specs.declared.instr.Instr.TheVariants.{Store, Inside, Holds, Create, Ready, Assert, Nonzero, InRange}
 use Rattle.tc_code.specs.Code.{Code}
 use Rattle.tc_code.specs.tc_base.declared.request.Request.TheVariants.{Write}
 use Rattle.tc_code.specs.Step.{request, site, arguments_of, instr_of, perform, step, opening}
@@ -103,8 +103,7 @@ module _ {B : Type 0} (ops : BufferOps B) (code : Code) where
             | inl e ↦ inr (subst (λ m. Beginning ops code m (moves ++ move.Run p ∷ [])) (sym e.0) (child_begins u h f es at one after))
             | inr e ↦ inl (was_there _ (some_is _ is.0 e.1))
           ]
-      begins_by u (Store c e) at one after here = inl (store_creates_none (Store c e) c _ here)
-      begins_by u (StoreAt a len k e) at one after here = inl (store_creates_none (StoreAt a len k e) _ _ here)
+      begins_by u (Store c e) at one after here = inl (store_creates_none (Store c e) _ _ here)
       begins_by u (Nonzero e) at one after here = inl (site_creates_none (Nonzero e) _ here)
       begins_by u (InRange e) at one after here = inl (site_creates_none (InRange e) _ here)
       begins_by u (Inside len e) at one after here = inl (site_creates_none (Inside len e) _ here)

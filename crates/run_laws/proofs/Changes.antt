@@ -11,8 +11,8 @@ use Rattle.tc_code.specs.tc_base.States.{Local, Thread, State}
 use Rattle.tc_code.specs.tc_base.declared.moves.Move.{Move}
 use Rattle.tc_code.specs.tc_base.declared.moves.Move.TheVariants as move
 use Rattle.tc_code.specs.declared.instr.Instr.{Instr}
-use Rattle.tc_code.specs.declared.instr.Instr.TheVariants.{Load, LoadAt, Store, StoreAt, Inside, Holds, Lock, Unlock, Sleep, Wake}
-use Rattle.tc_code.specs.declared.instr.Instr.TheVariants.{Signal, Broadcast, Create, Ready, Assert, Nonzero, InRange, Swap, Cas}
+use Rattle.tc_code.specs.declared.instr.Instr.TheVariants.{Load, Store, Inside, Holds, Lock, Unlock, Sleep, Wake}
+use Rattle.tc_code.specs.declared.instr.Instr.TheVariants.{Signal, Broadcast, Create, Ready, Assert, Nonzero, InRange, Modify}
 use Rattle.tc_code.specs.Code.{Code}
 use Rattle.tc_code.specs.tc_base.declared.request.Request.{Request}
 use Rattle.tc_code.specs.tc_base.declared.request.Request.TheVariants.{WakeOne, Fail}
@@ -201,17 +201,11 @@ module _ {B : Type 0} (ops : BufferOps B) (code : Code) where
     -- the changes of an instruction
     performed : (i : Instr) → instr_of code t.local ≡ Some i → IsTrue (is_let s n (request t.local i)) → Change s (perform ops code s n t i (request t.local i))
     performed (Load k c) at may = goes _ (Load k c) _ _ at refl may refl refl refl (λ q d h. inl h)
-    performed (LoadAt k a len e) at may = goes _ (LoadAt k a len e) _ _ at refl may refl refl refl (λ q d h. inl h)
     performed (Store c e) at may =
         either (Change s) ops.buffered _ _
         (goes _ (Store c e) (pos 0) _ at refl may refl refl refl (λ q d h. inl h))
         (goes _ (Store c e) (pos 0) _ at refl may refl refl refl (λ q d h. inl h))
-    performed (StoreAt a len i e) at may =
-        either (Change s) ops.buffered _ _
-        (goes _ (StoreAt a len i e) (pos 0) _ at refl may refl refl refl (λ q d h. inl h))
-        (goes _ (StoreAt a len i e) (pos 0) _ at refl may refl refl refl (λ q d h. inl h))
-    performed (Swap k c e) at may = goes _ (Swap k c e) _ _ at refl may refl refl refl (λ q d h. inl h)
-    performed (Cas k c e new) at may = goes _ (Cas k c e new) _ _ at refl may refl refl refl (λ q d h. inl h)
+    performed (Modify k c u) at may = goes _ (Modify k c u) _ _ at refl may refl refl refl (λ q d h. inl h)
     performed (Nonzero e) at may = site_performed (Nonzero e) _ at refl (λ m. refl) refl
     performed (InRange e) at may = site_performed (InRange e) _ at refl (λ m. refl) refl
     performed (Inside len e) at may = site_performed (Inside len e) _ at refl (λ m. refl) refl

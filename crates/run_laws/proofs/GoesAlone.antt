@@ -14,7 +14,7 @@ use Rattle.tc_code.specs.declared.instr.Instr.{Instr}
 use Rattle.tc_code.specs.declared.instr.Instr.TheVariants.{Signal}
 use Rattle.tc_code.specs.Code.{Code}
 use Rattle.tc_code.specs.tc_base.declared.request.Request.{Request}
-use Rattle.tc_code.specs.tc_base.declared.request.Request.TheVariants.{Read, Write, Exchange, CompareExchange, Bar, WakeOne, Start, Fail}
+use Rattle.tc_code.specs.tc_base.declared.request.Request.TheVariants.{Read, Write, Exchange, Bar, WakeOne, Start, Fail}
 use Rattle.tc_code.specs.Step.{request, step_in_place, local_after, instr_of, loaded, in_memory, perform, step}
 use Rattle.tc_code.specs.Run.{IsReached, run_from}
 use Rattle.tc_code.proofs.Facts.{step_is_reached}
@@ -29,7 +29,6 @@ use Rattle.run_laws.proofs.Steps.{Went, step_went}
 abbrev is_read : Request → Bool
 is_read (Read c) = true
 is_read (Exchange c v) = true
-is_read (CompareExchange c e v) = true
 is_read _ = false
 
 -- the thread after a request that takes no value
@@ -43,7 +42,6 @@ takes_none t i [] Fail h = refl
 takes_none t i [] _ h = refl
 takes_none t i (v ∷ vs) (Read c) h = absurd (true≢false h)
 takes_none t i (v ∷ vs) (Exchange c _) h = absurd (true≢false h)
-takes_none t i (v ∷ vs) (CompareExchange c _ _) h = absurd (true≢false h)
 takes_none t i (v ∷ vs) _ h = refl
 
 -- `j` steps and then `k` more are `j + k` steps
@@ -111,8 +109,6 @@ module _ {B : Type 0} (ops : BufferOps B) (code : Code) where
   own_goes s n t i (Read c) at e =
       takes_one _ n t i (loaded ops s t c) at (λ vs. ap (after_request t.local i (loaded ops s t c ∷ vs)) e) (get_put s.threads n _)
   own_goes s n t i (Exchange c v) at e =
-      takes_one _ n t i (in_memory s c) at (λ vs. ap (after_request t.local i (in_memory s c ∷ vs)) e) (get_put s.threads n _)
-  own_goes s n t i (CompareExchange c x v) at e =
       takes_one _ n t i (in_memory s c) at (λ vs. ap (after_request t.local i (in_memory s c ∷ vs)) e) (get_put s.threads n _)
   own_goes s n t i Bar at e = does_one _ n t i Bar (ops.bar t.buffer) at e refl (get_put s.threads n _)
   own_goes s n t i (Write c v) at e =

@@ -1,5 +1,5 @@
 -- The index of a thread's next access is inside its array.
-use Rattle.std.proofs.Common.{◌≡◌, ◌∙◌, ℕ, ◌<◌, ◌≤◌, List, false, IsTrue, Some, refl}
+use Rattle.std.proofs.Common.{◌≡◌, ◌∙◌, ℕ, ◌<◌, ◌≤◌, List, false, IsTrue, Option, Some, None, IfSome, refl}
 use Rattle.std.proofs.Common.{ap, ap₂, sym, subst, arith, ℤ, pos, slice_get, slice_set, inl, inr}
 use Rattle.std.specs.FinMap as fin
 use Rattle.std.proofs.lemmas.Bool.{cases_lt, or_parts, not-true}
@@ -11,15 +11,17 @@ use Rattle.tc_code.specs.tc_base.Names.{Name}
 use Rattle.tc_code.specs.tc_base.Buffers.{BufferOps}
 use Rattle.tc_code.specs.tc_base.States.{Local, Thread, State}
 use Rattle.tc_code.specs.Expr.{Expr, Number, Slot, Unary, Binary, value_of, names_slot}
+use Rattle.tc_code.specs.declared.cell.Cell.{Cell}
+use Rattle.tc_code.specs.declared.cell.Cell.TheVariants.{Fixed, Element}
 use Rattle.tc_code.specs.declared.instr.Instr.{Instr}
-use Rattle.tc_code.specs.declared.instr.Instr.TheVariants.{Set, Load, LoadAt, StoreAt, Inside, Branch, Swap, Cas}
+use Rattle.tc_code.specs.declared.instr.Instr.TheVariants.{Set, Load, Inside, Branch, Modify}
 use Rattle.tc_code.specs.Code.{Code}
-use Rattle.tc_code.specs.Lawful.{keeps, Guards, IsGuarded, IsLawful}
+use Rattle.tc_code.specs.Lawful.{accessed, keeps, Guards, IsGuarded, IsLawful}
 use Rattle.tc_code.specs.declared.code.Func.{Func}
 use Rattle.tc_code.specs.Step.{is_within, value_in, request, local_after, instr_of}
 use Rattle.tc_code.specs.Run.{IsReached}
 use Rattle.tc_code.proofs.Facts.{at_its_place, placed_next}
-use Rattle.run_laws.specs.Whole.{AllThreads, IndexIsWithin}
+use Rattle.run_laws.specs.Whole.{AllThreads, CellIsWithin, IndexIsWithin}
 use Rattle.run_laws.proofs.After.{Leads, branch_is, after_has, place_after}
 use Rattle.run_laws.proofs.Changes.{is_fail, site_is_true}
 use Rattle.run_laws.proofs.AllThreads.{Keeps, all_in_reached}
@@ -37,9 +39,7 @@ value_of-set (Binary op a b) slots k v h =
 after_keeps : (t : Local) (i : Instr) (v : ℤ) (e : Expr) → IsTrue (keeps e i) → value_of e (local_after t i v).slots ≡ value_of e t.slots
 after_keeps t (Set k a) v e h = value_of-set e t.slots k _ (not-true _ h)
 after_keeps t (Load k c) v e h = value_of-set e t.slots k v (not-true _ h)
-after_keeps t (LoadAt k first len i) v e h = value_of-set e t.slots k v (not-true _ h)
-after_keeps t (Swap k c a) v e h = value_of-set e t.slots k v (not-true _ h)
-after_keeps t (Cas k c a b) v e h = value_of-set e t.slots k v (not-true _ h)
+after_keeps t (Modify k c u) v e h = value_of-set e t.slots k v (not-true _ h)
 after_keeps t (Branch a to) v e h = ap (λ u. value_of e u.slots) (branch_is t _ to)
 after_keeps t _ v e h = refl
 
@@ -115,12 +115,12 @@ module _ {B : Type 0} (ops : BufferOps B) (code : Code) where
   -- the index of a thread's next access is inside its array
   pub index_is_within : (s : State B) (n : Name) (t : Thread B) (i : Instr) → IsLawful code → IsReached ops code s → fin.get s.threads n ≡ Some t
       → instr_of code t.local ≡ Some i → IndexIsWithin t.local i
-  index_is_within s n t (LoadAt k first len e) lawful reached there at =
-      let placed = placed_next code t.local (LoadAt k first len e) lawful at in
-      access_is_within t.local placed.function len e placed.there (placed.lawful.load t.local.instruction k first len e placed.at)
-      (guards_hold s reached n t there)
-  index_is_within s n t (StoreAt first len e a) lawful reached there at =
-      let placed = placed_next code t.local (StoreAt first len e a) lawful at in
-      access_is_within t.local placed.function len e placed.there (placed.lawful.store t.local.instruction first len e a placed.at)
-      (guards_hold s reached n t there)
-  index_is_within s n t _ lawful reached there at = tt
+  index_is_within s n t i lawful reached there at = by (accessed i) refl
+    where
+      by : (o : Option (Cell Expr)) → accessed i ≡ o → IfSome o (CellIsWithin t.local)
+      by None e = tt
+      by (Some (Fixed c)) e = tt
+      by (Some (Element first len index)) e =
+          let placed = placed_next code t.local i lawful at in
+          access_is_within t.local placed.function len index placed.there (placed.lawful.access t.local.instruction first len i index placed.at e)
+          (guards_hold s reached n t there)

@@ -1,30 +1,34 @@
 -- In a run of lawful code all values are ints.
-use Rattle.std.proofs.Common.{◌≡◌, ◌∙◌, inl, inr, ℕ, ◌+◌, ◌-◌, length, ℤ, pos, List, [], ◌∷◌, map, Bool, true, false, Option}
+use Rattle.std.proofs.Common.{◌≡◌, ◌∙◌, inl, inr, ℕ, ◌+◌, ◌-◌, length, ℤ, pos, List, [], ◌∷◌, ◌++◌, map, Bool, true, false, Option}
 use Rattle.std.proofs.Common.{Some, None, refl, sym, subst}
 use Rattle.std.specs.Prelude.{unwrap_or}
 use Rattle.std.specs.List.{All}
 use Rattle.std.specs.Option.{option_map_or}
-use Rattle.std.specs.Ordering.{int_eq}
 use Rattle.std.specs.FinMap as fin
 use Rattle.std.proofs.lemmas.Bool.{cond_both}
 use Rattle.std.proofs.lemmas.List.Elements.{All-nil, All-cons, All-head, All-tail, All-append, All-replicate, All-set, All-weaker, All-map}
 use Rattle.std.proofs.lemmas.Option.{none-some}
 use Rattle.tc_code.specs.int_ops.Arith.{IsInt}
+use Rattle.tc_code.specs.int_ops.Updates.{operands_of}
+use Rattle.tc_code.specs.int_ops.declared.update.Update.{Update}
 use Rattle.tc_code.specs.tc_base.Names.{Name, by_name, main, child}
 use Rattle.tc_code.specs.tc_base.Buffers.{BufferOps}
 use Rattle.tc_code.specs.tc_base.States.{Local, Thread, State}
 use Rattle.tc_code.specs.tc_base.declared.moves.Move.{Move}
 use Rattle.tc_code.specs.tc_base.declared.moves.Move.TheVariants as move
 use Rattle.tc_code.specs.tc_base.declared.request.Request.{Request}
-use Rattle.tc_code.specs.tc_base.declared.request.Request.TheVariants.{Read, Write, Exchange, CompareExchange, Bar, Start, Fail}
+use Rattle.tc_code.specs.tc_base.declared.request.Request.TheVariants.{Read, Write, Exchange, Bar, Start, Fail}
 use Rattle.tc_code.proofs.int_ops.Ints.{there_int, truth_int}
+use Rattle.tc_code.proofs.int_ops.Updates.{updated_int, operands-with}
 use Rattle.tc_code.specs.Expr.{Expr, value_of, HasInts}
+use Rattle.tc_code.specs.declared.cell.Cell.{Cell}
+use Rattle.tc_code.specs.declared.cell.Cell.TheVariants.{Fixed, Element}
 use Rattle.tc_code.specs.declared.instr.Instr.{Instr}
-use Rattle.tc_code.specs.declared.instr.Instr.TheVariants.{Set, Load, LoadAt, Store, StoreAt, Inside, Branch, Holds, Signal, Create}
-use Rattle.tc_code.specs.declared.instr.Instr.TheVariants.{Ready, Assert, Nonzero, InRange, Swap, Cas}
+use Rattle.tc_code.specs.declared.instr.Instr.TheVariants.{Set, Load, Store, Inside, Branch, Holds, Signal, Create}
+use Rattle.tc_code.specs.declared.instr.Instr.TheVariants.{Ready, Assert, Nonzero, InRange, Modify}
 use Rattle.tc_code.specs.Code.{Code}
-use Rattle.tc_code.specs.Lawful.{exprs_of, IsLawful}
-use Rattle.tc_code.specs.Step.{request, site, step_in_place, value_in, local_after, arguments_of, instr_of, in_memory, replaced, ints_of, loaded, born}
+use Rattle.tc_code.specs.Lawful.{exprs_of, index_of, IsLawful}
+use Rattle.tc_code.specs.Step.{request, site, step_in_place, value_in, local_after, arguments_of, instr_of, in_memory, ints_of, loaded, born}
 use Rattle.tc_code.specs.Step.{perform, with_thread, state_after_step, state_after_exchange, step, opening}
 use Rattle.tc_code.specs.Run.{IsReached}
 use Rattle.tc_code.proofs.Facts.{placed_next, step_is_reached}
@@ -53,8 +57,9 @@ module _ (t : Local) (are : All IsInt t.slots) where
   first_int : (e : Expr) (es : List Expr) → All HasInts (e ∷ es) → IsInt (value_in t e)
   first_int e es is = value_int e t.slots (All-head HasInts e es is) are
 
-  second_int : (d e : Expr) → All HasInts (d ∷ e ∷ []) → IsInt (value_in t e)
-  second_int d e is = first_int e [] (All-tail HasInts d (e ∷ []) is)
+  after_index : (c : Cell Expr) (es : List Expr) → All HasInts (index_of c ++ es) → All HasInts es
+  after_index (Fixed c) es is = is
+  after_index (Element a len i) es is = All-tail HasInts i es is
 
   site_asks_ints : (b : Bool) → AsksInts (site b)
   site_asks_ints true = tt
@@ -62,10 +67,9 @@ module _ (t : Local) (are : All IsInt t.slots) where
 
   -- an instruction over ints requests ints
   pub asks_ints : (i : Instr) → All HasInts (exprs_of i) → AsksInts (request t i)
-  asks_ints (Store c e) is = first_int e [] is
-  asks_ints (StoreAt a len i e) is = second_int i e is
-  asks_ints (Swap k c e) is = first_int e [] is
-  asks_ints (Cas k c e new) is = (first_int e (new ∷ []) is, second_int e new is)
+  asks_ints (Store c e) is = first_int e [] (after_index c (e ∷ []) is)
+  asks_ints (Modify k c u) is =
+      subst (All IsInt) (sym (operands-with (value_in t) u)) (values_int (operands_of u) t.slots (after_index c (operands_of u) is) are)
   asks_ints (Inside len i) is = site_asks_ints _
   asks_ints (Holds m) is = site_asks_ints _
   asks_ints (Ready h) is = site_asks_ints _
@@ -83,9 +87,7 @@ module _ (t : Local) (are : All IsInt t.slots) where
   pub after_int : (i : Instr) (v : ℤ) → All HasInts (exprs_of i) → IsInt v → All IsInt (local_after t i v).slots
   after_int (Set k e) v is int = All-set IsInt t.slots k _ (first_int e [] is) are
   after_int (Load k c) v is int = All-set IsInt t.slots k v int are
-  after_int (LoadAt k a len i) v is int = All-set IsInt t.slots k v int are
-  after_int (Swap k c e) v is int = All-set IsInt t.slots k v int are
-  after_int (Cas k c e new) v is int = All-set IsInt t.slots k v int are
+  after_int (Modify k c u) v is int = All-set IsInt t.slots k v int are
   after_int (Branch e to) v is int = subst (λ u. All IsInt u.slots) (sym (branch_is t _ to)) are
   after_int i v is int = are
 
@@ -123,8 +125,7 @@ module _ {B : Type 0} (ops : BufferOps B) (code : Code) (passes : PassesInts ops
 
     taken_by_int : (t : Thread B) (r : Request) → ThreadHasInts ops t → All IsInt (taken_by ops code s t r)
     taken_by_int t (Read c) ints = All-cons IsInt _ [] (loaded_int t c ints) (All-nil IsInt)
-    taken_by_int t (Exchange c v) ints = All-cons IsInt _ [] (in_memory_int c) (All-nil IsInt)
-    taken_by_int t (CompareExchange c e v) ints = All-cons IsInt _ [] (in_memory_int c) (All-nil IsInt)
+    taken_by_int t (Exchange c u) ints = All-cons IsInt _ [] (in_memory_int c) (All-nil IsInt)
     taken_by_int t r ints = All-nil IsInt
 
     -- the values that a thread takes in a move are ints
@@ -150,9 +151,9 @@ module _ {B : Type 0} (ops : BufferOps B) (code : Code) (passes : PassesInts ops
     did_ints : StateHasInts ops (state_after_step ops s n t i)
     did_ints = does_ints (pos 0) t.buffer zero_int ints.buffer
 
-    exchanged_ints : (c : ℕ) (v : ℤ) → IsInt v → StateHasInts ops (state_after_exchange ops s n t i c v)
-    exchanged_ints c v int = record {
-      memory = All-set IsInt s.memory c v int has.memory;
+    exchanged_ints : (c : ℕ) (u : Update ℤ) → All IsInt (operands_of u) → StateHasInts ops (state_after_exchange ops s n t i c u)
+    exchanged_ints c u asks = record {
+      memory = All-set IsInt s.memory c _ (updated_int u (in_memory s c) asks (in_memory_int s has c)) has.memory;
       threads = (does_ints (in_memory s c) t.buffer (in_memory_int s has c) ints.buffer).threads;
     }
 
@@ -162,9 +163,7 @@ module _ {B : Type 0} (ops : BufferOps B) (code : Code) (passes : PassesInts ops
         cond_both ops.buffered _ _ (StateHasInts ops)
         (λ buffered. does_ints (pos 0) (ops.issue t.buffer c v) zero_int (Issued t.buffer c v buffered ints.buffer asks))
         (λ _. record { memory = All-set IsInt s.memory c v asks has.memory; threads = did_ints.threads })
-    performed_ints (Exchange c v) asks = exchanged_ints c v asks
-    performed_ints (CompareExchange c e v) asks =
-        exchanged_ints c (replaced (in_memory s c) e v) (either IsInt (int_eq (in_memory s c) e) v (in_memory s c) asks.1 (in_memory_int s has c))
+    performed_ints (Exchange c u) asks = exchanged_ints c u asks
     performed_ints Bar asks = does_ints (pos 0) (ops.bar t.buffer) zero_int (Barred t.buffer ints.buffer)
     performed_ints (Start f) asks =
         put_ints (state_after_step ops s n t i) did_ints (child n (t.local.children + 1)) _ (born_ints f _ (arguments_int t.local ints.slots i is))

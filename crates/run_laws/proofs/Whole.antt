@@ -19,7 +19,7 @@ use Rattle.tc_code.specs.Code.{Code}
 use Rattle.tc_code.specs.Lawful.{names_what_is, IsLawful}
 use Rattle.tc_code.specs.declared.code.Func.{Func}
 use Rattle.tc_code.specs.tc_base.declared.request.Request.{Request}
-use Rattle.tc_code.specs.tc_base.declared.request.Request.TheVariants.{Write, Exchange, CompareExchange, Acquire, Release, BeginWait, EndWait, WakeAll}
+use Rattle.tc_code.specs.tc_base.declared.request.Request.TheVariants.{Write, Exchange, Acquire, Release, BeginWait, EndWait, WakeAll}
 use Rattle.tc_code.specs.Step.{request, value_in, local_after, instr_of, ints_of, handles_of, born, perform, step, opening}
 use Rattle.tc_code.specs.Run.{IsReached}
 use Rattle.tc_code.proofs.Facts.{placed_next}
@@ -106,7 +106,6 @@ module _ {B : Type 0} (ops : BufferOps B) (code : Code) where
       either (SharesAsMuch s) ops.buffered _ _ (record { memory = refl; owners = refl; waiters = refl })
       (record { memory = length-set s.memory c v; owners = refl; waiters = refl })
   performed_shares s n t i (Exchange c v) = record { memory = length-set s.memory c _; owners = refl; waiters = refl }
-  performed_shares s n t i (CompareExchange c e v) = record { memory = length-set s.memory c _; owners = refl; waiters = refl }
   performed_shares s n t i (Acquire m) = record { memory = refl; owners = length-set s.owners m _; waiters = refl }
   performed_shares s n t i (Release m) = record { memory = refl; owners = length-set s.owners m _; waiters = refl }
   performed_shares s n t i (BeginWait c m) = record { memory = refl; owners = length-set s.owners m _; waiters = length-set s.waiters c _ }

@@ -13,7 +13,7 @@ use Rattle.tc_code.specs.declared.instr.Instr.{Instr}
 use Rattle.tc_code.specs.declared.instr.Instr.TheVariants.{Create}
 use Rattle.tc_code.specs.Code.{Code}
 use Rattle.tc_code.specs.tc_base.declared.request.Request.{Request}
-use Rattle.tc_code.specs.tc_base.declared.request.Request.TheVariants.{Read, Exchange, CompareExchange, Fail}
+use Rattle.tc_code.specs.tc_base.declared.request.Request.TheVariants.{Read, Exchange, Fail}
 use Rattle.tc_code.specs.Step.{request, step_in_place, value_in, local_after, instr_of, loaded, in_memory, born, step}
 use Rattle.tc_code.specs.Run.{run}
 
@@ -30,8 +30,6 @@ pub record Alone : Type 0 where
 abbrev pub after_request : Local → Instr → List ℤ → Request → Alone
 after_request t i (v ∷ vs) (Read c) = record { local = local_after t i v; values = vs }
 after_request t i (v ∷ vs) (Exchange c _) = record { local = local_after t i v; values = vs }
-after_request t i (v ∷ vs) (CompareExchange c _ _) =
-    record { local = local_after t i v; values = vs }
 after_request t i vs Fail = record { local = step_in_place t; values = vs }
 after_request t i vs _ = record { local = local_after t i (pos 0); values = vs }
 
@@ -51,7 +49,6 @@ module _ {B : Type 0} (ops : BufferOps B) (code : Code) where
   abbrev pub taken_by : State B → Thread B → Request → List ℤ
   taken_by s t (Read c) = loaded ops s t c ∷ []
   taken_by s t (Exchange c _) = in_memory s c ∷ []
-  taken_by s t (CompareExchange c _ _) = in_memory s c ∷ []
   taken_by s t _ = []
 
   -- the value that a move reads, if it is a read by the named thread

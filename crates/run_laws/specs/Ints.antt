@@ -3,17 +3,17 @@ use Rattle.std.specs.Prelude.{◌≡◌, ℕ, ℤ, true, IsTrue, Option, Some}
 use Rattle.std.specs.List.{All}
 use Rattle.std.specs.FinMap as fin
 use Rattle.tc_code.specs.int_ops.Arith.{IsInt}
+use Rattle.tc_code.specs.int_ops.Updates.{operands_of}
 use Rattle.tc_code.specs.tc_base.Names.{Name}
 use Rattle.tc_code.specs.tc_base.Buffers.{BufferOps}
 use Rattle.tc_code.specs.tc_base.States.{Thread, State}
 use Rattle.tc_code.specs.tc_base.declared.request.Request.{Request}
-use Rattle.tc_code.specs.tc_base.declared.request.Request.TheVariants.{Write, Exchange, CompareExchange}
+use Rattle.tc_code.specs.tc_base.declared.request.Request.TheVariants.{Write, Exchange}
 
 -- the values of a request are ints
 abbrev pub AsksInts : Request → Type 0
 AsksInts (Write c v) = IsInt v
-AsksInts (Exchange c v) = IsInt v
-AsksInts (CompareExchange c e v) = IsInt e × IsInt v
+AsksInts (Exchange c u) = All IsInt (operands_of u)
 AsksInts _ = Unit {0}
 
 module _ {B : Type 0} (ops : BufferOps B) where

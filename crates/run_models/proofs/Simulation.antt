@@ -18,7 +18,7 @@ use Rattle.store_buffers.specs.memory_models.declared.model.Model.{Model}
 use Rattle.store_buffers.specs.tc_base.declared.moves.Move.{Move}
 use Rattle.store_buffers.specs.tc_base.declared.moves.Move.TheVariants as move
 use Rattle.store_buffers.specs.tc_base.declared.request.Request.{Request}
-use Rattle.store_buffers.specs.tc_base.declared.request.Request.TheVariants.{Silent, Read, Write, Exchange, CompareExchange, Bar}
+use Rattle.store_buffers.specs.tc_base.declared.request.Request.TheVariants.{Silent, Read, Write, Exchange, Bar}
 use Rattle.store_buffers.specs.tc_base.declared.request.Request.TheVariants.{Start, Await, Fail}
 use Rattle.run_laws.specs.tc_code.declared.instr.Instr.{Instr}
 use Rattle.run_laws.specs.tc_code.declared.instr.Instr.TheVariants.{Signal}
@@ -166,7 +166,6 @@ module _ {B C : Type 0} (ops : BufferOps B) (more : BufferOps C) where
         alike = kept (local_after t.local i (loaded ops s t cell));
       }
       performs i (Exchange cell v) other = record { threads = _; same = refl; alike = kept (local_after t.local i (in_memory s cell)) }
-      performs i (CompareExchange cell e v) other = record { threads = _; same = refl; alike = kept (local_after t.local i (in_memory s cell)) }
       performs i Bar other = record {
         threads = _;
         same = refl;

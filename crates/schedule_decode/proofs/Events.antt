@@ -10,7 +10,7 @@ use Rattle.store_buffers.specs.tc_base.Names.{Name}
 use Rattle.store_buffers.specs.tc_base.declared.moves.Move.{Move}
 use Rattle.store_buffers.specs.tc_base.declared.moves.Move.TheVariants as move
 use Rattle.store_buffers.specs.tc_base.declared.request.Request.{Request}
-use Rattle.store_buffers.specs.tc_base.declared.request.Request.TheVariants.{Silent, Read, Write, Exchange, CompareExchange, Bar, Acquire, Release, BeginWait}
+use Rattle.store_buffers.specs.tc_base.declared.request.Request.TheVariants.{Silent, Read, Write, Exchange, Bar, Acquire, Release, BeginWait}
 use Rattle.store_buffers.specs.tc_base.declared.request.Request.TheVariants.{EndWait, WakeOne, WakeAll, Start, Await, OrderStores, Finish, Fail}
 use Rattle.store_buffers.specs.Pending.{Binding, form_of}
 use Rattle.world_moves.specs.run_history.History.{Deed, Did, Drained}
@@ -63,7 +63,6 @@ module _ (bound : Binding) (paths : Paths) (w : World) (g : ℕ) (n : Name) wher
   event_moves k (Read c) took other asked is wakes = ap (own_move paths w g n) (same_Some kind.Load asked is)
   event_moves k (Write c v) took other asked is wakes = ap (own_move paths w g n) (same_Some kind.Store asked is)
   event_moves k (Exchange c v) took other asked is wakes = ap (own_move paths w g n) (same_Some kind.Exchange asked is)
-  event_moves k (CompareExchange c e v) took other asked is wakes = ap (own_move paths w g n) (same_Some kind.Exchange asked is)
   event_moves k (Acquire m) took other asked is wakes = ap (own_move paths w g n) (same_Some (kind.Lock m) asked is)
   event_moves k (Release m) took other asked is wakes = ap (own_move paths w g n) (same_Some (kind.Unlock m) asked is)
   event_moves k (BeginWait c m) took other asked is wakes = ap (own_move paths w g n) (same_Some (kind.Sleep c m) asked is)

@@ -21,7 +21,7 @@ use Rattle.world_moves.proofs.path_laws.of_events.Lists.{in_contains}
 use Rattle.sym_terms.specs.declared.node.Node.{Node}
 use Rattle.sym_exec.specs.Alone.{cell_by}
 use Rattle.path_execution.specs.declared.execution.Execution.{Execution}
-use Rattle.sym_exec.specs.declared.symbolic.Cell.{Cell}
+use Rattle.tc_code.specs.declared.cell.Cell.{Cell}
 use Rattle.world_moves.specs.sym_laws.Valued.{found}
 use Rattle.plan_runs.proofs.sym_events.Terms.{have_terms}
 use Rattle.order_formula.specs.Worlds.{World, position}
@@ -50,7 +50,7 @@ only_store kind.Load e = absurd cc
 only_store k e = absurd cc
 
 -- a cell of memory, whose terms exist
-pub record IsOfMemory (code : Code) (nodes : List Node) (w : World) (c : Cell) : Type 0 where
+pub record IsOfMemory (code : Code) (nodes : List Node) (w : World) (c : Cell ℕ) : Type 0 where
   pub terms : CellIsOf (length nodes) c
   pub number : cell_by nodes w.loads c < length code.memory
 

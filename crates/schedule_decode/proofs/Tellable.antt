@@ -11,7 +11,7 @@ use Rattle.tc_code.specs.Code.{Code}
 use Rattle.store_buffers.specs.Pending.{Binding}
 use Rattle.path_walk.specs.Paths.{Walk}
 use Rattle.sym_terms.specs.declared.node.Node.{Node}
-use Rattle.sym_exec.specs.declared.symbolic.Cell.{Cell}
+use Rattle.tc_code.specs.declared.cell.Cell.{Cell}
 use Rattle.path_execution.specs.declared.execution.Execution.{Execution}
 use Rattle.order_formula.specs.Worlds.{World}
 use Rattle.lawful_terms.specs.lawful_order.Memory.{cell_of}
@@ -26,7 +26,7 @@ pub of_all : {X : Type 0} (P : X → Type 0) (xs : List X) → All P xs → (k :
 of_all P xs all k x at = subst P (get_or_from_slice_get xs k x x at) (all k x (slice_get_within xs k x at))
 
 -- a cell of memory has a number of 32 bits
-numbered : (code : Code) (nodes : List Node) (w : World) → length code.memory ≤ CELLS → (o : Option Cell)
+numbered : (code : Code) (nodes : List Node) (w : World) → length code.memory ≤ CELLS → (o : Option (Cell ℕ))
     → IfSome o (IsOfMemory code nodes w) → IfSome o (IsNumbered nodes w)
 numbered code nodes w few None is = tt
 numbered code nodes w few (Some c) is = record { terms = is.terms; number = omega (arith, is.number, few) }

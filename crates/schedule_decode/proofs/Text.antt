@@ -28,7 +28,7 @@ use Rattle.path_walk.specs.declared.event.EventKind.{EventKind}
 use Rattle.path_walk.specs.declared.event.EventKind.TheVariants as kind
 use Rattle.path_walk.specs.declared.event.Sleep.{Sleep}
 use Rattle.sym_exec.specs.Alone.{cell_by}
-use Rattle.sym_exec.specs.declared.symbolic.Cell.{Cell}
+use Rattle.tc_code.specs.declared.cell.Cell.{Cell}
 use Rattle.path_execution.specs.declared.execution.Execution.{Execution}
 use Rattle.order_formula.specs.Worlds.{World, is_ended}
 use Rattle.lawful_terms.specs.lawful_order.Events.{Placed, all_events, all_sleeps}
@@ -145,7 +145,7 @@ module _ (buffered : Bool) (bound : Binding) (code : Code) (x : Execution) (w : 
       → HasText model 1 (drains_of buffered bound x w t n k)
   drains_fit t n k is waits in_memory = by (cell_of x.symbolic t k) in_memory
     where
-      by : (o : Option Cell) → IfSome o (IsOfMemory code x.terms w)
+      by : (o : Option (Cell ℕ)) → IfSome o (IsOfMemory code x.terms w)
           → HasText model 1 (option_map_or (λ c. move.Drain n (form_of bound (cell_by x.terms w.loads c)) ∷ []) o [])
       by None m = no_text model 1
       by (Some c) m =

@@ -11,10 +11,11 @@ use Rattle.pure_turns.specs.tc_base.Names.{Name}
 use Rattle.pure_turns.specs.tc_base.States.{Thread, State}
 use Rattle.pure_turns.specs.tc_base.declared.moves.Move.{Move}
 use Rattle.pure_turns.specs.tc_base.declared.request.Request.{Request}
-use Rattle.pure_turns.specs.tc_base.declared.request.Request.TheVariants.{Silent, Exchange, CompareExchange, WakeOne}
+use Rattle.pure_turns.specs.tc_base.declared.request.Request.TheVariants.{Silent, Exchange, WakeOne}
 use Rattle.pure_turns.specs.tc_code.declared.instr.Instr.{Instr}
 use Rattle.pure_turns.specs.tc_code.Run.{run, run_from}
-use Rattle.pure_turns.specs.tc_code.Step.{request, instr_of, replaced, opening}
+use Rattle.pure_turns.specs.tc_code.int_ops.Updates.{updated}
+use Rattle.pure_turns.specs.tc_code.Step.{request, instr_of, opening}
 use Rattle.pure_turns.proofs.tc_code.Facts.{run_from-append}
 use Rattle.least_runs.specs.store_buffers.Pending.{Binding}
 use Rattle.pure_turns.proofs.run_laws.Asks.{AsksOf, next_asks_within}
@@ -79,9 +80,8 @@ module _ {B : Type 0} (machine : Machine B) where
   -- a step that is pure by its deed is pure in its state
   pure_in : (s : State B) (h : List Deed) (a : Tells ops model bound laws code s h) (n : Name) (held : List Bool) (r : Request) (v : ℤ) → AsksOf code r
       → v ≡ taken_in ops.buffered code h n r → is_pure_step held r v ≡ true → is_pure s held r ≡ true
-  pure_in s h a n held (Exchange c w) v within took pure = subst (λ x. int_eq w x ≡ true) (took ∙ sym (a.memory.values c within)) pure
-  pure_in s h a n held (CompareExchange c e w) v within took pure =
-      subst (λ x. int_eq (replaced x e w) x ≡ true) (took ∙ sym (a.memory.values c within)) pure
+  pure_in s h a n held (Exchange c w) v within took pure =
+      subst (λ x. int_eq (updated w x) x ≡ true) (took ∙ sym (a.memory.values c within)) pure
   pure_in s h a n held Silent v within took pure = refl
   pure_in s h a n held r v within took pure = pure
 

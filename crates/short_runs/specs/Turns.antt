@@ -6,9 +6,9 @@ use Rattle.std.specs.FinMap as fin
 use Rattle.pure_turns.specs.tc_base.Names.{Name}
 use Rattle.pure_turns.specs.tc_base.States.{Local}
 use Rattle.pure_turns.specs.tc_base.declared.request.Request.{Request}
-use Rattle.pure_turns.specs.tc_base.declared.request.Request.TheVariants.{Silent, Read, Exchange, CompareExchange, Acquire, Release, OrderStores}
+use Rattle.pure_turns.specs.tc_base.declared.request.Request.TheVariants.{Silent, Read, Exchange, Acquire, Release, OrderStores}
 use Rattle.pure_turns.specs.tc_code.Code.{Code}
-use Rattle.pure_turns.specs.tc_code.Step.{replaced}
+use Rattle.pure_turns.specs.tc_code.int_ops.Updates.{updated}
 use Rattle.least_runs.specs.run_history.History.{Deed, Did}
 use Rattle.least_runs.specs.run_history.Locals.{locals_in}
 use Rattle.least_runs.specs.run_history.Told.{is_step_of}
@@ -20,8 +20,7 @@ abbrev pub is_pure_step : (held : List Bool) → Request → (took : ℤ) → Bo
 is_pure_step held Silent took = true
 is_pure_step held (Read c) took = true
 is_pure_step held OrderStores took = true
-is_pure_step held (Exchange c v) took = int_eq v took
-is_pure_step held (CompareExchange c e v) took = int_eq (replaced took e v) took
+is_pure_step held (Exchange c u) took = int_eq (updated u took) took
 is_pure_step held (Acquire m) took = true
 is_pure_step held (Release m) took = not (slice_index_or held m false)
 is_pure_step held _ took = false

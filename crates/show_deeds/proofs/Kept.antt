@@ -17,7 +17,7 @@ use Rattle.tc_base.specs.States.{Thread, State}
 use Rattle.store_buffers.specs.memory_models.declared.model.Model.{Model}
 use Rattle.tc_base.specs.declared.moves.Move.{Move}
 use Rattle.tc_base.specs.declared.request.Request.{Request}
-use Rattle.tc_base.specs.declared.request.Request.TheVariants.{Read, Write, Exchange, CompareExchange, Bar, WakeOne}
+use Rattle.tc_base.specs.declared.request.Request.TheVariants.{Read, Write, Exchange, Bar, WakeOne}
 use Rattle.tc_code.specs.declared.instr.Instr.{Instr}
 use Rattle.tc_code.specs.Code.{Code}
 use Rattle.tc_code.specs.Run.{run}
@@ -277,7 +277,6 @@ module _ {B : Type 0} (ops : BufferOps B) (model : Model) (bound : Binding) (law
       by : (r : Request) → value_taken ops code s t r ≡ taken_by ops s.memory t r
       by (Read c) = refl
       by (Exchange c v) = refl
-      by (CompareExchange c e v) = refl
       by r = refl
 
 -- Which store of a thread drains.

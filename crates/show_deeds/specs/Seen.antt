@@ -6,7 +6,7 @@ use Rattle.tc_base.specs.Names.{Name}
 use Rattle.tc_base.specs.Buffers.{BufferOps, Entry}
 use Rattle.tc_base.specs.States.{Thread}
 use Rattle.tc_base.specs.declared.request.Request.{Request}
-use Rattle.tc_base.specs.declared.request.Request.TheVariants.{Read, Write, Exchange, CompareExchange}
+use Rattle.tc_base.specs.declared.request.Request.TheVariants.{Read, Write, Exchange}
 use Rattle.tc_code.specs.Code.{Code}
 use Rattle.run_history.specs.History.{Deed, Did, Drained}
 use Rattle.run_history.specs.Told.{reaches}
@@ -65,6 +65,5 @@ first_by n form (w ∷ ws) =
 abbrev pub taken_by : {B : Type 0} → BufferOps B → List ℤ → Thread B → Request → ℤ
 taken_by ops memory t (Read c) =
     unwrap_or (ops.forward t.buffer c) (slice_index_or memory c (pos 0))
-taken_by ops memory t (Exchange c v) = slice_index_or memory c (pos 0)
-taken_by ops memory t (CompareExchange c e v) = slice_index_or memory c (pos 0)
+taken_by ops memory t (Exchange c u) = slice_index_or memory c (pos 0)
 taken_by ops memory t _ = pos 0

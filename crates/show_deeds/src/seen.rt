@@ -7,6 +7,7 @@ ghost use Rattle.show_deeds.specs.Seen.{is_other, seen_after, taken_by};
 ghost use Rattle.show_deeds.specs.declared.deed.Deed.TheVariants as deed;
 
 use crate::deed::{Deed, Step, Stored};
+use int_ops::updated;
 use std::alloc::{AllocError, Global};
 use std::marker::Model;
 use store_buffers::MemoryModel;
@@ -63,9 +64,7 @@ impl Seen {
                 Some(value) => value,
                 None => self.in_memory(cell),
             },
-            Request::Exchange(cell, _) | Request::CompareExchange(cell, _, _) => {
-                self.in_memory(cell)
-            }
+            Request::Exchange(cell, _) => self.in_memory(cell),
             _ => 0,
         }
     }
@@ -124,15 +123,8 @@ impl Seen {
                 };
                 self.waiting.push(stored)?;
             }
-            Request::Write(cell, value) | Request::Exchange(cell, value) => self.put(cell, value),
-            Request::CompareExchange(cell, expected, value) => {
-                let new = if step.took == expected {
-                    value
-                } else {
-                    step.took
-                };
-                self.put(cell, new);
-            }
+            Request::Write(cell, value) => self.put(cell, value),
+            Request::Exchange(cell, update) => self.put(cell, updated(update, step.took)),
             _ => {}
         }
         Ok(())

@@ -1,5 +1,6 @@
 //! Marks: the facts of a row that the page's script reads beside its words.
 
+use int_ops::{Update, updated};
 use show_deeds::Deed;
 use show_rows::Row;
 use show_words::Program;
@@ -59,11 +60,12 @@ pub(crate) fn access_of(row: &Row, buffered: bool) -> Option<Access> {
                 Request::Read(cell) => Some(Access::load(cell, took)),
                 Request::Write(cell, put) if buffered => Some(Access::store("issue", cell, put)),
                 Request::Write(cell, put) => Some(Access::store("store", cell, put)),
-                Request::Exchange(cell, put) => Some(Access::exchange(cell, took, put)),
-                Request::CompareExchange(cell, expected, put) if took == expected => {
-                    Some(Access::exchange(cell, took, put))
+                Request::Exchange(cell, Update::Cas(expected, _)) if took != expected => {
+                    Some(Access::load(cell, took))
                 }
-                Request::CompareExchange(cell, _, _) => Some(Access::load(cell, took)),
+                Request::Exchange(cell, update) => {
+                    Some(Access::exchange(cell, took, updated(update, took)))
+                }
                 _ => None,
             }
         }

@@ -1,5 +1,6 @@
 //! Where arrows begin: at the store whose value a load takes, and at the issue of a store that drains.
 
+use int_ops::Update;
 use show_deeds::{Deed, Step};
 use show_rows::Row;
 use show_words::issue_of;
@@ -27,9 +28,7 @@ impl Sources {
             Deed::Drained(stored) => issue_of(before, stored),
             Deed::Did(step) => match step.asks {
                 Request::Read(cell) if own => own_store(before, step, cell),
-                Request::Read(cell)
-                | Request::Exchange(cell, _)
-                | Request::CompareExchange(cell, _, _) => self.writer(cell),
+                Request::Read(cell) | Request::Exchange(cell, _) => self.writer(cell),
                 _ => None,
             },
         }
@@ -42,10 +41,8 @@ impl Sources {
             Deed::Drained(stored) => self.put(stored.cell, source),
             Deed::Did(step) => match step.asks {
                 Request::Write(cell, _) if !buffered => self.put(cell, Some(place)),
+                Request::Exchange(_, Update::Cas(expected, _)) if step.took != expected => {}
                 Request::Exchange(cell, _) => self.put(cell, Some(place)),
-                Request::CompareExchange(cell, expected, _) if step.took == expected => {
-                    self.put(cell, Some(place));
-                }
                 _ => {}
             },
         }

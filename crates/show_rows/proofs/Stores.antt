@@ -7,6 +7,7 @@ use Rattle.tc_code.specs.Code.{Code}
 use Rattle.tc_code.specs.Step.{ints_of}
 use Rattle.tc_code.specs.declared.code.Func.{Func}
 use Rattle.tc_code.specs.Expr.{Slot}
+use Rattle.tc_code.specs.declared.cell.Cell.TheVariants.{Fixed}
 use Rattle.tc_code.specs.declared.instr.Instr.TheVariants.{Store}
 use Rattle.tc_threads.specs.CanDo.{CanAsk}
 use Rattle.tc_threads.specs.run_laws.Whole.{IsWholeThread}
@@ -15,7 +16,7 @@ use Rattle.tc_threads.specs.run_laws.Whole.{IsWholeThread}
 abbrev pub one_cell : Code → Code
 one_cell code = record code { memory = pos 0 ∷ [] }
 
-pub can_store : (code : Code) (t : Local) (k : ℕ) → IsWholeThread code t → k < length t.slots → CanAsk (one_cell code) t (Store 0 (Slot k))
+pub can_store : (code : Code) (t : Local) (k : ℕ) → IsWholeThread code t → k < length t.slots → CanAsk (one_cell code) t (Store (Fixed 0) (Slot k))
 can_store code t k whole lt = record {
   function = whole.function;
   names = lt-ltb k (length t.slots) lt;

@@ -8,7 +8,7 @@ ghost use Rattle.tc_code.specs.Step as plain;
 use std::alloc::{AllocError, Global};
 use store_buffers::MemoryModel;
 use tc_base::Request;
-use tc_code::{Code, Expr, Instr};
+use tc_code::{Cell, Code, Expr, Instr};
 use tc_threads::Thread;
 
 /// The number of int slots of a function, or 0 if it doesn't exist.
@@ -46,7 +46,7 @@ fn slot_of<M: MemoryModel>(thread: &Thread<M>, slot: u32) -> i32
     ensures { result ≡ slice_index_or thread.now.local.slots slot (pos 0) }
 {
     let store = Instr::Store {
-        cell: 0,
+        cell: Cell::Fixed(0),
         value: Expr::slot(slot),
     };
     match thread.request(&store) {

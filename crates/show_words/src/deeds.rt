@@ -4,12 +4,13 @@ use crate::program::Program;
 use crate::rows::Shared;
 use crate::sites::{failed_words, silent_words};
 use crate::terms::value_over;
+use int_ops::{Update, updated};
 use show_deeds::{Deed, Step, Stored};
 use show_names::Names;
 use show_rows::Row;
 use std::alloc::{AllocError, Global};
 use tc_base::{Request, ThreadName};
-use tc_code::Instr;
+use tc_code::{Expr, Instr};
 
 /// A row's move in words, given whether there are buffers, and its facts that depend on other
 /// moves.
@@ -49,28 +50,14 @@ fn step_words(
         Request::Fail => failed_words(alloc, program, row),
         Request::Read(cell) => load_words(alloc, names.cell(cell), took, shared.own),
         Request::Write(cell, value) => store_words(alloc, names.cell(cell), value, buffered),
-        Request::Exchange(cell, value) => {
-            let name = names.cell(cell);
-            format!(in alloc; "swap {name}: took {took}, put {value}")
-        }
-        Request::CompareExchange(cell, expected, value) => {
-            cas_words(alloc, names.cell(cell), took, expected, value)
-        }
+        Request::Exchange(cell, update) => update_words(alloc, names.cell(cell), took, update),
         Request::Bar => String::from_str(alloc, "stbar"),
         Request::OrderStores => String::from_str(alloc, "fence"),
         Request::Finish => String::from_str(alloc, "exits"),
-        Request::Acquire(mutex) => {
-            let mutex = names.mutex(mutex);
-            format!(in alloc; "lock {mutex}")
-        }
-        Request::Release(mutex) => {
-            let mutex = names.mutex(mutex);
-            format!(in alloc; "unlock {mutex}")
-        }
+        Request::Acquire(mutex) => mutex_words(alloc, "lock", names.mutex(mutex)),
+        Request::Release(mutex) => mutex_words(alloc, "unlock", names.mutex(mutex)),
         Request::BeginWait(condition, mutex) => {
-            let condition = names.condition(condition);
-            let mutex = names.mutex(mutex);
-            format!(in alloc; "sleeps on {condition}, unlock {mutex}")
+            sleep_words(alloc, names.condition(condition), names.mutex(mutex))
         }
         Request::EndWait(condition, mutex) => {
             awake_words(
@@ -87,11 +74,23 @@ fn step_words(
             wake_words(alloc, "broadcast", names.condition(condition), shared.wakes)
         }
         Request::Start(_) => creation_words(alloc, program, row, step),
-        Request::Await(child) => {
-            let parent = &step.thread;
-            format!(in alloc; "joins {parent}.{child}")
-        }
+        Request::Await(child) => join_words(alloc, &step.thread, child),
     }
+}
+
+/// A step that acquires or releases a mutex.
+fn mutex_words(alloc: Global, verb: &str, mutex: &str) -> Result<String, AllocError> {
+    format!(in alloc; "{verb} {mutex}")
+}
+
+/// A step by which a thread begins to wait.
+fn sleep_words(alloc: Global, condition: &str, mutex: &str) -> Result<String, AllocError> {
+    format!(in alloc; "sleeps on {condition}, unlock {mutex}")
+}
+
+/// A step by which a thread joins a child.
+fn join_words(alloc: Global, parent: &ThreadName, child: u32) -> Result<String, AllocError> {
+    format!(in alloc; "joins {parent}.{child}")
 }
 
 /// A load, given whether it took the value from its thread's own buffer.
@@ -114,18 +113,26 @@ fn store_words(
     }
 }
 
-/// A compare-and-swap, which stores only if it took the expected value.
-fn cas_words(
+/// An update; a compare-and-exchange stores only if it took the expected value.
+fn update_words(
     alloc: Global,
     name: &str,
     took: i32,
-    expected: i32,
-    value: i32,
+    update: Update<i32>,
 ) -> Result<String, AllocError> {
-    if took == expected {
-        format!(in alloc; "cas {name}: took {took}, put {value}")
-    } else {
-        format!(in alloc; "cas {name}: took {took}, put nothing")
+    let verb = match update {
+        Update::Swap(_) => "swap",
+        Update::Cas(_, _) => "cas",
+        Update::Add(_) => "add",
+    };
+    match update {
+        Update::Cas(expected, _) if took != expected => {
+            format!(in alloc; "{verb} {name}: took {took}, put nothing")
+        }
+        _ => {
+            let put = updated(update, took);
+            format!(in alloc; "{verb} {name}: took {took}, put {put}")
+        }
     }
 }
 
@@ -149,21 +156,22 @@ fn wake_words(
     condition: &str,
     wakes: &[ThreadName],
 ) -> Result<String, AllocError> {
-    let woken = woken_words(alloc, wakes)?;
-    format!(in alloc; "{verb} {condition}: {woken}")
+    let mut words = format!(in alloc; "{verb} {condition}: ")?;
+    push_woken(&mut words, wakes)?;
+    Ok(words)
 }
 
-/// The threads that are woken, in words.
-fn woken_words(alloc: Global, wakes: &[ThreadName]) -> Result<String, AllocError> {
+/// Adds the threads that are woken.
+fn push_woken(words: &mut String, wakes: &[ThreadName]) -> Result<(), AllocError> {
     if wakes.is_empty() {
-        return String::from_str(alloc, "nobody waits");
+        return words.push_str("nobody waits");
     }
-    let mut words = String::from_str(alloc, "wakes")?;
-    for (i, name) in wakes.iter().enumerate() {
-        let comma = if i == 0 { "" } else { "," };
-        words.push_str(format!(in alloc; "{comma} {name}")?.as_str())?;
+    let mut before = "wakes";
+    for name in wakes {
+        write!(words, "{before} {name}")?;
+        before = ",";
     }
-    Ok(words)
+    Ok(())
 }
 
 /// A step that creates a thread, with the arguments.
@@ -173,7 +181,8 @@ fn creation_words(
     row: &Row,
     step: &Step,
 ) -> Result<String, AllocError> {
-    let (
+    let mut words = String::new(alloc);
+    if let (
         Some(child),
         Some(
             Instr::Create {
@@ -183,20 +192,31 @@ fn creation_words(
             },
         ),
     ) = (&step.other, program.instr(row))
-    else {
-        return String::from_str(alloc, "");
-    };
-    let function = *function as usize;
-    let name = program.function(alloc, function)?;
-    let mut words = format!(in alloc; "creates {child} {name}(")?;
+    {
+        let function = *function as usize;
+        let name = program.called(function);
+        write!(words, "creates {child} {name}")?;
+        push_arguments(&mut words, program, row, function, arguments.as_slice())?;
+    }
+    Ok(words)
+}
+
+/// Adds the arguments that a step hands to a thread of a function.
+fn push_arguments(
+    words: &mut String,
+    program: Program<'_>,
+    row: &Row,
+    function: usize,
+    arguments: &[Expr],
+) -> Result<(), AllocError> {
+    words.push('(')?;
     let mut number = 0u32;
-    for argument in arguments.as_slice() {
+    for argument in arguments {
         let comma = if number == 0 { "" } else { ", " };
         let parameter = program.names.int(function, number).unwrap_or("?");
         let value = value_over(row.slots.as_slice(), argument);
-        words.push_str(format!(in alloc; "{comma}{parameter} = {value}")?.as_str())?;
+        write!(words, "{comma}{parameter} = {value}")?;
         number = number.saturating_add(1);
     }
-    words.push(')')?;
-    Ok(words)
+    words.push(')')
 }

@@ -27,20 +27,10 @@ pub fn folded_words(
 ) -> Result<Vec<Folded>, AllocError> {
     let mut folds = Folds {
         done: Vec::new(alloc),
-        open: None,
+        is_open: false,
+        has_event: false,
     };
-    let mut before: Option<&Row> = None;
-    for (i, row) in rows.iter().enumerate() {
-        if !goes_on(program, before, row) {
-            folds.close()?;
-        }
-        match words.get(i) {
-            Some(shown) if !is_silent(row) => folds.event(alloc, i, shown.deed.as_str())?,
-            _ => folds.silent(i, brief_words(alloc, program, row)?)?,
-        }
-        before = Some(row);
-    }
-    folds.close()?;
+    folds.take_all(alloc, program, rows, words)?;
     Ok(folds.done)
 }
 
@@ -48,61 +38,72 @@ pub fn folded_words(
 #[derive(Drop)]
 struct Folds {
     done: Vec<Folded>,
-    open: Option<Open>,
-}
-
-/// A row that may go on.
-#[derive(Drop)]
-struct Open {
-    folded: Folded,
+    /// Whether the last row may go on.
+    is_open: bool,
+    /// Whether the last row has a step that isn't silent: one row has one of these.
     has_event: bool,
 }
 
 impl Folds {
-    /// Ends the row that may go on, if there is one.
-    fn close(&mut self) -> Result<(), AllocError> {
-        if let Some(open) = self.open.take() {
-            self.done.push(open.folded)?;
+    /// Takes in the rows, in turn.
+    fn take_all(
+        &mut self,
+        alloc: Global,
+        program: Program<'_>,
+        rows: &[Row],
+        words: &[Words<'_>],
+    ) -> Result<(), AllocError> {
+        let mut before: Option<&Row> = None;
+        for (i, row) in rows.iter().enumerate() {
+            self.is_open &= goes_on(program, before, row);
+            match words.get(i) {
+                Some(shown) if !is_silent(row) => self.event(alloc, i, shown.deed.as_str())?,
+                _ => self.silent(i, brief_words(alloc, program, row)?)?,
+            }
+            before = Some(row);
         }
         Ok(())
     }
 
-    /// Takes in a step that isn't silent, with its words: one row has one of these.
+    /// Takes in a step that isn't silent, with its words.
     fn event(&mut self, alloc: Global, place: usize, words: &str) -> Result<(), AllocError> {
-        if matches!(&self.open, Some(open) if open.has_event) {
-            self.close()?;
+        self.is_open &= !self.has_event;
+        self.has_event = true;
+        if self.is_open {
+            self.go_on(Some(place), words)
+        } else {
+            self.begin(place, String::from_str(alloc, words)?)
         }
-        let mut deed = String::new(alloc);
-        if let Some(open) = self.open.take() {
-            deed.push_str(open.folded.deed.as_str())?;
-            deed.push_str("; ")?;
-        }
-        deed.push_str(words)?;
-        self.open = Some(Open {
-            folded: Folded { place, deed },
-            has_event: true,
-        });
-        Ok(())
     }
 
     /// Takes in a silent step, with its words if they are worth reading.
     fn silent(&mut self, place: usize, words: Option<String>) -> Result<(), AllocError> {
-        let Some(words) = words else {
-            return Ok(());
-        };
-        match &mut self.open {
-            Some(open) => {
-                open.folded.deed.push_str("; ")?;
-                open.folded.deed.push_str(words.as_str())?;
+        match words {
+            Some(words) if self.is_open => self.go_on(None, words.as_str()),
+            Some(words) => {
+                self.has_event = false;
+                self.begin(place, words)
             }
-            None => {
-                self.open = Some(Open {
-                    folded: Folded { place, deed: words },
-                    has_event: false,
-                });
-            }
+            None => Ok(()),
         }
-        Ok(())
+    }
+
+    /// Adds a step's words to the last row, which has the number of this place from now on, if one
+    /// is given.
+    fn go_on(&mut self, place: Option<usize>, words: &str) -> Result<(), AllocError> {
+        match self.done.last_mut() {
+            Some(last) => {
+                last.place = place.unwrap_or(last.place);
+                write!(last.deed, "; {words}")
+            }
+            None => Ok(()),
+        }
+    }
+
+    /// Begins a row.
+    fn begin(&mut self, place: usize, deed: String) -> Result<(), AllocError> {
+        self.is_open = true;
+        Ok(self.done.push(Folded { place, deed })?)
     }
 }
 

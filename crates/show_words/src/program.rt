@@ -4,6 +4,7 @@ use int_ops::BinOp;
 use show_names::Names;
 use show_rows::Row;
 use std::alloc::{AllocError, Global};
+use std::slice::EscapeAscii;
 use tc_code::{Code, Expr, Instr, Node};
 
 /// A program's code, with the names of its parts in the text.
@@ -34,13 +35,17 @@ impl<'a> Program<'a> {
 
     /// The name of a function.
     pub fn function(&self, alloc: Global, function: usize) -> Result<String, AllocError> {
-        let mut name = String::new(alloc);
-        if let Some(func) = self.code.functions().get(function) {
-            for byte in func.name.as_bytes() {
-                name.push(letter(*byte))?;
-            }
-        }
-        Ok(name)
+        let name = self.called(function);
+        format!(in alloc; "{name}")
+    }
+
+    /// The letters of a function's name, which are ASCII; none if there is no such function.
+    pub(crate) fn called(&self, function: usize) -> EscapeAscii<'a> {
+        let letters: &[u8] = match self.code.functions().get(function) {
+            Some(func) => func.name.as_bytes(),
+            None => &[],
+        };
+        letters.escape_ascii()
     }
 
     /// The instruction at which a row's thread is.
@@ -97,21 +102,14 @@ impl<'a> Program<'a> {
             Some(Instr::Branch { .. }) => self.branched(row.function, row.instruction).is_some(),
             Some(
                 Instr::Load { .. }
-                | Instr::LoadAt { .. }
                 | Instr::Inside { .. }
                 | Instr::Nonzero(_)
                 | Instr::InRange(_)
                 | Instr::Holds { .. }
                 | Instr::Ready { .. }
-                | Instr::Swap { .. }
-                | Instr::Cas { .. },
+                | Instr::Modify { .. },
             ) => true,
             _ => false,
         }
     }
-}
-
-/// A byte of a name, which is ASCII.
-fn letter(byte: u8) -> char {
-    if byte < 0x80 { byte as char } else { '?' }
 }

@@ -52,11 +52,7 @@ pub fn row_words<'a>(
         seen: Seen::at_start(alloc, program.code)?,
         wakes: Wakes::new(alloc),
     };
-    let mut words = Vec::new(alloc);
-    for (i, row) in rows.iter().enumerate() {
-        words.push(wording.put(alloc, &rows[..i], row)?)?;
-    }
-    Ok(words)
+    wording.put_all(alloc, rows)
 }
 
 /// Memory, the stores that wait and the threads that sleep, after the rows so far.
@@ -69,13 +65,23 @@ struct Wording<'a> {
 }
 
 impl<'a> Wording<'a> {
+    /// Puts the rows in words, in turn.
+    fn put_all(&mut self, alloc: Global, rows: &[Row]) -> Result<Vec<Words<'a>>, AllocError> {
+        let mut words = Vec::new(alloc);
+        for (i, row) in rows.iter().enumerate() {
+            words.push(self.put(alloc, &rows[..i], row)?)?;
+        }
+        Ok(words)
+    }
+
     /// Puts the next row in words, and takes it in.
     fn put(&mut self, alloc: Global, before: &[Row], row: &Row) -> Result<Words<'a>, AllocError> {
         let program = self.program;
         let name = row.deed.thread();
-        let function = program.function(alloc, row.function)?;
+        let function = program.called(row.function);
         let line = program.line_of(stated_at(before, row));
         let own = is_own(&self.seen, &row.deed);
+        self.seen.take(self.buffered, &row.deed)?;
         let Woken { wakes, woken_by } = self.wakes.take(alloc, before.len(), &row.deed)?;
         let shared = Shared {
             own,
@@ -83,7 +89,6 @@ impl<'a> Wording<'a> {
             waker: waker_of(before, woken_by),
         };
         let deed = deed_words(alloc, program, row, self.buffered, &shared)?;
-        self.seen.take(self.buffered, &row.deed)?;
         Ok(Words {
             thread: format!(in alloc; "{name} {function}")?,
             line,

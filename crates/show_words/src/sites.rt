@@ -2,6 +2,7 @@
 
 use crate::program::{Choice, Program};
 use crate::terms::{named, value_over, valued};
+use show_names::Names;
 use show_rows::Row;
 use std::alloc::{AllocError, Global};
 use tc_code::{Expr, Instr};
@@ -12,8 +13,6 @@ pub(crate) fn silent_words(
     program: Program<'_>,
     row: &Row,
 ) -> Result<String, AllocError> {
-    let names = program.names;
-    let slots = row.slots.as_slice();
     match program.instr(row) {
         Some(Instr::Set { slot, value }) => set_words(alloc, program, row, *slot, value),
         Some(Instr::Branch { condition, .. }) => branch_words(alloc, program, row, condition),
@@ -21,31 +20,45 @@ pub(crate) fn silent_words(
             let line = program.line(row.function, *target as usize);
             format!(in alloc; "goes on at line {line}")
         }
-        Some(Instr::Inside { length, index }) => {
-            let index = value_over(slots, index);
-            format!(in alloc; "index {index} is inside, length {length}")
-        }
-        Some(Instr::Holds { mutex }) => {
-            let mutex = names.mutex(*mutex);
-            format!(in alloc; "holds {mutex}")
-        }
-        Some(Instr::Ready { handle }) => {
-            let handle = names.handle(row.function, *handle);
-            format!(in alloc; "{handle} can be joined")
-        }
         Some(Instr::Assert(e)) => {
             let values = valued(alloc, program, row, e)?;
             format!(in alloc; "assertion holds: {values}")
         }
-        Some(Instr::Nonzero(e)) => {
+        Some(site) => passed_words(alloc, program.names, row, site),
+        None => Ok(String::new(alloc)),
+    }
+}
+
+/// A site that didn't fail, in words; an assertion is none of these.
+fn passed_words(
+    alloc: Global,
+    names: &Names,
+    row: &Row,
+    site: &Instr,
+) -> Result<String, AllocError> {
+    let slots = row.slots.as_slice();
+    match site {
+        Instr::Inside { length, index } => {
+            let index = value_over(slots, index);
+            format!(in alloc; "index {index} is inside, length {length}")
+        }
+        Instr::Holds { mutex } => {
+            let mutex = names.mutex(*mutex);
+            format!(in alloc; "holds {mutex}")
+        }
+        Instr::Ready { handle } => {
+            let handle = names.handle(row.function, *handle);
+            format!(in alloc; "{handle} can be joined")
+        }
+        Instr::Nonzero(e) => {
             let divisor = value_over(slots, e);
             format!(in alloc; "divisor is {divisor}")
         }
-        Some(Instr::InRange(e)) => {
+        Instr::InRange(e) => {
             let distance = value_over(slots, e);
             format!(in alloc; "distance is {distance}")
         }
-        _ => String::from_str(alloc, ""),
+        _ => Ok(String::new(alloc)),
     }
 }
 
@@ -82,19 +95,38 @@ fn set_words(
         let value = value_over(slots, value);
         return format!(in alloc; "{name} = {value}");
     }
+    let Some(side) = side_of(program, row, slot) else {
+        return Ok(String::new(alloc));
+    };
+    let (which, sign) = (side.which, side.sign);
+    let words = condition_words(alloc, program, row, side.condition)?;
+    format!(in alloc; "{which} of {sign}: {words}")
+}
+
+/// A side of `&&` or `||`.
+#[derive(Clone, Copy)]
+struct Side<'a> {
+    /// `left` or `right`.
+    which: &'static str,
+    /// The operator.
+    sign: &'static str,
+    condition: &'a Expr,
+}
+
+/// The side of `&&` or `||` that a row's step keeps in a slot.
+fn side_of<'a>(program: Program<'a>, row: &Row, slot: u32) -> Option<Side<'a>> {
     if let Some(choice) = program.choice(row.function, row.instruction) {
-        let sign = choice.sign();
-        let side = condition_words(alloc, program, row, choice.left)?;
-        return format!(in alloc; "left of {sign}: {side}");
+        return Some(Side {
+            which: "left",
+            sign: choice.sign(),
+            condition: choice.left,
+        });
     }
-    match program.right_side(row.function, row.instruction) {
-        Some(right) => {
-            let sign = sign_of(program, row, slot);
-            let side = condition_words(alloc, program, row, right)?;
-            format!(in alloc; "right of {sign}: {side}")
-        }
-        None => String::from_str(alloc, ""),
-    }
+    Some(Side {
+        which: "right",
+        condition: program.right_side(row.function, row.instruction)?,
+        sign: sign_of(program, row, slot),
+    })
 }
 
 impl<'a> Choice<'a> {
@@ -157,27 +189,39 @@ pub(crate) fn failed_words(
     program: Program<'_>,
     row: &Row,
 ) -> Result<String, AllocError> {
-    let names = program.names;
-    let slots = row.slots.as_slice();
     match program.instr(row) {
-        Some(Instr::Inside { length, index }) => {
-            let index = value_over(slots, index);
-            format!(in alloc; "fails: index {index} is outside, length {length}")
-        }
-        Some(Instr::Holds { mutex }) => {
-            let mutex = names.mutex(*mutex);
-            format!(in alloc; "fails: doesn't hold {mutex}")
-        }
-        Some(Instr::Ready { handle }) => {
-            let handle = names.handle(row.function, *handle);
-            format!(in alloc; "fails: {handle} can't be joined")
-        }
         Some(Instr::Assert(e)) => {
             let values = valued(alloc, program, row, e)?;
             format!(in alloc; "assertion fails: {values}")
         }
-        Some(Instr::Nonzero(_)) => String::from_str(alloc, "fails: divisor is 0"),
-        Some(Instr::InRange(e)) => {
+        Some(site) => refused_words(alloc, program.names, row, site),
+        None => String::from_str(alloc, "fails"),
+    }
+}
+
+/// A site that failed, in words; an assertion is none of these.
+fn refused_words(
+    alloc: Global,
+    names: &Names,
+    row: &Row,
+    site: &Instr,
+) -> Result<String, AllocError> {
+    let slots = row.slots.as_slice();
+    match site {
+        Instr::Inside { length, index } => {
+            let index = value_over(slots, index);
+            format!(in alloc; "fails: index {index} is outside, length {length}")
+        }
+        Instr::Holds { mutex } => {
+            let mutex = names.mutex(*mutex);
+            format!(in alloc; "fails: doesn't hold {mutex}")
+        }
+        Instr::Ready { handle } => {
+            let handle = names.handle(row.function, *handle);
+            format!(in alloc; "fails: {handle} can't be joined")
+        }
+        Instr::Nonzero(_) => String::from_str(alloc, "fails: divisor is 0"),
+        Instr::InRange(e) => {
             let distance = value_over(slots, e);
             format!(in alloc; "fails: distance {distance} isn't 0 to 31")
         }

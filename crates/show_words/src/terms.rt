@@ -2,11 +2,11 @@
 ghost use Rattle.std.specs.Prelude.{◌≡◌};
 ghost use Rattle.tc_code.specs.Expr.{value_of};
 
-use crate::program::Program;
+use crate::program::{Choice, Program};
 use int_ops::{BinOp, UnOp, arith};
 use show_rows::Row;
 use std::alloc::{AllocError, Global};
-use tc_code::{Expr, Instr, Node};
+use tc_code::{Cell, Expr, Instr, Node};
 
 /// How a name is written.
 #[derive(Clone, Copy, PartialEq, Eq)]
@@ -23,6 +23,17 @@ struct At<'a> {
     program: Program<'a>,
     row: &'a Row,
     form: Form,
+}
+
+/// An operator between its operands.
+#[derive(Clone, Copy)]
+struct Pair<'a> {
+    /// How tightly it binds.
+    own: u32,
+    left: &'a Expr,
+    sign: &'static str,
+    /// The right side; `..` is written for one that wasn't evaluated.
+    right: Option<&'a Expr>,
 }
 
 /// More than the depth of any expression: a statement has at most 512 tokens.
@@ -92,9 +103,8 @@ impl<'a> At<'a> {
         let Some(depth) = depth.checked_sub(1) else {
             return out.push_str("..");
         };
-        let alloc = *out.allocator();
         match &e.node {
-            Node::Number(n) => out.push_str(format!(in alloc; "{n}")?.as_str()),
+            Node::Number(n) => write!(out, "{n}"),
             Node::Slot(slot) => self.push_slot(out, *slot, level, depth),
             Node::Unary(op, operand) => {
                 out.push_str(unary_text(*op))?;
@@ -102,13 +112,44 @@ impl<'a> At<'a> {
             }
             Node::Binary(op, left, right) => {
                 let (own, sign) = binary_text(*op);
-                push_if(out, own < level, "(")?;
-                self.push(out, left, own, depth)?;
-                out.push_str(sign)?;
-                self.push(out, right, own.saturating_add(1), depth)?;
-                push_if(out, own < level, ")")
+                let pair = Pair {
+                    own,
+                    left,
+                    sign,
+                    right: Some(right),
+                };
+                self.push_pair(out, pair, level, depth)
             }
         }
+    }
+
+    /// Adds an operator between its operands, in parentheses if it binds less tightly than its
+    /// place needs.
+    #[cycle(terms)]
+    fn push_pair(
+        &self,
+        out: &mut String,
+        pair: Pair<'_>,
+        level: u32,
+        depth: u32,
+    ) -> Result<(), AllocError> {
+        let Some(depth) = depth.checked_sub(1) else {
+            return out.push_str("..");
+        };
+        let Pair {
+            own,
+            left,
+            sign,
+            right,
+        } = pair;
+        push_if(out, own < level, "(")?;
+        self.push(out, left, own, depth)?;
+        out.push_str(sign)?;
+        match right {
+            Some(right) => self.push(out, right, own.saturating_add(1), depth)?,
+            None => out.push_str("..")?,
+        }
+        push_if(out, own < level, ")")
     }
 
     /// Adds the text for a slot.
@@ -138,15 +179,15 @@ impl<'a> At<'a> {
         if let Some(name) = names.int(function, slot) {
             return out.push_str(name);
         }
-        match self.writer_of(slot) {
-            Some(Instr::Load { cell, .. }) => out.push_str(names.cell(*cell)),
-            Some(Instr::LoadAt { first, index, .. }) => {
+        match self.cell_of(slot) {
+            Some(Cell::Fixed(cell)) => out.push_str(names.cell(*cell)),
+            Some(Cell::Element { first, index, .. }) => {
                 out.push_str(names.array(*first))?;
                 out.push('[')?;
                 self.push(out, index, 0, depth)?;
                 out.push(']')
             }
-            _ => out.push('?'),
+            None => out.push('?'),
         }
     }
 
@@ -171,17 +212,24 @@ impl<'a> At<'a> {
         } else {
             (2, " && ")
         };
-        push_if(out, own < level, "(")?;
-        self.push(out, choice.left, own, depth)?;
-        out.push_str(sign)?;
+        let right = if self.form == Form::Name || self.goes_on(choice) {
+            self.right_of(slot)
+        } else {
+            None
+        };
+        let pair = Pair {
+            own,
+            left: choice.left,
+            sign,
+            right,
+        };
+        self.push_pair(out, pair, level, depth)
+    }
+
+    /// Whether the right side of a `&&` or `||` was evaluated.
+    fn goes_on(&self, choice: Choice<'_>) -> bool {
         let is_true = value_over(self.row.slots.as_slice(), choice.left) != 0;
-        match self.right_of(slot) {
-            Some(right) if self.form == Form::Name || is_true != choice.is_or => {
-                self.push(out, right, own.saturating_add(1), depth)?;
-            }
-            _ => out.push_str("..")?,
-        }
-        push_if(out, own < level, ")")
+        is_true != choice.is_or
     }
 
     /// The first instruction that sets a slot, if that is a `&&`'s or a `||`'s.
@@ -207,16 +255,12 @@ impl<'a> At<'a> {
         None
     }
 
-    /// The instruction that loads a slot.
-    fn writer_of(&self, slot: u32) -> Option<&'a Instr> {
+    /// The cell that a slot is loaded from.
+    fn cell_of(&self, slot: u32) -> Option<&'a Cell<Expr>> {
         let function = self.row.function;
         for place in (0..self.row.instruction).rev() {
-            let instr = self.program.code.instr(function, place);
-            match instr {
-                Some(Instr::Load { slot: to, .. } | Instr::LoadAt { slot: to, .. })
-                    if *to == slot => {
-                    return instr;
-                }
+            match self.program.code.instr(function, place) {
+                Some(Instr::Load { slot: to, cell }) if *to == slot => return Some(cell),
                 _ => {}
             }
         }
@@ -231,11 +275,11 @@ fn is_set(instr: Option<&Instr>, slot: u32) -> bool {
 
 /// Adds a value, in parentheses if it has a sign and follows one.
 fn push_value(out: &mut String, value: i32, level: u32) -> Result<(), AllocError> {
-    let alloc = *out.allocator();
-    let is_signed = value < 0 && level >= UNARY;
-    push_if(out, is_signed, "(")?;
-    out.push_str(format!(in alloc; "{value}")?.as_str())?;
-    push_if(out, is_signed, ")")
+    if value < 0 && level >= UNARY {
+        write!(out, "({value})")
+    } else {
+        write!(out, "{value}")
+    }
 }
 
 /// Adds a text if it is wanted.

@@ -4,8 +4,8 @@ use crate::program::Program;
 use show_deeds::Deed;
 use show_rows::Row;
 use std::alloc::{AllocError, Global};
-use tc_base::Request;
-use tc_code::{Expr, Instr, Node};
+use tc_base::{Request, ThreadName};
+use tc_code::{Cell, Expr, Instr, Node};
 
 /// A name of the text, and the value that it had.
 #[derive(Clone, Copy)]
@@ -30,39 +30,50 @@ pub(crate) fn values_at_end<'a>(
     let mut values = Values {
         values: Vec::new(alloc),
     };
-    let places = places_at_end(alloc, program, rows)?;
-    for place in places.iter().rev() {
-        if let Some(row) = rows.get(*place) {
-            values.take(program, row)?;
-        }
+    if let Some(last) = rows.last() {
+        values.take_all(program, rows, last.deed.thread())?;
     }
     Ok(values.values)
 }
 
-/// The places of the last row and of the rows before it in its statement, the last first.
-fn places_at_end(
-    alloc: Global,
-    program: Program<'_>,
-    rows: &[Row],
-) -> Result<Vec<usize>, AllocError> {
-    let mut places = Vec::new(alloc);
-    let Some(last) = rows.last() else {
-        return Ok(places);
-    };
-    for (i, row) in rows.iter().enumerate().rev() {
-        let is_step = matches!(&row.deed, Deed::Did(step) if step.thread == *last.deed.thread());
-        if !is_step {
-            continue;
+/// The place of the first row in the last statement of a thread.
+fn first_at_end(program: Program<'_>, rows: &[Row], thread: &ThreadName) -> usize {
+    let mut first = rows.len();
+    for place in (0..rows.len()).rev() {
+        if is_step_of(&rows[place], thread) {
+            if first < rows.len() && !program.leads_on(&rows[place]) {
+                return first;
+            }
+            first = place;
         }
-        if !places.is_empty() && !program.leads_on(row) {
-            break;
-        }
-        places.push(i)?;
     }
-    Ok(places)
+    first
+}
+
+/// Whether a row is a step of a thread.
+fn is_step_of(row: &Row, thread: &ThreadName) -> bool {
+    match &row.deed {
+        Deed::Did(step) => step.thread == *thread,
+        Deed::Drained(_) => false,
+    }
 }
 
 impl<'a> Values<'a> {
+    /// Adds the values that the last statement of a thread used.
+    fn take_all(
+        &mut self,
+        program: Program<'a>,
+        rows: &[Row],
+        thread: &ThreadName,
+    ) -> Result<(), AllocError> {
+        for row in rows.iter().skip(first_at_end(program, rows, thread)) {
+            if is_step_of(row, thread) {
+                self.take(program, row)?;
+            }
+        }
+        Ok(())
+    }
+
     /// Adds the values that a row's step used.
     fn take(&mut self, program: Program<'a>, row: &Row) -> Result<(), AllocError> {
         match program.instr(row) {
@@ -70,7 +81,10 @@ impl<'a> Values<'a> {
                 Instr::Branch { condition: e, .. }
                 | Instr::Set { value: e, .. }
                 | Instr::Inside { index: e, .. }
-                | Instr::LoadAt { index: e, .. }
+                | Instr::Load {
+                    cell: Cell::Element { index: e, .. },
+                    ..
+                }
                 | Instr::Assert(e)
                 | Instr::Nonzero(e)
                 | Instr::InRange(e),

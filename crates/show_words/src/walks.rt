@@ -20,7 +20,7 @@ pub struct Went<'a> {
 /// A thread by its name, its function and its number of steps.
 pub fn walk_title(alloc: Global, program: Program<'_>, walk: &Walk) -> Result<String, AllocError> {
     let name = walk.name();
-    let function = program.function(alloc, walk.function())?;
+    let function = program.called(walk.function());
     let steps = walk.places().len();
     let unit = if steps == 1 { "step" } else { "steps" };
     format!(in alloc; "{name} {function}, {steps} {unit}")
@@ -33,36 +33,50 @@ pub fn walk_words<'a>(
     walk: &Walk,
 ) -> Result<Vec<Went<'a>>, AllocError> {
     let mut lines = Vec::new(alloc);
+    push_walk(&mut lines, program, walk)?;
+    Ok(lines)
+}
+
+/// Adds the lines of a thread's path.
+fn push_walk<'a>(
+    lines: &mut Vec<Went<'a>>,
+    program: Program<'a>,
+    walk: &Walk,
+) -> Result<(), AllocError> {
     let mut used = 0usize;
     let mut open = 0;
     for place in walk.places() {
         let line = program.line(walk.function(), *place);
-        let branches = is_branch(program, walk.function(), *place);
-        if line != open && open != 0 {
-            lines.push(line_went(program, open, None))?;
+        if line != open {
+            push_line(lines, program, open, None)?;
         }
         open = line;
-        if branches {
+        if is_branch(program, walk.function(), *place) {
             let outcome = walk.outcomes().get(used).copied();
             let outcome = truth_of(program, walk.function(), *place, outcome);
-            lines.push(line_went(program, line, outcome))?;
+            push_line(lines, program, line, outcome)?;
             used = used.saturating_add(1);
             open = 0;
         }
     }
-    if open != 0 {
-        lines.push(line_went(program, open, None))?;
-    }
-    Ok(lines)
+    push_line(lines, program, open, None)
 }
 
-/// A line that a thread went along.
-fn line_went<'a>(program: Program<'a>, line: u32, outcome: Option<bool>) -> Went<'a> {
-    Went {
+/// Adds a line that a thread went along. Lines are numbered from 1, so 0 adds none.
+fn push_line<'a>(
+    lines: &mut Vec<Went<'a>>,
+    program: Program<'a>,
+    line: u32,
+    outcome: Option<bool>,
+) -> Result<(), AllocError> {
+    if line == 0 {
+        return Ok(());
+    }
+    Ok(lines.push(Went {
         line,
         source: program.names.line(line),
         outcome,
-    }
+    })?)
 }
 
 /// Whether the condition of the text is true at a branch, given the logged outcome: for `||` the
@@ -96,7 +110,7 @@ pub fn ending_words(
         Failing::Deadlock => {
             let mut words = String::from_str(alloc, "deadlock\n")?;
             for walk in paths.threads() {
-                words.push_str(blocked_words(alloc, program, walk)?.as_str())?;
+                push_blocked(&mut words, program, walk)?;
             }
             Ok(words)
         }
@@ -121,21 +135,21 @@ fn failed_words(
     format!(in alloc; "{name} failed at line {line}: {source}\n")
 }
 
-/// What blocks a thread in a deadlock, if it is blocked.
-fn blocked_words(alloc: Global, program: Program<'_>, walk: &Walk) -> Result<String, AllocError> {
+/// Adds what blocks a thread in a deadlock, if it is blocked.
+fn push_blocked(words: &mut String, program: Program<'_>, walk: &Walk) -> Result<(), AllocError> {
     let name = walk.name();
     match walk.blocked() {
-        None => format!(in alloc; "  {name} has exited\n"),
+        None => writeln!(words, "  {name} has exited"),
         Some(Blocked::Lock { mutex }) => {
             let mutex = program.names.mutex(mutex);
-            format!(in alloc; "  {name} can't lock {mutex}\n")
+            writeln!(words, "  {name} can't lock {mutex}")
         }
         Some(Blocked::Wake { condition, .. }) => {
             let condition = program.names.condition(condition);
-            format!(in alloc; "  {name} waits on {condition}\n")
+            writeln!(words, "  {name} waits on {condition}")
         }
         Some(Blocked::Join { child }) => {
-            format!(in alloc; "  {name} waits for the end of {name}.{child}\n")
+            writeln!(words, "  {name} waits for the end of {name}.{child}")
         }
     }
 }

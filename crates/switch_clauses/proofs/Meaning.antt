@@ -1,11 +1,11 @@
 -- What the clauses with a bound on switches mean.
-use Rattle.std.proofs.Common.{◌≡◌, ◌≢◌, ◌∙◌, inl, inr, ℕ, zero, suc, ◌+◌, ◌<◌, ◌≤◌, nat_lt, Bool, true, false, ◌||◌, List, [], ◌∷◌, map, length, Option, Some, None, refl, sym, ap, subst, arith}
+use Rattle.std.proofs.Common.{◌≡◌, ◌≢◌, ◌∙◌, ℕ, suc, ◌<◌, ◌≤◌, nat_lt, Bool, true, false, ◌||◌, List, [], ◌∷◌, map, length, Option, Some, None, refl, sym, ap, subst, arith}
 use Rattle.std.specs.Bool.{IsTrue}
 use Rattle.std.specs.Prelude.{if◌then◌else◌, option_map}
 use Rattle.std.specs.List.{All, Contains, find, list_any, range_with_len}
-use Rattle.std.proofs.lemmas.Bool.{cases_eq, false≢true, ltb-true}
+use Rattle.std.proofs.lemmas.Bool.{false≢true, ltb-true}
 use Rattle.std.proofs.lemmas.List.{length-map}
-use Rattle.std.proofs.lemmas.List.Elements.{All-cons, All-contains, All-map, Contains-append_right}
+use Rattle.std.proofs.lemmas.List.Elements.{All-cons, All-contains, All-map}
 use Rattle.std.proofs.lemmas.List.Folds.{list_any-append}
 use Rattle.std.proofs.lemmas.Option.{none-some, same_Some}
 use Rattle.switch_runs.specs.tc_base.Buffers.{BufferOps}
@@ -37,18 +37,17 @@ use Rattle.switch_runs.proofs.order_events.Whole as paths_are
 use Rattle.switch_runs.specs.world_plan.Plan.{is_failure, plan}
 use Rattle.switch_runs.proofs.world_plan.Numbers.{event_numbered, of_find}
 use Rattle.clap_solve.specs.cnf_core.Clauses.{Formula, Valuation, satisfies}
-use Rattle.clap_solve.specs.bit_order.Comparators.{pairs_among}
 use Rattle.clap_solve.specs.bit_order.Laws.{IsWorldFor, PairIsAsked}
 use Rattle.clap_solve.specs.bit_order.Layouts.{Layout}
 use Rattle.clap_solve.specs.bit_order.Readings.{world_of}
-use Rattle.clap_solve.proofs.bit_order.Asking.{completed-asked, grows-completed}
+use Rattle.clap_solve.proofs.bit_order.Asking.{completed-asked, grows-completed, range_has}
 use Rattle.clap_solve.proofs.bit_order.Meaning.{values-say-worlds}
 use Rattle.clap_solve.specs.bit_blast.Blasted.{BlastMeans, IsApart, IsPosed, impossible, layout_of}
 use Rattle.clap_solve.specs.bit_blast.Contended.{contended}
 use Rattle.clap_solve.specs.bit_blast.Laws.{BodyIsTold}
 use Rattle.clap_solve.specs.bit_blast.Whole.{all_clauses}
 use Rattle.clap_solve.specs.bit_blast.Whole as blast
-use Rattle.clap_solve.proofs.bit_blast.Completed.{completed_events, contended_within, same_part}
+use Rattle.clap_solve.proofs.bit_blast.Completed.{completed_choices, completed_events, completed_sleeps, contended_within}
 use Rattle.clap_solve.proofs.bit_blast.Posed.{blast_means, formula_in}
 use Rattle.clap_solve.proofs.bit_blast.Prefixes.{first_part}
 use Rattle.clap_solve.proofs.bit_blast.WholeLaws.{all_range}
@@ -74,15 +73,6 @@ use Rattle.switch_clauses.specs.Clauses.{asked_of_all, switch_clauses, clauses_w
 use Rattle.switch_clauses.proofs.Same.{same_few}
 use Rattle.switch_clauses.proofs.Whole as stands
 use Rattle.switch_runs.specs.path_laws.Setting.{Setting, setting_of}
-
--- a range contains its numbers
-range_has : (a n e : ℕ) → a ≤ e → e < a + n → Contains (range_with_len a n) e
-range_has a zero e low high = absurd (omega (arith, low, high))
-range_has a (suc n) e low high =
-    elim (cases_eq e a) [
-      | inl same ↦ (0, omega arith, sym same)
-      | inr other ↦ Contains-append_right (a ∷ []) (range_with_len (a + 1) n) e (range_has (a + 1) n e (omega (arith, low, other)) (omega (arith, high)))
-    ]
 
 -- a question stays in an order that grows
 still_asked : (o p : Order) (q : Pair) → Grows o p → IsTrue (list_any (same_pair q) o.pairs) → IsTrue (list_any (same_pair q) p.pairs)
@@ -113,10 +103,10 @@ module _ (buffered : Bool) (bound : Binding) (code : Code) (log : Log) (lawful :
   events_all = completed_events s.order every
 
   sleeps_all : oa.sleeps ≡ s.order.sleeps
-  sleeps_all = same_part (λ (k : Order). k.sleeps) (λ k p. refl) s.order (pairs_among every)
+  sleeps_all = completed_sleeps s.order every
 
   choices_all : oa.choices ≡ s.order.choices
-  choices_all = same_part (λ (k : Order). k.choices) (λ k p. refl) s.order (pairs_among every)
+  choices_all = completed_choices s.order every
 
   lawful_all : IsOrder oa
   lawful_all =
@@ -151,10 +141,10 @@ module _ (buffered : Bool) (bound : Binding) (code : Code) (log : Log) (lawful :
   asked e g one other apart =
       still_asked oa y.order (pair_of e g) grows
       (completed-asked s.order every e g (range_has 0 s.order.events e (omega arith) (omega (arith, one, same_events, events_all)))
-      (range_has 0 s.order.events g (omega arith) (omega (arith, other, same_events, events_all))) apart)
+      (omega (arith, other, same_events, events_all)) apart)
 
   within_y : All (ConjunctIsIn y.order) s.formula
-  within_y = formula_in oa y.order same_events (same_part (λ (k : Order). k.sleeps) (λ k p. refl) oa (pairs_among (contended s.formula))) s.formula posed.within
+  within_y = formula_in oa y.order same_events (completed_sleeps oa (contended s.formula)) s.formula posed.within
 
   told : (c : Conjunct) → (b : Body) → c.body ≡ b → BodyIsAsked y.order b → BodyIsIn y.order b → IsApart b → BodyIsTold y.order b
   told c (body.Any cases) is all inside apart = all

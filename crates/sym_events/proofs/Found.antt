@@ -10,7 +10,7 @@ use Rattle.std.proofs.lemmas.List.Elements.{All-nil, All-cons, All-append, All-w
 use Rattle.std.proofs.lemmas.Option.{none-some, same_Some}
 use Rattle.order_cells.specs.tc_code.Code.{Code, instr_at, line_at}
 use Rattle.order_cells.specs.tc_code.declared.instr.Instr.{Instr}
-use Rattle.order_cells.specs.tc_code.declared.instr.Instr.TheVariants.{Load, LoadAt, Store, StoreAt, Inside, Holds, Ready, Assert, Nonzero, InRange, Swap, Cas, Exit}
+use Rattle.order_cells.specs.tc_code.declared.instr.Instr.TheVariants.{Load, Store, Inside, Holds, Ready, Assert, Nonzero, InRange, Exit, Modify}
 use Rattle.order_events.specs.path_walk.Steps.{is_site, step_at, steps_at}
 use Rattle.order_events.specs.path_walk.Marks.{Marks, marks_after_instr, marked_from}
 use Rattle.order_events.specs.path_walk.Events.{asks, kind_with, events_of}
@@ -19,7 +19,7 @@ use Rattle.order_events.specs.path_walk.declared.event.EventKind.{EventKind}
 use Rattle.order_events.specs.path_walk.declared.event.EventKind.TheVariants as kind
 use Rattle.order_cells.specs.sym_exec.Thread.{Doing, after_instr, wanted_of, after_step, after_all, Route}
 use Rattle.order_cells.specs.sym_exec.declared.symbolic.Access.{Access}
-use Rattle.order_cells.specs.sym_exec.declared.symbolic.Cell.{Cell}
+use Rattle.order_cells.specs.tc_code.declared.cell.Cell.{Cell}
 use Rattle.order_cells.proofs.sym_exec.Sound.{stepped_by}
 use Rattle.order_cells.specs.lawful_order.Whole.{kind_of}
 
@@ -70,7 +70,7 @@ nothing_found d e same loads = record {
   taken = All-nil (TakesBelow e.loads);
 }
 
-one_found : (d e : Doing) (cell : Cell) (takes writes : Option ℕ)
+one_found : (d e : Doing) (cell : Cell ℕ) (takes writes : Option ℕ)
     → e.accesses ≡ d.accesses ++ record { step = d.steps; cell = cell; takes = takes; writes = writes } ∷ [] → d.loads ≤ e.loads
     → ((k : ℕ) → takes ≡ Some k → k < e.loads) → Finds d e (cell_event d.steps (kind_of takes writes) ∷ [])
 one_found d e cell takes writes more loads below =
@@ -84,7 +84,7 @@ one_found d e cell takes writes more loads below =
     }
 
 -- a load takes the next number
-load_found : (d e : Doing) (cell : Cell) (writes : Option ℕ)
+load_found : (d e : Doing) (cell : Cell ℕ) (writes : Option ℕ)
     → e.accesses ≡ d.accesses ++ record { step = d.steps; cell = cell; takes = Some d.loads; writes = writes } ∷ [] → e.loads ≡ d.loads + 1
     → Finds d e (cell_event d.steps (kind_of (Some d.loads) writes) ∷ [])
 load_found d e cell writes more loads =
@@ -107,12 +107,8 @@ does m step i = option_and_then (cell_event_at step) (asks m i)
 
 instr_finds : (line : ℕ) (wanted : Bool) (d : Doing) (m : Marks) (i : Instr) → Finds d (after_instr line wanted d i) (option_to_list (does m d.steps i))
 instr_finds line wanted d m (Load k c) = load_found d (after_instr line wanted d (Load k c)) _ _ refl refl
-instr_finds line wanted d m (LoadAt k first len i) = load_found d (after_instr line wanted d (LoadAt k first len i)) _ _ refl refl
 instr_finds line wanted d m (Store c e) = one_found d (after_instr line wanted d (Store c e)) _ _ _ refl (omega arith) (λ k is. absurd (none-some k is))
-instr_finds line wanted d m (StoreAt first len i e) =
-    one_found d (after_instr line wanted d (StoreAt first len i e)) _ _ _ refl (omega arith) (λ k is. absurd (none-some k is))
-instr_finds line wanted d m (Swap k c e) = load_found d (after_instr line wanted d (Swap k c e)) _ _ refl refl
-instr_finds line wanted d m (Cas k c e new) = load_found d (after_instr line wanted d (Cas k c e new)) _ _ refl refl
+instr_finds line wanted d m (Modify k c u) = load_found d (after_instr line wanted d (Modify k c u)) _ _ refl refl
 instr_finds line wanted d m i = nothing_found d (after_instr line wanted d i) refl refl
 
 -- the failing step is at a site, which accesses no cell

@@ -1,32 +1,37 @@
 -- The terms that accesses and tests name exist before them.
 use Rattle.std.proofs.Common.{◌≡◌, ℕ, ◌+◌, ◌<◌, ◌≤◌, ℤ, pos, Bool, List, [], ◌∷◌, ◌++◌, length, fold}
 use Rattle.std.proofs.Common.{Option, Some, None, refl, arith}
-use Rattle.std.specs.Prelude.{nat_lt, slice_get, unwrap_or}
+use Rattle.std.specs.Prelude.{◌&&◌, nat_lt, slice_get, unwrap_or}
 use Rattle.std.specs.Bool.{IsTrue}
-use Rattle.std.specs.List.{All, Contains}
+use Rattle.std.specs.List.{All, Contains, list_all}
 use Rattle.std.specs.Option.{IfSome}
 use Rattle.std.proofs.lemmas.Bool.{and_parts}
-use Rattle.std.proofs.lemmas.List.Elements.{All-nil, All-weaker, All-push, All-contains}
+use Rattle.std.proofs.lemmas.List.Elements.{All-nil, All-head, All-weaker, All-push, All-contains}
 use Rattle.order_cells.specs.int_ops.declared.arith.UnOp.TheVariants.{Neg}
-use Rattle.order_cells.specs.int_ops.declared.arith.BinOp.TheVariants.{Xor, Eq, And, Le}
+use Rattle.order_cells.specs.int_ops.declared.arith.BinOp.TheVariants.{Add, Xor, Eq, And, Le}
 use Rattle.order_cells.specs.tc_code.Code.{Code, instr_at, line_at}
-use Rattle.order_cells.specs.tc_code.Expr.{names_slots}
+use Rattle.order_cells.specs.int_ops.Updates.{operands_of}
+use Rattle.order_cells.specs.int_ops.declared.update.Update.{Update}
+use Rattle.order_cells.specs.int_ops.declared.update.Update.TheVariants as update
+use Rattle.order_cells.specs.tc_code.Expr.{Expr, names_slots}
+use Rattle.order_cells.specs.tc_code.declared.cell.Cell.{Cell}
+use Rattle.order_cells.specs.tc_code.declared.cell.Cell.TheVariants.{Fixed, Element}
 use Rattle.order_cells.specs.tc_code.Lawful.{IsLawful}
 use Rattle.order_cells.specs.tc_code.Step.{ints_of}
 use Rattle.order_cells.specs.tc_code.declared.instr.Instr.{Instr}
-use Rattle.order_cells.specs.tc_code.declared.instr.Instr.TheVariants.{Load, LoadAt, Store, StoreAt, Inside, Branch, Assert, Nonzero, InRange, Swap, Cas}
+use Rattle.order_cells.specs.tc_code.declared.instr.Instr.TheVariants.{Load, Store, Inside, Branch, Assert, Nonzero, InRange, Modify}
 use Rattle.order_events.specs.path_walk.Paths.{Walk, Paths}
 use Rattle.order_cells.specs.sym_terms.declared.node.Node.{Node}
 use Rattle.order_cells.specs.sym_terms.declared.node.Node.TheVariants.{Constant, Symbol, Unary, Binary}
 use Rattle.order_cells.specs.sym_exec.Making.{Made, Grows, term_of_node, last_index, range_test, replaced_term}
-use Rattle.order_cells.specs.sym_exec.Thread.{HandsOf, Doing, HasTerms, term_in, with_term, symbol_in, after_instr, wanted_of, after_step, after_all, Route, route_of}
+use Rattle.order_cells.specs.sym_exec.Thread.{HandsOf, Doing, HasTerms, term_in, with_nodes, cell_of, update_terms, updated_term, after_instr, wanted_of, after_step, after_all, Route, route_of}
 use Rattle.order_cells.specs.sym_exec.Executed.{Course, Executed, arguments_for, fails_at, thread_started, thread_done, with_thread, nothing, executed}
 use Rattle.order_cells.specs.sym_exec.declared.symbolic.Access.{Access}
 use Rattle.order_cells.specs.sym_exec.declared.symbolic.Test.{Test}
 use Rattle.order_cells.specs.sym_exec.helpers.Threads as helpers
-use Rattle.order_cells.specs.sym_exec.helpers.Threads.{names_within}
+use Rattle.order_cells.specs.sym_exec.helpers.Threads.{cell_named, names_within}
 use Rattle.order_cells.proofs.sym_exec.Grown.{grows_both, grows_made, made_within, stays_within, stay_of, expr_grows, expr_within}
-use Rattle.order_cells.proofs.sym_exec.Sound.{instr_goes, instr_named, step_goes, all_go, start_sound, start_has, arguments_sound, thread_sound, stepped_by}
+use Rattle.order_cells.proofs.sym_exec.Sound.{cell_goes, operands_within, updating_goes, instr_goes, instr_named, step_goes, all_go, start_sound, start_has, arguments_sound, thread_sound, stepped_by}
 use Rattle.order_cells.proofs.Stay.{access_later}
 use Rattle.order_cells.specs.Terms.{CellIsOf, AccessIsOf, HaveTerms}
 use Rattle.order_events.proofs.Lists.{at_in}
@@ -79,42 +84,47 @@ range_within x last =
     let high = term_of_node top.nodes (Binary Le x.term top.term) in
     made_within high.nodes (Binary And low.term high.term)
 
+-- the term of a cell's index exists
+cell_there : (d : Doing) (c : Cell Expr) (later : List Node) → HasTerms d → IsTrue (cell_named (length d.slots) c) → Grows (cell_of d c).nodes later
+    → CellIsOf (length later) (cell_of d c).cell
+cell_there d (Fixed c) later s named up = tt
+cell_there d (Element first len i) later s named up =
+    stays_within (term_in d i).nodes later (term_in d i).term up (expr_within d.nodes d.slots i s.slots named)
+
+-- the term that an update stores exists, where those of its operands and the loaded term do
+updated_within : (nodes : List Node) (u : Update ℕ) (v : ℕ) → All (λ n. n < length nodes) (operands_of u) → let w = updated_term nodes u v in w.term < length w.nodes
+updated_within nodes (update.Swap x) v of = All-head (λ n. n < length nodes) x [] of
+updated_within nodes (update.Cas x y) v of = replaced_within nodes v x y
+updated_within nodes (update.Add x) v of = made_within nodes (Binary Add v x)
+
 -- an instruction adds accesses and tests whose terms exist then
 instr_of_terms : (line : ℕ) (wanted : Bool) (d : Doing) (i : Instr) → HasTerms d → IsTrue (names_within (length d.slots) i)
     → AreOfTerms d.nodes d.accesses d.tests
     → AreOfTerms (after_instr line wanted d i).nodes (after_instr line wanted d i).accesses (after_instr line wanted d i).tests
 instr_of_terms line wanted d (Load k c) s named are =
-    one_access d (after_instr line wanted d (Load k c)) _ (instr_goes line wanted d (Load k c) s named).grows are tt tt
-instr_of_terms line wanted d (LoadAt k first len i) s named are =
-    let x = term_in d i in
-    let e = after_instr line wanted d (LoadAt k first len i) in
-    let named_slots = and_parts (nat_lt k (length d.slots)) (names_slots (length d.slots) i) named in
-    let index : x.term < length x.nodes = expr_within d.nodes d.slots i s.slots named_slots.1 in
-    one_access d e _ (instr_goes line wanted d (LoadAt k first len i) s named).grows are
-    (stays_within x.nodes e.nodes x.term (grows_made x.nodes (Symbol d.loads)) index) tt
-instr_of_terms line wanted d (Store c e) s named are =
-    one_access d (after_instr line wanted d (Store c e)) _ (instr_goes line wanted d (Store c e) s named).grows are tt
-    (expr_within d.nodes d.slots e s.slots named)
-instr_of_terms line wanted d (StoreAt first len i e) s named are =
-    let x = term_in d i in
-    let y = term_in (with_term d x) e in
-    let named_slots = and_parts (names_slots (length d.slots) i) (names_slots (length d.slots) e) named in
-    let index : x.term < length x.nodes = expr_within d.nodes d.slots i s.slots named_slots.0 in
-    one_access d (after_instr line wanted d (StoreAt first len i e)) _ (instr_goes line wanted d (StoreAt first len i e) s named).grows are
-    (stays_within x.nodes y.nodes x.term (expr_grows x.nodes d.slots e) index)
-    (expr_within x.nodes d.slots e (stay_of d.nodes x.nodes d.slots (expr_grows d.nodes d.slots i) s.slots) named_slots.1)
-instr_of_terms line wanted d (Swap k c e) s named are =
-    let x = term_in d e in
-    let named_slots = and_parts (nat_lt k (length d.slots)) (names_slots (length d.slots) e) named in
-    let g = after_instr line wanted d (Swap k c e) in
-    one_access d g _ (instr_goes line wanted d (Swap k c e) s named).grows are tt
-    (stays_within x.nodes g.nodes x.term (grows_made x.nodes (Symbol d.loads)) (expr_within d.nodes d.slots e s.slots named_slots.1))
-instr_of_terms line wanted d (Cas k c e new) s named are =
-    let x = term_in d e in
-    let y = term_in (with_term d x) new in
-    let v = symbol_in (with_term d y) in
-    one_access d (after_instr line wanted d (Cas k c e new)) _ (instr_goes line wanted d (Cas k c e new) s named).grows are tt
-    (replaced_within v.nodes v.term x.term y.term)
+    let named_slots = and_parts (nat_lt k (length d.slots)) (cell_named (length d.slots) c) named in
+    let e = after_instr line wanted d (Load k c) in
+    one_access d e _ (instr_goes line wanted d (Load k c) s named).grows are
+    (cell_there d c e.nodes s named_slots.1 (grows_made (cell_of d c).nodes (Symbol d.loads))) tt
+instr_of_terms line wanted d (Store c v) s named are =
+    let named_slots = and_parts (cell_named (length d.slots) c) (names_slots (length d.slots) v) named in
+    let x = cell_of d c in
+    let e = after_instr line wanted d (Store c v) in
+    one_access d e _ (instr_goes line wanted d (Store c v) s named).grows are
+    (cell_there d c e.nodes s named_slots.0 (expr_grows x.nodes d.slots v))
+    (expr_within x.nodes d.slots v (cell_goes d c s).sound.slots named_slots.1)
+instr_of_terms line wanted d (Modify k c u) s named are =
+    let parts = and_parts (nat_lt k (length d.slots) && cell_named (length d.slots) c) (list_all (names_slots (length d.slots)) (operands_of u)) named in
+    let cell = (and_parts (nat_lt k (length d.slots)) (cell_named (length d.slots) c) parts.0).1 in
+    let x = cell_of d c in
+    let reached = (cell_goes d c s).sound in
+    let y = update_terms (with_nodes d x.nodes) u in
+    let v = term_of_node y.nodes (Symbol d.loads) in
+    let e = after_instr line wanted d (Modify k c u) in
+    one_access d e _ (instr_goes line wanted d (Modify k c u) s named).grows are
+    (cell_there d c e.nodes s cell (updating_goes (with_nodes d x.nodes) k x.cell u reached).grows)
+    (updated_within v.nodes y.update v.term (stay_of y.nodes v.nodes (operands_of y.update) (grows_made y.nodes (Symbol d.loads))
+    (operands_within (with_nodes d x.nodes) u reached parts.1)))
 instr_of_terms line wanted d (Inside len i) s named are =
     one_test d (after_instr line wanted d (Inside len i)) _ (instr_goes line wanted d (Inside len i) s named).grows are
     (range_within (term_in d i) (last_index len))

@@ -4,17 +4,22 @@ use Rattle.std.proofs.Common.{refl, subst, sym, arith}
 use Rattle.std.specs.Prelude.{nat_lt, ◌-ℤ◌}
 use Rattle.std.specs.List.{All, list_any}
 use Rattle.std.proofs.lemmas.Bool.{ltb-false}
-use Rattle.std.proofs.lemmas.List.Elements.{All-head, All-tail, All-push}
+use Rattle.std.proofs.lemmas.List.Elements.{All-nil, All-cons, All-head, All-tail, All-push}
 use Rattle.int_ops.specs.Arith.{IsInt}
+use Rattle.int_ops.specs.Updates.{operands_of}
+use Rattle.int_ops.specs.declared.update.Update.{Update}
+use Rattle.int_ops.specs.declared.update.Update.TheVariants as update
 use Rattle.int_ops.proofs.Ints.{truth_int}
 use Rattle.int_ops.specs.declared.arith.UnOp.TheVariants.{Neg}
-use Rattle.int_ops.specs.declared.arith.BinOp.TheVariants.{Xor, Eq, And, Le}
+use Rattle.int_ops.specs.declared.arith.BinOp.TheVariants.{Add, Xor, Eq, And, Le}
 use Rattle.tc_code.specs.Code.{Code, instr_at}
 use Rattle.tc_code.specs.Expr as expr
 use Rattle.tc_code.specs.Expr.{Expr, HasInts}
-use Rattle.tc_code.specs.Lawful.{IsLawful, exprs_of}
+use Rattle.tc_code.specs.Lawful.{IsLawful, index_of, exprs_of}
+use Rattle.tc_code.specs.declared.cell.Cell.{Cell}
+use Rattle.tc_code.specs.declared.cell.Cell.TheVariants.{Fixed, Element}
 use Rattle.tc_code.specs.declared.instr.Instr.{Instr}
-use Rattle.tc_code.specs.declared.instr.Instr.TheVariants.{Set, Load, LoadAt, Store, StoreAt, Inside, Branch, Create, Assert, Nonzero, InRange, Swap, Cas}
+use Rattle.tc_code.specs.declared.instr.Instr.TheVariants.{Set, Load, Store, Inside, Branch, Create, Assert, Nonzero, InRange, Modify}
 use Rattle.tc_code.proofs.Facts.{placed}
 use Rattle.run_laws.proofs.Basics.{either}
 use Rattle.path_walk.specs.Paths.{Walk, Paths}
@@ -22,7 +27,7 @@ use Rattle.sym_terms.specs.Terms.{same_node, with_node}
 use Rattle.sym_terms.specs.declared.node.Node.{Node}
 use Rattle.sym_terms.specs.declared.node.Node.TheVariants.{Constant, Symbol, Unary, Binary}
 use Rattle.sym_exec.specs.Making.{Made, AllMade, term_of_node, expr_term, with_expr, range_test, last_index, replaced_term}
-use Rattle.sym_exec.specs.Thread.{Doing, term_in, with_term, after_instr, Route, route_of, after_step, after_all}
+use Rattle.sym_exec.specs.Thread.{Doing, term_in, with_term, with_nodes, cell_of, update_terms, updated_term, after_instr, after_step, after_all, Route, route_of}
 use Rattle.sym_exec.specs.Executed.{Executed, fails_at, thread_started, with_thread, nothing, executed}
 use Rattle.sym_exec.specs.Ints.{HasInt}
 use Rattle.sym_exec.proofs.Sound.{stepped_by}
@@ -89,25 +94,44 @@ first_ints d e es are is = expr_ints d.nodes d.slots e are (All-head HasInts e e
 second_ints : (d : Doing) (a b : Expr) → HaveInts d.nodes → All HasInts (a ∷ b ∷ []) → HaveInts (term_in (with_term d (term_in d a)) b).nodes
 second_ints d a b are is = first_ints (with_term d (term_in d a)) b [] (first_ints d a (b ∷ []) are is) (All-tail HasInts a (b ∷ []) is)
 
+-- the index of a cell, and the operands of an update
+reached_ints : (d : Doing) (c : Cell Expr) → HaveInts d.nodes → All HasInts (index_of c) → HaveInts (cell_of d c).nodes
+reached_ints d (Fixed c) are is = are
+reached_ints d (Element first len i) are is = first_ints d i [] are is
+
+parts_ints : (c : Cell Expr) (es : List Expr) → All HasInts (index_of c ++ es) → All HasInts (index_of c) × All HasInts es
+parts_ints (Fixed c) es is = (All-nil HasInts, is)
+parts_ints (Element first len i) es is = (All-cons HasInts i [] (All-head HasInts i es is) (All-nil HasInts), All-tail HasInts i es is)
+
+operands_ints : (d : Doing) (u : Update Expr) → HaveInts d.nodes → All HasInts (operands_of u) → HaveInts (update_terms d u).nodes
+operands_ints d (update.Swap e) are is = first_ints d e [] are is
+operands_ints d (update.Cas e new) are is = second_ints d e new are is
+operands_ints d (update.Add e) are is = first_ints d e [] are is
+
+updated_ints : (nodes : List Node) (u : Update ℕ) (v : ℕ) → HaveInts nodes → HaveInts (updated_term nodes u v).nodes
+updated_ints nodes (update.Swap x) v are = are
+updated_ints nodes (update.Cas x y) v are = replaced_ints nodes v x y are
+updated_ints nodes (update.Add x) v are = with_int nodes (Binary Add v x) are tt
+
 -- after an instruction of ints
 instr_ints : (line : ℕ) (wanted : Bool) (d : Doing) (i : Instr) → HaveInts d.nodes → All HasInts (exprs_of i) → HaveInts (after_instr line wanted d i).nodes
 instr_ints line wanted d (Set k e) are is = first_ints d e [] are is
-instr_ints line wanted d (Load k c) are is = with_int d.nodes (Symbol d.loads) are tt
-instr_ints line wanted d (LoadAt k first len i) are is = with_int (term_in d i).nodes (Symbol d.loads) (first_ints d i [] are is) tt
-instr_ints line wanted d (Store c e) are is = first_ints d e [] are is
-instr_ints line wanted d (StoreAt first len i e) are is = second_ints d i e are is
+instr_ints line wanted d (Load k c) are is = with_int (cell_of d c).nodes (Symbol d.loads) (reached_ints d c are is) tt
+instr_ints line wanted d (Store c e) are is =
+    let p = parts_ints c (e ∷ []) is in
+    first_ints (with_nodes d (cell_of d c).nodes) e [] (reached_ints d c are p.0) p.1
 instr_ints line wanted d (Inside len i) are is = range_ints (term_in d i) (last_index len) (first_ints d i [] are is) (last_int len)
 instr_ints line wanted d (Branch e to) are is = first_ints d e [] are is
 instr_ints line wanted d (Create h f es) are is = exprs_ints d.slots es (record { terms = []; nodes = d.nodes }) are is
 instr_ints line wanted d (Assert e) are is = first_ints d e [] are is
 instr_ints line wanted d (Nonzero e) are is = first_ints d e [] are is
 instr_ints line wanted d (InRange e) are is = range_ints (term_in d e) (pos 31) (first_ints d e [] are is) (omega arith)
-instr_ints line wanted d (Swap k c e) are is = with_int (term_in d e).nodes (Symbol d.loads) (first_ints d e [] are is) tt
-instr_ints line wanted d (Cas k c e new) are is =
-    let x = term_in d e in
-    let y = term_in (with_term d x) new in
+instr_ints line wanted d (Modify k c u) are is =
+    let p = parts_ints c (operands_of u) is in
+    let x = with_nodes d (cell_of d c).nodes in
+    let y = update_terms x u in
     let v = term_of_node y.nodes (Symbol d.loads) in
-    replaced_ints v.nodes v.term x.term y.term (with_int y.nodes (Symbol d.loads) (second_ints d e new are is) tt)
+    updated_ints v.nodes y.update v.term (with_int y.nodes (Symbol d.loads) (operands_ints x u (reached_ints d c are p.0) p.1) tt)
 instr_ints line wanted d _ are is = are
 
 -- after the steps of a thread

@@ -5,7 +5,7 @@ use Rattle.std.specs.List.{All}
 use Rattle.std.proofs.lemmas.List.Elements.{All-head, All-tail, All-cons, All-nil, All-append}
 use Rattle.int_ops.specs.Arith.{IsInt}
 use Rattle.int_ops.proofs.Ints.{by_sameness, unary_int, binary_int, there_int}
-use Rattle.tc_code.specs.Step.{replaced}
+use Rattle.int_ops.specs.Updates.{replaced}
 use Rattle.sym_terms.specs.Terms.{AreTerms}
 use Rattle.sym_terms.specs.Values.{node_value, values_of, value_of}
 use Rattle.sym_terms.specs.declared.node.Node.{Node}

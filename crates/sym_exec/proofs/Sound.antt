@@ -1,12 +1,12 @@
 -- An execution whose terms are all among its nodes stays one.
-use Rattle.std.proofs.Common.{◌≡◌, ℕ, ◌<◌, ◌≤◌, ◌+◌, ◌-◌, List, [], ◌∷◌, length, Bool, ◌&&◌, Option, Some, None, ℤ, pos, refl, ap, sym, subst, ◌∙◌}
+use Rattle.std.proofs.Common.{◌≡◌, ℕ, ◌<◌, ◌≤◌, ◌+◌, ◌-◌, List, [], ◌∷◌, length, Bool, true, ◌&&◌, Option, Some, None, ℤ, pos, refl, ap, sym, subst, ◌∙◌}
 use Rattle.std.proofs.Common.{arith, fold, replicate, take, slice_get, length-append}
 use Rattle.std.specs.Prelude.{unwrap_or, nat_lt, nat_le, bytes_eq}
 use Rattle.std.specs.Bool.{IsTrue}
 use Rattle.std.specs.List.{All, list_all, find, last_or}
 use Rattle.std.proofs.lemmas.List.{length-set, length-replicate}
 use Rattle.std.proofs.lemmas.Option.{slice_get_within, get_or_from_slice_get}
-use Rattle.std.proofs.lemmas.List.Elements.{All-set, All-push, All-weaker, All-append, All-replicate, All-nil, All-head, All-tail}
+use Rattle.std.proofs.lemmas.List.Elements.{All-set, All-push, All-weaker, All-append, All-replicate, All-nil, All-cons, All-head, All-tail}
 use Rattle.std.specs.Option.{option_map_or}
 use Rattle.std.proofs.lemmas.Bool.{and_from, and_parts}
 use Rattle.tc_base.specs.Names.{Name}
@@ -14,22 +14,25 @@ use Rattle.run_laws.proofs.Basics.{either}
 use Rattle.path_walk.specs.Paths.{Walk, Paths}
 use Rattle.tc_code.specs.Code.{Code, instr_at, line_at}
 use Rattle.tc_code.proofs.Facts.{placed}
-use Rattle.tc_code.specs.Lawful.{IsLawful, names_what_is, takes}
+use Rattle.tc_code.specs.Lawful.{IsLawful, has_cell, names_what_is, takes}
 use Rattle.tc_code.specs.Step.{ints_of}
 use Rattle.tc_code.specs.declared.code.Func.{Func}
+use Rattle.int_ops.specs.Updates.{operands_of}
+use Rattle.int_ops.specs.declared.update.Update.{Update}
+use Rattle.int_ops.specs.declared.update.Update.TheVariants as update
 use Rattle.tc_code.specs.Expr.{Expr, names_slots}
+use Rattle.tc_code.specs.declared.cell.Cell.{Cell}
+use Rattle.tc_code.specs.declared.cell.Cell.TheVariants.{Fixed, Element}
 use Rattle.tc_code.specs.declared.instr.Instr.{Instr}
-use Rattle.tc_code.specs.declared.instr.Instr.TheVariants.{Set, Load, LoadAt, Store, StoreAt, Inside, Branch, Create, Assert, Nonzero, InRange, Swap, Cas}
+use Rattle.tc_code.specs.declared.instr.Instr.TheVariants.{Set, Load, Store, Inside, Branch, Create, Assert, Nonzero, InRange, Modify}
 use Rattle.sym_terms.specs.declared.node.Node.{Node}
 use Rattle.sym_terms.specs.declared.node.Node.TheVariants.{Constant, Symbol, Unary, Binary}
 use Rattle.int_ops.specs.declared.arith.UnOp.TheVariants.{Neg}
-use Rattle.int_ops.specs.declared.arith.BinOp.TheVariants.{Xor, Eq, And, Le}
-use Rattle.sym_exec.specs.declared.symbolic.Cell.{Cell}
-use Rattle.sym_exec.specs.declared.symbolic.Cell.TheVariants.{Fixed, Element}
+use Rattle.int_ops.specs.declared.arith.BinOp.TheVariants.{Add, Xor, Eq, And, Le}
 use Rattle.sym_exec.specs.Making.{Made, AllMade, Grows, term_of_node, expr_term, with_expr, expr_terms, range_test, last_index, replaced_term}
-use Rattle.sym_exec.specs.Thread.{Handed, Doing, term_in, with_term, with_slot, with_test, with_store, symbol_in, with_load, reading, with_exchange, with_compare_exchange}
-use Rattle.sym_exec.specs.Thread.{with_handed_terms, after_instr, wanted_of, Route, route_of, after_done, after_step, started, after_all}
-use Rattle.sym_exec.specs.helpers.Threads.{HaveTerms, names_within}
+use Rattle.sym_exec.specs.Thread.{Handed, Doing, term_in, with_term, with_slot, with_test, with_store, symbol_in, with_load, reading, with_nodes, cell_of}
+use Rattle.sym_exec.specs.Thread.{update_terms, updated_term, with_update, with_handed_terms, after_instr, wanted_of, Route, route_of, after_done, after_step, started, after_all}
+use Rattle.sym_exec.specs.helpers.Threads.{HaveTerms, cell_named, names_within}
 use Rattle.sym_exec.specs.Thread.{AreOf, HandsOf, HasTerms}
 use Rattle.sym_exec.specs.Executed.{Course, Executed, handed_by, handed_to, arguments_for, fails_at, thread_started, thread_done, with_thread}
 use Rattle.sym_exec.proofs.Grown.{grows_none, grows_both, grows_made, made_within, stays_within, stay_of, expr_grows, expr_within}
@@ -106,7 +109,7 @@ pub record GoesOn (d e : Doing) : Type 0 where
 both_go : (d e f : Doing) → GoesOn d e → GoesOn e f → GoesOn d f
 both_go d e f g h = record { grows = grows_both d.nodes e.nodes f.nodes g.grows h.grows; sound = h.sound; size = h.size ∙ g.size }
 
-handed_stay : (a b : List Node) (hs : List Handed) → Grows a b → All (HandsOf a) hs → All (HandsOf b) hs
+pub handed_stay : (a b : List Node) (hs : List Handed) → Grows a b → All (HandsOf a) hs → All (HandsOf b) hs
 handed_stay a b hs g are = All-weaker (HandsOf a) (HandsOf b) (λ h of. stay_of a b h.terms g of) hs are
 
 making_goes : (d : Doing) (x : Made) → HasTerms d → Grows d.nodes x.nodes → GoesOn d (with_term d x)
@@ -130,11 +133,11 @@ testing_goes : (d : Doing) (line : ℕ) (wanted : Bool) (x : Made) → HasTerms 
 testing_goes d line wanted x s g = let m = making_goes d x s g in
     record { grows = g; sound = record { slots = m.sound.slots; creates = m.sound.creates }; size = refl }
 
-storing_goes : (d : Doing) (cell : Cell) (x : Made) → HasTerms d → Grows d.nodes x.nodes → GoesOn d (with_store d cell x)
+storing_goes : (d : Doing) (cell : Cell ℕ) (x : Made) → HasTerms d → Grows d.nodes x.nodes → GoesOn d (with_store d cell x)
 storing_goes d cell x s g = let m = making_goes d x s g in
     record { grows = g; sound = record { slots = m.sound.slots; creates = m.sound.creates }; size = refl }
 
-loading_goes : (d : Doing) (k : ℕ) (cell : Cell) (symbol : ℕ) (writes : Option ℕ) → HasTerms d → symbol < length d.nodes
+loading_goes : (d : Doing) (k : ℕ) (cell : Cell ℕ) (symbol : ℕ) (writes : Option ℕ) → HasTerms d → symbol < length d.nodes
     → GoesOn d (with_load d k cell symbol writes)
 loading_goes d k cell symbol writes s within = record {
   grows = grows_none d.nodes;
@@ -142,25 +145,58 @@ loading_goes d k cell symbol writes s within = record {
   size = length-set d.slots k symbol;
 }
 
-reading_goes : (d : Doing) (k : ℕ) (cell : Cell) (writes : Option ℕ) → HasTerms d → GoesOn d (let v = symbol_in d in with_load (with_term d v) k cell v.term writes)
+reading_goes : (d : Doing) (k : ℕ) (cell : Cell ℕ) (writes : Option ℕ) → HasTerms d → GoesOn d (let v = symbol_in d in with_load (with_term d v) k cell v.term writes)
 reading_goes d k cell writes s =
     let v = symbol_in d in
     let m = making_goes d v s (grows_made d.nodes (Symbol d.loads)) in
     both_go d (with_term d v) (with_load (with_term d v) k cell v.term writes) m
     (loading_goes (with_term d v) k cell v.term writes m.sound (made_within d.nodes (Symbol d.loads)))
 
-replacing_goes : (d : Doing) (k : ℕ) (cell : Cell) (expected new : Expr) → HasTerms d → GoesOn d (with_compare_exchange d k cell expected new)
-replacing_goes d k cell expected new s =
-    let e = term_in d expected in
-    let f = term_in (with_term d e) new in
-    let v = symbol_in (with_term d f) in
-    let w = replaced_term v.nodes v.term e.term f.term in
-    let up : Grows d.nodes f.nodes = grows_both d.nodes e.nodes f.nodes (expr_grows d.nodes d.slots expected) (expr_grows e.nodes d.slots new) in
-    let more : Grows d.nodes v.nodes = grows_both d.nodes f.nodes v.nodes up (grows_made f.nodes (Symbol d.loads)) in
-    let last : Grows v.nodes w.nodes = replaced_grows v.nodes v.term e.term f.term in
+-- the nodes of a cell's index, of an update's operands, and of the term that it stores are more
+pub cell_goes : (d : Doing) (c : Cell Expr) → HasTerms d → GoesOn d (with_nodes d (cell_of d c).nodes)
+cell_goes d (Fixed c) s = record { grows = grows_none d.nodes; sound = record { slots = s.slots; creates = s.creates }; size = refl }
+cell_goes d (Element first len i) s = making_goes d (term_in d i) s (expr_grows d.nodes d.slots i)
+
+pub operands_grow : (d : Doing) (u : Update Expr) → Grows d.nodes (update_terms d u).nodes
+operands_grow d (update.Swap e) = expr_grows d.nodes d.slots e
+operands_grow d (update.Cas e new) =
+    let x = term_in d e in
+    grows_both d.nodes x.nodes (term_in (with_term d x) new).nodes (expr_grows d.nodes d.slots e) (expr_grows x.nodes d.slots new)
+operands_grow d (update.Add e) = expr_grows d.nodes d.slots e
+
+one_within : (d : Doing) (e : Expr) → HasTerms d → IsTrue (names_slots (length d.slots) e) → AreOf (term_in d e).nodes ((term_in d e).term ∷ [])
+one_within d e s named =
+    let x = term_in d e in All-cons (IsOf x.nodes) x.term [] (expr_within d.nodes d.slots e s.slots named) (All-nil (IsOf x.nodes))
+
+-- the terms of an update's operands are among the nodes
+pub operands_within : (d : Doing) (u : Update Expr) → HasTerms d → IsTrue (list_all (names_slots (length d.slots)) (operands_of u))
+    → AreOf (update_terms d u).nodes (operands_of (update_terms d u).update)
+operands_within d (update.Swap e) s named = one_within d e s (and_parts (names_slots (length d.slots) e) true named).0
+operands_within d (update.Add e) s named = one_within d e s (and_parts (names_slots (length d.slots) e) true named).0
+operands_within d (update.Cas e new) s named =
+    let named = and_parts (names_slots (length d.slots) e) (names_slots (length d.slots) new && true) named in
+    let x = term_in d e in
+    let y = term_in (with_term d x) new in
+    let m = making_goes d x s (expr_grows d.nodes d.slots e) in
+    All-cons (IsOf y.nodes) x.term (y.term ∷ [])
+    (stays_within x.nodes y.nodes x.term (expr_grows x.nodes d.slots new) (expr_within d.nodes d.slots e s.slots named.0))
+    (one_within (with_term d x) new m.sound (and_parts (names_slots (length d.slots) new) true named.1).0)
+
+pub updated_grows : (nodes : List Node) (u : Update ℕ) (v : ℕ) → Grows nodes (updated_term nodes u v).nodes
+updated_grows nodes (update.Swap x) v = grows_none nodes
+updated_grows nodes (update.Cas x y) v = replaced_grows nodes v x y
+updated_grows nodes (update.Add x) v = grows_made nodes (Binary Add v x)
+
+pub updating_goes : (d : Doing) (k : ℕ) (cell : Cell ℕ) (u : Update Expr) → HasTerms d → GoesOn d (with_update d k cell u)
+updating_goes d k cell u s =
+    let x = update_terms d u in
+    let v = symbol_in (with_nodes d x.nodes) in
+    let w = updated_term v.nodes x.update v.term in
+    let more : Grows d.nodes v.nodes = grows_both d.nodes x.nodes v.nodes (operands_grow d u) (grows_made x.nodes (Symbol d.loads)) in
+    let last : Grows v.nodes w.nodes = updated_grows v.nodes x.update v.term in
     let m = making_goes d w s (grows_both d.nodes v.nodes w.nodes more last) in
     both_go d (with_term d w) (with_load (with_term d w) k cell v.term (Some w.term)) m (loading_goes (with_term d w) k cell v.term (Some w.term) m.sound
-    (stays_within v.nodes w.nodes v.term last (made_within f.nodes (Symbol d.loads))))
+    (stays_within v.nodes w.nodes v.term last (made_within x.nodes (Symbol d.loads))))
 
 handing_goes : (d : Doing) (es : List Expr) → HasTerms d → IsTrue (list_all (names_slots (length d.slots)) es) → GoesOn d (with_handed_terms d es)
 handing_goes d es s named =
@@ -182,16 +218,14 @@ pub instr_goes : (line : ℕ) (wanted : Bool) (d : Doing) (i : Instr) → HasTer
 instr_goes line wanted d (Set k e) s named =
     let named = and_parts (nat_lt k (length d.slots)) (names_slots (length d.slots) e) named in
     setting_goes d k (term_in d e) s (expr_grows d.nodes d.slots e) (expr_within d.nodes d.slots e s.slots named.1)
-instr_goes line wanted d (Load k c) s named = reading_goes d k (Fixed c) None s
-instr_goes line wanted d (LoadAt k first len i) s named =
-    let x = term_in d i in
-    let m = making_goes d x s (expr_grows d.nodes d.slots i) in
-    both_go d (with_term d x) (reading (with_term d x) k (Element first len x.term)) m (reading_goes (with_term d x) k (Element first len x.term) None m.sound)
-instr_goes line wanted d (Store c e) s named = storing_goes d (Fixed c) (term_in d e) s (expr_grows d.nodes d.slots e)
-instr_goes line wanted d (StoreAt first len i e) s named =
-    let x = term_in d i in
-    storing_goes d (Element first len x.term) (term_in (with_term d x) e) s
-    (grows_both d.nodes x.nodes (term_in (with_term d x) e).nodes (expr_grows d.nodes d.slots i) (expr_grows x.nodes d.slots e))
+instr_goes line wanted d (Load k c) s named =
+    let x = cell_of d c in
+    let m = cell_goes d c s in
+    both_go d (with_nodes d x.nodes) (reading (with_nodes d x.nodes) k x.cell) m (reading_goes (with_nodes d x.nodes) k x.cell None m.sound)
+instr_goes line wanted d (Store c e) s named =
+    let x = cell_of d c in
+    let y = term_in (with_nodes d x.nodes) e in
+    storing_goes d x.cell y s (grows_both d.nodes x.nodes y.nodes (cell_goes d c s).grows (expr_grows x.nodes d.slots e))
 instr_goes line wanted d (Inside len i) s named =
     let x = term_in d i in
     testing_goes d line wanted (range_test x (last_index len)) s
@@ -206,28 +240,28 @@ instr_goes line wanted d (InRange e) s named =
     let x = term_in d e in
     testing_goes d line wanted (range_test x (pos 31)) s
     (grows_both d.nodes x.nodes (range_test x (pos 31)).nodes (expr_grows d.nodes d.slots e) (range_grows x (pos 31)))
-instr_goes line wanted d (Swap k c e) s named =
-    let x = term_in d e in
-    let m = making_goes d x s (expr_grows d.nodes d.slots e) in
-    both_go d (with_term d x) (with_exchange d k (Fixed c) x) m (reading_goes (with_term d x) k (Fixed c) (Some x.term) m.sound)
-instr_goes line wanted d (Cas k c e new) s named = replacing_goes d k (Fixed c) e new s
+instr_goes line wanted d (Modify k c u) s named =
+    let x = cell_of d c in
+    let m = cell_goes d c s in
+    both_go d (with_nodes d x.nodes) (with_update (with_nodes d x.nodes) k x.cell u) m (updating_goes (with_nodes d x.nodes) k x.cell u m.sound)
 instr_goes line wanted d _ s named = record { grows = grows_none d.nodes; sound = s; size = refl }
 
 -- everything that an instruction of lawful code names exists
+cell_there : (code : Code) (g : Func) (n : ℕ) (c : Cell Expr) → g.ints ≤ n → IsTrue (has_cell code g c) → IsTrue (cell_named n c)
+cell_there code g n (Fixed c) up h = refl
+cell_there code g n (Element first len i) up h =
+    names_more g.ints n i up (and_parts (nat_le (first + len) (length code.memory)) (names_slots g.ints i) h).1
+
 names_there : (code : Code) (g : Func) (n : ℕ) (i : Instr) → g.ints ≤ n → IsTrue (names_what_is code g i) → IsTrue (names_within n i)
 names_there code g n (Set k e) up h =
     let h = and_parts (nat_lt k g.ints) (names_slots g.ints e) h in
     and_from (nat_lt k n) (names_slots n e) (below_more k g.ints n up h.0) (names_more g.ints n e up h.1)
-names_there code g n (Load k c) up h = below_more k g.ints n up (and_parts (nat_lt k g.ints) (nat_lt c (length code.memory)) h).0
-names_there code g n (LoadAt k a len i) up h =
-    let h = and_parts (nat_lt k g.ints && nat_le (a + len) (length code.memory)) (names_slots g.ints i) h in
-    let first = (and_parts (nat_lt k g.ints) (nat_le (a + len) (length code.memory)) h.0).0 in
-    and_from (nat_lt k n) (names_slots n i) (below_more k g.ints n up first) (names_more g.ints n i up h.1)
-names_there code g n (Store c e) up h = names_more g.ints n e up (and_parts (nat_lt c (length code.memory)) (names_slots g.ints e) h).1
-names_there code g n (StoreAt a len i e) up h =
-    let h = and_parts (nat_le (a + len) (length code.memory) && names_slots g.ints i) (names_slots g.ints e) h in
-    let first = (and_parts (nat_le (a + len) (length code.memory)) (names_slots g.ints i) h.0).1 in
-    and_from (names_slots n i) (names_slots n e) (names_more g.ints n i up first) (names_more g.ints n e up h.1)
+names_there code g n (Load k c) up h =
+    let h = and_parts (nat_lt k g.ints) (has_cell code g c) h in
+    and_from (nat_lt k n) (cell_named n c) (below_more k g.ints n up h.0) (cell_there code g n c up h.1)
+names_there code g n (Store c e) up h =
+    let h = and_parts (has_cell code g c) (names_slots g.ints e) h in
+    and_from (cell_named n c) (names_slots n e) (cell_there code g n c up h.0) (names_more g.ints n e up h.1)
 names_there code g n (Inside len i) up h = names_more g.ints n i up (and_parts (nat_le len (length code.memory)) (names_slots g.ints i) h).1
 names_there code g n (Branch e to) up h = names_more g.ints n e up h
 names_there code g n (Create v f es) up h =
@@ -235,16 +269,12 @@ names_there code g n (Create v f es) up h =
 names_there code g n (Assert e) up h = names_more g.ints n e up h
 names_there code g n (Nonzero e) up h = names_more g.ints n e up h
 names_there code g n (InRange e) up h = names_more g.ints n e up h
-names_there code g n (Swap k c e) up h =
-    let h = and_parts (nat_lt k g.ints && nat_lt c (length code.memory)) (names_slots g.ints e) h in
-    let first = (and_parts (nat_lt k g.ints) (nat_lt c (length code.memory)) h.0).0 in
-    and_from (nat_lt k n) (names_slots n e) (below_more k g.ints n up first) (names_more g.ints n e up h.1)
-names_there code g n (Cas k c e new) up h =
-    let h = and_parts (nat_lt k g.ints && nat_lt c (length code.memory) && names_slots g.ints e) (names_slots g.ints new) h in
-    let g2 = and_parts (nat_lt k g.ints && nat_lt c (length code.memory)) (names_slots g.ints e) h.0 in
-    let first = (and_parts (nat_lt k g.ints) (nat_lt c (length code.memory)) g2.0).0 in
-    and_from (nat_lt k n && names_slots n e) (names_slots n new)
-    (and_from (nat_lt k n) (names_slots n e) (below_more k g.ints n up first) (names_more g.ints n e up g2.1)) (names_more g.ints n new up h.1)
+names_there code g n (Modify k c u) up h =
+    let h = and_parts (nat_lt k g.ints && has_cell code g c) (list_all (names_slots g.ints) (operands_of u)) h in
+    let first = and_parts (nat_lt k g.ints) (has_cell code g c) h.0 in
+    and_from (nat_lt k n && cell_named n c) (list_all (names_slots n) (operands_of u))
+    (and_from (nat_lt k n) (cell_named n c) (below_more k g.ints n up first.0) (cell_there code g n c up first.1))
+    (all_names_more g.ints n (operands_of u) up h.1)
 names_there code g n _ up h = refl
 
 pub instr_named : (code : Code) (f place n : ℕ) (i : Instr) → IsLawful code → instr_at code f place ≡ Some i → ints_of code f ≤ n

@@ -9,21 +9,25 @@ use Rattle.std.specs.Option.{option_map_or}
 use Rattle.std.proofs.Math.Dec.{leb-suc-suc}
 use Rattle.std.proofs.Math.IntN.{pred_ℤ, -ℤ_one}
 use Rattle.std.proofs.lemmas.Bool.{and_parts, le-ltb, le-leb, leb-true}
-use Rattle.std.proofs.lemmas.List.Elements.{All-push, All-nil, All-drop}
+use Rattle.std.proofs.lemmas.List.Elements.{All-head, All-tail, All-push, All-nil, All-drop}
 use Rattle.std.proofs.lemmas.List.{map-set, map-append, append-nil}
 use Rattle.int_ops.specs.Arith.{IsInt, is_distance, truth, bits_xor, bits_and, negated, equal}
 use Rattle.tc_base.specs.States.{Local}
 use Rattle.int_ops.specs.declared.arith.UnOp.TheVariants.{Neg}
-use Rattle.int_ops.specs.declared.arith.BinOp.TheVariants.{Xor, Eq, And}
+use Rattle.int_ops.specs.declared.arith.BinOp.TheVariants.{Add, Xor, Eq, And}
+use Rattle.int_ops.specs.Updates.{operands_of, with_operands, updated}
+use Rattle.int_ops.specs.declared.update.Update.{Update}
+use Rattle.int_ops.specs.declared.update.Update.TheVariants as update
 use Rattle.int_ops.proofs.Ints.{by_sameness, there_int}
 use Rattle.tc_code.specs.Code.{Code, instr_at, line_at}
 use Rattle.tc_code.specs.Expr.{Expr, names_slots, value_of as expr_value_of}
+use Rattle.tc_code.specs.declared.cell.Cell.{Cell}
+use Rattle.tc_code.specs.declared.cell.Cell.TheVariants.{Fixed, Element}
 use Rattle.tc_code.specs.declared.instr.Instr.{Instr}
-use Rattle.tc_code.specs.declared.instr.Instr.TheVariants.{Set, Load, LoadAt, Store, StoreAt, Inside, Branch, Holds, Ready, Create, Assert, Nonzero, InRange}
-use Rattle.tc_code.specs.declared.instr.Instr.TheVariants.{Swap, Cas}
+use Rattle.tc_code.specs.declared.instr.Instr.TheVariants.{Set, Load, Store, Inside, Branch, Holds, Ready, Create, Assert, Nonzero, InRange, Modify}
 use Rattle.tc_code.proofs.Facts.{placed}
 use Rattle.tc_code.specs.Lawful.{IsLawful}
-use Rattle.tc_code.specs.Step.{ints_of, instr_of, value_in, is_within, is_nonzero, cell_at, site, request, replaced, local_after, holds, can_be_joined}
+use Rattle.tc_code.specs.Step.{ints_of, instr_of, value_in, is_within, is_nonzero, cell_at, cell_in, update_in, site, request, local_after, holds, can_be_joined}
 use Rattle.tc_code.specs.Step.{handle_of}
 use Rattle.run_laws.specs.Alone.{Alone, after_request, goes_on}
 use Rattle.run_laws.specs.Ints.{AsksInts}
@@ -35,32 +39,27 @@ use Rattle.sym_terms.specs.Values.{value_of}
 use Rattle.sym_terms.specs.declared.node.Node.{Node}
 use Rattle.sym_terms.specs.declared.node.Node.TheVariants.{Symbol, Unary, Binary}
 use Rattle.sym_exec.specs.Making.{Made, AllMade, Grows, term_of_node, expr_term, with_expr, expr_terms, range_test, last_index, replaced_term}
-use Rattle.sym_exec.specs.Thread.{Handed, Doing, AreOf, HasTerms, term_in, with_term, with_test, symbol_in, after_instr, wanted_of, Route, after_step, after_all}
-use Rattle.sym_exec.specs.helpers.Threads.{names_within}
-use Rattle.sym_exec.specs.Alone.{slots_by, condition, outcomes_of, given_by, given_of, values_in, Asked, asked_by, asked_of}
+use Rattle.sym_exec.specs.Thread.{Handed, Doing, AreOf, HasTerms, Updating, term_in, with_term, with_test, with_nodes, cell_of, update_terms, updated_term, after_instr, wanted_of, after_step, after_all, Route}
+use Rattle.sym_exec.specs.helpers.Threads.{cell_named, names_within}
+use Rattle.sym_exec.specs.Alone.{cell_by, slots_by, condition, outcomes_of, given_by, given_of, values_in, Asked, asked_by, asked_of}
 use Rattle.sym_exec.specs.Ints.{exchanged}
 use Rattle.sym_exec.specs.Alone.{asked_in, outcome_by, TakesFrom, StandsFor, Tells}
 use Rattle.sym_exec.specs.declared.symbolic.Test.{Test}
 use Rattle.sym_exec.specs.declared.symbolic.Access.{Access}
-use Rattle.sym_exec.specs.declared.symbolic.Cell.TheVariants.{Fixed, Element}
 use Rattle.sym_exec.proofs.Grown.{grows_none, grows_both, grows_made, stays_within, stay_of, expr_grows}
-use Rattle.sym_exec.proofs.Sound.{instr_goes, instr_named, stepped_by, step_goes, all_go, replaced_grows, exprs_made}
+use Rattle.sym_exec.proofs.Sound.{instr_goes, instr_named, step_goes, all_go, exprs_made, cell_goes, operands_grow, operands_within, updated_grows, stepped_by}
 use Rattle.sym_exec.proofs.Values.{HasValue, value_stays, values_stay, symbol_value, unary_value, binary_value, expr_value, range_value}
 use Rattle.sym_exec.proofs.Values.{truth_nonzero}
 
 -- whether an instruction takes a value from memory
 abbrev pub is_load : Instr → Bool
 is_load (Load k c) = true
-is_load (LoadAt k first len i) = true
-is_load (Swap k c e) = true
-is_load (Cas k c e new) = true
+is_load (Modify k c u) = true
 is_load _ = false
 
 pub loads_after : (line : ℕ) (wanted : Bool) (d : Doing) (i : Instr) → (after_instr line wanted d i).loads ≡ d.loads + cond (is_load i) 1 0
 loads_after line wanted d (Load k c) = refl
-loads_after line wanted d (LoadAt k first len i) = refl
-loads_after line wanted d (Swap k c e) = refl
-loads_after line wanted d (Cas k c e new) = refl
+loads_after line wanted d (Modify k c u) = refl
 loads_after line wanted d _ = omega arith
 
 -- a thread after an instruction whose request may fail: its slots, and the values left
@@ -184,6 +183,135 @@ expr_told loads line wanted d i t v e branches are s named is kept tests =
           (ap (λ xs. is_nonzero (expr_value_of e xs)) (sym is)) later g ∙ ap (λ o. cons_option o []) (sym tests);
     }
 
+-- the value of an expression's term, in all later nodes
+in_later : (loads : List ℤ) (x : Made) (e : Expr) (t : Local) (d : Doing) (later : List Node) → HasValue loads x (expr_value_of e (slots_by loads d))
+    → t.slots ≡ slots_by loads d → Grows x.nodes later → value_of later loads x.term ≡ value_in t e
+in_later loads x e t d later h is g = value_stays x.nodes later loads x.term g h.within ∙ h.value ∙ ap (expr_value_of e) (sym is)
+
+-- the cell that an instruction accesses, by the term of its index
+pub record Reaches (loads : List ℤ) (d : Doing) (c : Cell Expr) (t : Local) : Type 0 where
+  pub terms : AreTerms (cell_of d c).nodes
+  pub grows : Grows d.nodes (cell_of d c).nodes
+  pub cell_is : (later : List Node) → Grows (cell_of d c).nodes later → cell_by later loads (cell_of d c).cell ≡ cell_in t c
+
+pub reaches : (loads : List ℤ) (d : Doing) (c : Cell Expr) (t : Local) → AreTerms d.nodes → HasTerms d → IsTrue (cell_named (length d.slots) c)
+    → t.slots ≡ slots_by loads d → Reaches loads d c t
+reaches loads d (Fixed c) t are s named is = record { terms = are; grows = grows_none d.nodes; cell_is = λ later g. refl }
+reaches loads d (Element first len i) t are s named is =
+    let h = expr_value d.nodes d.slots i loads are s.slots named in record {
+      terms = h.terms;
+      grows = expr_grows d.nodes d.slots i;
+      cell_is = λ later g. ap (cell_at first) (in_later loads (term_in d i) i t d later h is g);
+    }
+
+-- the terms of an update's operands have the values of the operands
+record Operands (loads : List ℤ) (d : Doing) (u : Update Expr) (t : Local) : Type 0 where
+  terms : AreTerms (update_terms d u).nodes
+  values : (later : List Node) → Grows (update_terms d u).nodes later
+      → with_operands (value_of later loads) (update_terms d u).update ≡ update_in t u
+
+operands : (loads : List ℤ) (d : Doing) (u : Update Expr) (t : Local) → AreTerms d.nodes → HasTerms d
+    → IsTrue (list_all (names_slots (length d.slots)) (operands_of u)) → t.slots ≡ slots_by loads d → Operands loads d u t
+operands loads d (update.Swap e) t are s named is =
+    let x = term_in d e in
+    let h = expr_value d.nodes d.slots e loads are s.slots (and_parts (names_slots (length d.slots) e) true named).0 in
+    record { terms = h.terms; values = λ later g. ap update.Swap (in_later loads x e t d later h is g) }
+operands loads d (update.Add e) t are s named is =
+    let x = term_in d e in
+    let h = expr_value d.nodes d.slots e loads are s.slots (and_parts (names_slots (length d.slots) e) true named).0 in
+    record { terms = h.terms; values = λ later g. ap update.Add (in_later loads x e t d later h is g) }
+operands loads d (update.Cas e new) t are s named is =
+    let named = and_parts (names_slots (length d.slots) e) (names_slots (length d.slots) new && true) named in
+    let x = term_in d e in
+    let hx = expr_value d.nodes d.slots e loads are s.slots named.0 in
+    let gx : Grows d.nodes x.nodes = expr_grows d.nodes d.slots e in
+    let y = term_in (with_term d x) new in
+    let hy = expr_value x.nodes d.slots new loads hx.terms (stay_of d.nodes x.nodes d.slots gx s.slots)
+    (and_parts (names_slots (length d.slots) new) true named.1).0 in
+    let gy : Grows x.nodes y.nodes = expr_grows x.nodes d.slots new in record {
+      terms = hy.terms;
+      values = λ later g. ap₂ update.Cas (in_later loads x e t d later hx is (grows_both x.nodes y.nodes later gy g))
+          (value_stays y.nodes later loads y.term g hy.within ∙ hy.value
+          ∙ ap (expr_value_of new) (values_stay d.nodes x.nodes loads d.slots gx s.slots ∙ sym is));
+    }
+
+-- the term that an update stores is one, and has the updated value
+updated_are : (nodes : List Node) (u : Update ℕ) (v : ℕ) (loads : List ℤ) → AreTerms nodes → v < length nodes → AreOf nodes (operands_of u)
+    → AreTerms (updated_term nodes u v).nodes
+updated_are nodes (update.Swap x) v loads are wv of = are
+updated_are nodes (update.Cas x y) v loads are wv of =
+    (replaced_value nodes v x y loads _ _ _ are wv (All-head (λ n. n < length nodes) x (y ∷ []) of)
+    (All-head (λ n. n < length nodes) y [] (All-tail (λ n. n < length nodes) x (y ∷ []) of)) refl refl refl).terms
+updated_are nodes (update.Add x) v loads are wv of =
+    (binary_value Add nodes v x _ _ loads are wv (All-head (λ n. n < length nodes) x [] of) refl refl).terms
+
+its_value : (nodes : List Node) (u : Update ℕ) (v : ℕ) (loads : List ℤ) → AreTerms nodes → v < length nodes → AreOf nodes (operands_of u)
+    → IsInt (value_of nodes loads v) → All IsInt (operands_of (with_operands (value_of nodes loads) u))
+    → HasValue loads (updated_term nodes u v) (updated (with_operands (value_of nodes loads) u) (value_of nodes loads v))
+its_value nodes (update.Swap x) v loads are wv of int ints =
+    record { terms = are; within = All-head (λ n. n < length nodes) x [] of; value = refl }
+its_value nodes (update.Cas x y) v loads are wv of int ints =
+    let a = value_of nodes loads v in
+    let b = value_of nodes loads x in
+    let c = value_of nodes loads y in
+    let h = replaced_value nodes v x y loads a b c are wv (All-head (λ n. n < length nodes) x (y ∷ []) of)
+    (All-head (λ n. n < length nodes) y [] (All-tail (λ n. n < length nodes) x (y ∷ []) of)) refl refl refl in
+    record {
+      terms = h.terms;
+      within = h.within;
+      value = h.value ∙ by_sameness (int_eq a b) a c int (All-head IsInt c [] (All-tail IsInt b (c ∷ []) ints));
+    }
+its_value nodes (update.Add x) v loads are wv of int ints =
+    binary_value Add nodes v x (value_of nodes loads v) (value_of nodes loads x) loads are wv (All-head (λ n. n < length nodes) x [] of) refl refl
+
+updated_value : (nodes : List Node) (u : Update ℕ) (v : ℕ) (loads : List ℤ) (w : Update ℤ) (a : ℤ) → AreTerms nodes → v < length nodes
+    → AreOf nodes (operands_of u) → value_of nodes loads v ≡ a → with_operands (value_of nodes loads) u ≡ w → IsInt a → All IsInt (operands_of w)
+    → HasValue loads (updated_term nodes u v) (updated w a)
+updated_value nodes u v loads w a are wv of va uw int ints =
+    subst (λ b. HasValue loads (updated_term nodes u v) (updated w b)) va
+    (subst (λ x. HasValue loads (updated_term nodes u v) (updated x (value_of nodes loads v))) uw
+    (its_value nodes u v loads are wv of (subst IsInt (sym va) int) (subst (λ x. All IsInt (operands_of x)) (sym uw) ints)))
+
+-- the terms of an instruction that updates a cell: of the operands, of the load, and of the store
+abbrev operands_in : Doing → Cell Expr → Update Expr → Updating
+operands_in d c u = update_terms (with_nodes d (cell_of d c).nodes) u
+
+abbrev loaded_in : Doing → Cell Expr → Update Expr → Made
+loaded_in d c u = term_of_node (operands_in d c u).nodes (Symbol d.loads)
+
+abbrev stored_in : Doing → Cell Expr → Update Expr → Made
+stored_in d c u = updated_term (loaded_in d c u).nodes (operands_in d c u).update (loaded_in d c u).term
+
+record Modifies (loads : List ℤ) (d : Doing) (c : Cell Expr) (u : Update Expr) (t : Local) : Type 0 where
+  has : HasValue loads (loaded_in d c u) (get_or loads d.loads (pos 0))
+  within : AreOf (loaded_in d c u).nodes (operands_of (operands_in d c u).update)
+  values : with_operands (value_of (loaded_in d c u).nodes loads) (operands_in d c u).update ≡ update_in t u
+  grows : Grows d.nodes (loaded_in d c u).nodes
+  writes : Grows (loaded_in d c u).nodes (stored_in d c u).nodes
+  cell_is : (later : List Node) → Grows (loaded_in d c u).nodes later → cell_by later loads (cell_of d c).cell ≡ cell_in t c
+
+modifies : (loads : List ℤ) (d : Doing) (k : ℕ) (c : Cell Expr) (u : Update Expr) (t : Local) → AreTerms d.nodes → HasTerms d
+    → IsTrue (nat_lt k (length d.slots) && cell_named (length d.slots) c) → IsTrue (list_all (names_slots (length d.slots)) (operands_of u))
+    → t.slots ≡ slots_by loads d → Modifies loads d c u t
+modifies loads d k c u t are s at named is =
+    let x = cell_of d c in
+    let r = reaches loads d c t are s (and_parts (nat_lt k (length d.slots)) (cell_named (length d.slots) c) at).1 is in
+    let e = with_nodes d x.nodes in
+    let sound = (cell_goes d c s).sound in
+    let o = operands loads e u t r.terms sound named (kept_told loads d x.nodes t.slots r.grows s.slots is) in
+    let made = operands_in d c u in
+    let symbol = loaded_in d c u in
+    let more : Grows made.nodes symbol.nodes = grows_made made.nodes (Symbol d.loads) in
+    let up : Grows x.nodes symbol.nodes = grows_both x.nodes made.nodes symbol.nodes (operands_grow e u) more in
+    record {
+      has = symbol_value made.nodes d.loads loads o.terms;
+      within = stay_of made.nodes symbol.nodes (operands_of made.update) more (operands_within e u sound named);
+      values = o.values symbol.nodes more;
+      grows = grows_both d.nodes x.nodes symbol.nodes r.grows up;
+      writes = updated_grows symbol.nodes made.update symbol.term;
+      cell_is = λ later g. r.cell_is later (grows_both x.nodes symbol.nodes later up g);
+    }
+
 pub told : (loads : List ℤ) (line : ℕ) (wanted : Bool) (d : Doing) (i : Instr) (t : Local) (v : ℤ) → AreTerms d.nodes → HasTerms d
     → IsTrue (names_within (length d.slots) i) → IsShort i → t.slots ≡ slots_by loads d → (is_load i ≡ true → get_or loads d.loads (pos 0) ≡ v)
     → Told loads d (after_instr line wanted d i) t i v
@@ -200,22 +328,12 @@ told loads line wanted d (Set k e) t v are s named short is load =
       comes = λ later g. refl;
     }
 told loads line wanted d (Load k c) t v are s named short is load =
-    let x = symbol_in d in
-    let h = symbol_value d.nodes d.loads loads are in
-    record {
-      terms = h.terms;
-      slots = set_told loads d x.nodes x.term k t.slots v (grows_made d.nodes (Symbol d.loads)) s.slots (h.value ∙ load refl) is;
-      test = [];
-      tests = sym (append-nil d.tests);
-      comes = λ later g. refl;
-    }
-told loads line wanted d (LoadAt k first len i) t v are s named short is load =
-    let named = and_parts (nat_lt k (length d.slots)) (names_slots (length d.slots) i) named in
-    let x = term_in d i in
-    let hx = expr_value d.nodes d.slots i loads are s.slots named.1 in
+    let named = and_parts (nat_lt k (length d.slots)) (cell_named (length d.slots) c) named in
+    let x = cell_of d c in
+    let r = reaches loads d c t are s named.1 is in
     let y = term_of_node x.nodes (Symbol d.loads) in
-    let h = symbol_value x.nodes d.loads loads hx.terms in
-    let g : Grows d.nodes y.nodes = grows_both d.nodes x.nodes y.nodes (expr_grows d.nodes d.slots i) (grows_made x.nodes (Symbol d.loads)) in
+    let h = symbol_value x.nodes d.loads loads r.terms in
+    let g : Grows d.nodes y.nodes = grows_both d.nodes x.nodes y.nodes r.grows (grows_made x.nodes (Symbol d.loads)) in
     record {
       terms = h.terms;
       slots = set_told loads d y.nodes y.term k t.slots v g s.slots (h.value ∙ load refl) is;
@@ -223,62 +341,27 @@ told loads line wanted d (LoadAt k first len i) t v are s named short is load =
       tests = sym (append-nil d.tests);
       comes = λ later g. refl;
     }
-told loads line wanted d (Swap k c e) t v are s named short is load =
-    let named = and_parts (nat_lt k (length d.slots)) (names_slots (length d.slots) e) named in
-    let x = term_in d e in
-    let hx = expr_value d.nodes d.slots e loads are s.slots named.1 in
-    let y = term_of_node x.nodes (Symbol d.loads) in
-    let h = symbol_value x.nodes d.loads loads hx.terms in
-    let g : Grows d.nodes y.nodes = grows_both d.nodes x.nodes y.nodes (expr_grows d.nodes d.slots e) (grows_made x.nodes (Symbol d.loads)) in
+told loads line wanted d (Modify k c u) t v are s named short is load =
+    let named = and_parts (nat_lt k (length d.slots) && cell_named (length d.slots) c) (list_all (names_slots (length d.slots)) (operands_of u)) named in
+    let m = modifies loads d k c u t are s named.0 named.1 is in
+    let symbol = loaded_in d c u in
+    let written = stored_in d c u in
     record {
-      terms = h.terms;
-      slots = set_told loads d y.nodes y.term k t.slots v g s.slots (h.value ∙ load refl) is;
-      test = [];
-      tests = sym (append-nil d.tests);
-      comes = λ later g. refl;
-    }
-told loads line wanted d (Cas k c e new) t v are s named short is load =
-    let named = and_parts (nat_lt k (length d.slots) && names_slots (length d.slots) e) (names_slots (length d.slots) new) named in
-    let first = and_parts (nat_lt k (length d.slots)) (names_slots (length d.slots) e) named.0 in
-    let x = term_in d e in
-    let hx = expr_value d.nodes d.slots e loads are s.slots first.1 in
-    let gx : Grows d.nodes x.nodes = expr_grows d.nodes d.slots e in
-    let y = term_in (with_term d x) new in
-    let hy = expr_value x.nodes d.slots new loads hx.terms (stay_of d.nodes x.nodes d.slots gx s.slots) named.1 in
-    let gy : Grows x.nodes y.nodes = expr_grows x.nodes d.slots new in
-    let z = term_of_node y.nodes (Symbol d.loads) in
-    let hz = symbol_value y.nodes d.loads loads hy.terms in
-    let gz : Grows y.nodes z.nodes = grows_made y.nodes (Symbol d.loads) in
-    let w = replaced_term z.nodes z.term x.term y.term in
-    let gw : Grows z.nodes w.nodes = replaced_grows z.nodes z.term x.term y.term in
-    let gyz : Grows x.nodes z.nodes = grows_both x.nodes y.nodes z.nodes gy gz in
-    record {
-      terms = (replaced_value z.nodes z.term x.term y.term loads _ _ _ hz.terms hz.within (stays_within x.nodes z.nodes x.term gyz hx.within)
-          (stays_within y.nodes z.nodes y.term gz hy.within) refl refl refl).terms;
-      slots = set_told loads d w.nodes z.term k t.slots v (grows_both d.nodes x.nodes w.nodes gx (grows_both x.nodes z.nodes w.nodes gyz gw)) s.slots
-          (value_stays z.nodes w.nodes loads z.term gw hz.within ∙ hz.value ∙ load refl) is;
+      terms = updated_are symbol.nodes (operands_in d c u).update symbol.term loads m.has.terms m.has.within m.within;
+      slots = set_told loads d written.nodes symbol.term k t.slots v (grows_both d.nodes symbol.nodes written.nodes m.grows m.writes) s.slots
+          (value_stays symbol.nodes written.nodes loads symbol.term m.writes m.has.within ∙ m.has.value ∙ load refl) is;
       test = [];
       tests = sym (append-nil d.tests);
       comes = λ later g. refl;
     }
 told loads line wanted d (Store c e) t v are s named short is load =
-    let x = term_in d e in
+    let named = and_parts (cell_named (length d.slots) c) (names_slots (length d.slots) e) named in
+    let x = cell_of d c in
+    let r = reaches loads d c t are s named.0 is in
+    let y = term_in (with_nodes d x.nodes) e in
     record {
-      terms = (expr_value d.nodes d.slots e loads are s.slots named).terms;
-      slots = kept_told loads d x.nodes t.slots (expr_grows d.nodes d.slots e) s.slots is;
-      test = [];
-      tests = sym (append-nil d.tests);
-      comes = λ later g. refl;
-    }
-told loads line wanted d (StoreAt first len i e) t v are s named short is load =
-    let named = and_parts (names_slots (length d.slots) i) (names_slots (length d.slots) e) named in
-    let x = term_in d i in
-    let hx = expr_value d.nodes d.slots i loads are s.slots named.0 in
-    let gx : Grows d.nodes x.nodes = expr_grows d.nodes d.slots i in
-    let y = term_in (with_term d x) e in
-    record {
-      terms = (expr_value x.nodes d.slots e loads hx.terms (stay_of d.nodes x.nodes d.slots gx s.slots) named.1).terms;
-      slots = kept_told loads d y.nodes t.slots (grows_both d.nodes x.nodes y.nodes gx (expr_grows x.nodes d.slots e)) s.slots is;
+      terms = (expr_value x.nodes d.slots e loads r.terms (stay_of d.nodes x.nodes d.slots r.grows s.slots) named.1).terms;
+      slots = kept_told loads d y.nodes t.slots (grows_both d.nodes x.nodes y.nodes r.grows (expr_grows x.nodes d.slots e)) s.slots is;
       test = [];
       tests = sym (append-nil d.tests);
       comes = λ later g. refl;
@@ -387,96 +470,53 @@ site_asks loads d e t i v true is same =
 site_asks loads d e t i v false is same =
     record { found = []; accesses = same ∙ sym (append-nil d.accesses); asked = λ later g. sym (ap (asked_by v) is) }
 
--- the value of an expression's term, in all later nodes
-in_later : (loads : List ℤ) (x : Made) (e : Expr) (t : Local) (d : Doing) (later : List Node) → HasValue loads x (expr_value_of e (slots_by loads d))
-    → t.slots ≡ slots_by loads d → Grows x.nodes later → value_of later loads x.term ≡ value_in t e
-in_later loads x e t d later h is g = value_stays x.nodes later loads x.term g h.within ∙ h.value ∙ ap (expr_value_of e) (sym is)
-
 pub asks : (loads : List ℤ) (line : ℕ) (wanted : Bool) (d : Doing) (i : Instr) (t : Local) (v : ℤ) → AreTerms d.nodes → HasTerms d
     → IsTrue (names_within (length d.slots) i) → t.slots ≡ slots_by loads d → (is_load i ≡ true → get_or loads d.loads (pos 0) ≡ v)
     → IsInt v → AsksInts (request t i) → Asks loads d (after_instr line wanted d i) t i v
-asks loads line wanted d (Load k c) t v are s named is load int ints = record {
-  found = record { step = d.steps; cell = Fixed c; takes = Some d.loads; writes = None } ∷ [];
-  accesses = refl;
-  asked = λ later g. asked_is c c (Some (get_or loads d.loads (pos 0))) (Some v) None None refl (ap Some (load refl)) refl;
-}
-asks loads line wanted d (LoadAt k first len i) t v are s named is load int ints =
-    let named = and_parts (nat_lt k (length d.slots)) (names_slots (length d.slots) i) named in
-    let x = term_in d i in
-    let h = expr_value d.nodes d.slots i loads are s.slots named.1 in
-    let e = after_instr line wanted d (LoadAt k first len i) in
+asks loads line wanted d (Load k c) t v are s named is load int ints =
+    let named = and_parts (nat_lt k (length d.slots)) (cell_named (length d.slots) c) named in
+    let x = cell_of d c in
+    let r = reaches loads d c t are s named.1 is in
+    let e = after_instr line wanted d (Load k c) in
     let up : Grows x.nodes e.nodes = grows_made x.nodes (Symbol d.loads) in
     record {
-      found = record { step = d.steps; cell = Element first len x.term; takes = Some d.loads; writes = None } ∷ [];
+      found = record { step = d.steps; cell = x.cell; takes = Some d.loads; writes = None } ∷ [];
       accesses = refl;
-      asked = λ later g. asked_is (cell_at first (value_of later loads x.term)) (cell_at first (value_in t i)) (Some (get_or loads d.loads (pos 0))) (Some v)
-          None None
-          (ap (cell_at first) (in_later loads x i t d later h is (grows_both x.nodes e.nodes later up g))) (ap Some (load refl)) refl;
+      asked = λ later g. asked_is (cell_by later loads x.cell) (cell_in t c) (Some (get_or loads d.loads (pos 0))) (Some v) None None
+          (r.cell_is later (grows_both x.nodes e.nodes later up g)) (ap Some (load refl)) refl;
     }
 asks loads line wanted d (Store c e) t v are s named is load int ints =
-    let x = term_in d e in
-    let h = expr_value d.nodes d.slots e loads are s.slots named in
-    record {
-      found = record { step = d.steps; cell = Fixed c; takes = None; writes = Some x.term } ∷ [];
-      accesses = refl;
-      asked = λ later g. asked_is c c None None (Some (value_of later loads x.term)) (Some (value_in t e)) refl refl
-          (ap Some (in_later loads x e t d later h is g));
-    }
-asks loads line wanted d (StoreAt first len i e) t v are s named is load int ints =
-    let named = and_parts (names_slots (length d.slots) i) (names_slots (length d.slots) e) named in
-    let x = term_in d i in
-    let hx = expr_value d.nodes d.slots i loads are s.slots named.0 in
-    let gx : Grows d.nodes x.nodes = expr_grows d.nodes d.slots i in
-    let y = term_in (with_term d x) e in
+    let named = and_parts (cell_named (length d.slots) c) (names_slots (length d.slots) e) named in
+    let x = cell_of d c in
+    let r = reaches loads d c t are s named.0 is in
+    let y = term_in (with_nodes d x.nodes) e in
     let gy : Grows x.nodes y.nodes = expr_grows x.nodes d.slots e in
-    let hy = expr_value x.nodes d.slots e loads hx.terms (stay_of d.nodes x.nodes d.slots gx s.slots) named.1 in
+    let hy = expr_value x.nodes d.slots e loads r.terms (stay_of d.nodes x.nodes d.slots r.grows s.slots) named.1 in
     let value : (later : List Node) → Grows y.nodes later → value_of later loads y.term ≡ value_in t e = λ later g.
     value_stays y.nodes later loads y.term g hy.within ∙ hy.value
-    ∙ ap (expr_value_of e) (values_stay d.nodes x.nodes loads d.slots gx s.slots ∙ sym is) in
+    ∙ ap (expr_value_of e) (values_stay d.nodes x.nodes loads d.slots r.grows s.slots ∙ sym is) in
     record {
-      found = record { step = d.steps; cell = Element first len x.term; takes = None; writes = Some y.term } ∷ [];
+      found = record { step = d.steps; cell = x.cell; takes = None; writes = Some y.term } ∷ [];
       accesses = refl;
-      asked = λ later g. asked_is (cell_at first (value_of later loads x.term)) (cell_at first (value_in t i)) None None (Some (value_of later loads y.term))
-          (Some (value_in t e)) (ap (cell_at first) (in_later loads x i t d later hx is (grows_both x.nodes y.nodes later gy g))) refl
+      asked = λ later g. asked_is (cell_by later loads x.cell) (cell_in t c) None None (Some (value_of later loads y.term))
+          (Some (value_in t e)) (r.cell_is later (grows_both x.nodes y.nodes later gy g)) refl
           (ap Some (value later g));
     }
-asks loads line wanted d (Swap k c e) t v are s named is load int ints =
-    let named = and_parts (nat_lt k (length d.slots)) (names_slots (length d.slots) e) named in
-    let x = term_in d e in
-    let h = expr_value d.nodes d.slots e loads are s.slots named.1 in
-    let f = after_instr line wanted d (Swap k c e) in
-    let up : Grows x.nodes f.nodes = grows_made x.nodes (Symbol d.loads) in
+asks loads line wanted d (Modify k c u) t v are s named is load int ints =
+    let named = and_parts (nat_lt k (length d.slots) && cell_named (length d.slots) c) (list_all (names_slots (length d.slots)) (operands_of u)) named in
+    let cell = (cell_of d c).cell in
+    let m = modifies loads d k c u t are s named.0 named.1 is in
+    let symbol = loaded_in d c u in
+    let written = stored_in d c u in
+    let h = updated_value symbol.nodes (operands_in d c u).update symbol.term loads (update_in t u) v m.has.terms m.has.within m.within
+    (m.has.value ∙ load refl) m.values int ints in
     record {
-      found = record { step = d.steps; cell = Fixed c; takes = Some d.loads; writes = Some x.term } ∷ [];
+      found = record { step = d.steps; cell = cell; takes = Some d.loads; writes = Some written.term } ∷ [];
       accesses = refl;
-      asked = λ later g. asked_is c c (Some (get_or loads d.loads (pos 0))) (Some v) (Some (value_of later loads x.term)) (Some (value_in t e)) refl
-          (ap Some (load refl)) (ap Some (in_later loads x e t d later h is (grows_both x.nodes f.nodes later up g)));
-    }
-asks loads line wanted d (Cas k c e new) t v are s named is load int ints =
-    let named = and_parts (nat_lt k (length d.slots) && names_slots (length d.slots) e) (names_slots (length d.slots) new) named in
-    let first = and_parts (nat_lt k (length d.slots)) (names_slots (length d.slots) e) named.0 in
-    let x = term_in d e in
-    let hx = expr_value d.nodes d.slots e loads are s.slots first.1 in
-    let gx : Grows d.nodes x.nodes = expr_grows d.nodes d.slots e in
-    let y = term_in (with_term d x) new in
-    let hy = expr_value x.nodes d.slots new loads hx.terms (stay_of d.nodes x.nodes d.slots gx s.slots) named.1 in
-    let gy : Grows x.nodes y.nodes = expr_grows x.nodes d.slots new in
-    let z = term_of_node y.nodes (Symbol d.loads) in
-    let hz = symbol_value y.nodes d.loads loads hy.terms in
-    let gz : Grows y.nodes z.nodes = grows_made y.nodes (Symbol d.loads) in
-    let gyz : Grows x.nodes z.nodes = grows_both x.nodes y.nodes z.nodes gy gz in
-    let w = replaced_term z.nodes z.term x.term y.term in
-    let hw = replaced_value z.nodes z.term x.term y.term loads v (value_in t e) (value_in t new) hz.terms hz.within
-    (stays_within x.nodes z.nodes x.term gyz hx.within)
-    (stays_within y.nodes z.nodes y.term gz hy.within) (hz.value ∙ load refl) (in_later loads x e t d z.nodes hx is gyz)
-    (value_stays y.nodes z.nodes loads y.term gz hy.within ∙ hy.value
-    ∙ ap (expr_value_of new) (values_stay d.nodes x.nodes loads d.slots gx s.slots ∙ sym is)) in
-    record {
-      found = record { step = d.steps; cell = Fixed c; takes = Some d.loads; writes = Some w.term } ∷ [];
-      accesses = refl;
-      asked = λ later g. asked_is c c (Some (get_or loads d.loads (pos 0))) (Some v) (Some (value_of later loads w.term))
-          (Some (replaced v (value_in t e) (value_in t new))) refl (ap Some (load refl))
-          (ap Some (value_stays w.nodes later loads w.term g hw.within ∙ hw.value ∙ by_sameness (int_eq v (value_in t e)) v (value_in t new) int ints.1));
+      asked = λ later g. asked_is (cell_by later loads cell) (cell_in t c) (Some (get_or loads d.loads (pos 0))) (Some v)
+          (Some (value_of later loads written.term)) (Some (updated (update_in t u) v))
+          (m.cell_is later (grows_both symbol.nodes written.nodes later m.writes g)) (ap Some (load refl))
+          (ap Some (value_stays written.nodes later loads written.term g h.within ∙ h.value));
     }
 asks loads line wanted d (Inside len i) t v are s named is load int ints =
     site_asks loads d (after_instr line wanted d (Inside len i)) t (Inside len i) v (is_within len (value_in t i)) refl refl

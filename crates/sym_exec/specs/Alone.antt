@@ -4,21 +4,22 @@ use Rattle.std.specs.Prelude.{option_and_then, slice_index_or}
 use Rattle.std.specs.List.{All, cons_option}
 use Rattle.std.specs.Option.{option_map_or}
 use Rattle.int_ops.specs.Arith.{IsInt, is_distance}
+use Rattle.int_ops.specs.Updates.{updated}
 use Rattle.tc_base.specs.declared.request.Request.{Request}
-use Rattle.tc_base.specs.declared.request.Request.TheVariants.{Read, Write, Exchange, CompareExchange}
+use Rattle.tc_base.specs.declared.request.Request.TheVariants.{Read, Write, Exchange}
 use Rattle.tc_base.specs.States.{Local}
 use Rattle.tc_code.specs.Code.{Code, instr_at}
 use Rattle.tc_code.specs.declared.instr.Instr.{Instr}
 use Rattle.tc_code.specs.declared.instr.Instr.TheVariants.{Inside, Branch, Create, Assert, Nonzero, InRange}
-use Rattle.tc_code.specs.Step.{ints_of, instr_of, value_in, is_within, is_nonzero, cell_at, request, replaced}
+use Rattle.tc_code.specs.Step.{ints_of, instr_of, value_in, is_within, is_nonzero, cell_at, request}
 use Rattle.run_laws.specs.Alone.{Alone, goes_on, after_steps}
 use Rattle.sym_terms.specs.Terms.{AreTerms}
 use Rattle.sym_terms.specs.Values.{value_of}
 use Rattle.sym_terms.specs.declared.node.Node.{Node}
 use Rattle.sym_exec.specs.Thread.{Handed, Doing, HasTerms, Route, after_all}
 use Rattle.sym_exec.specs.declared.symbolic.Access.{Access}
-use Rattle.sym_exec.specs.declared.symbolic.Cell.{Cell}
-use Rattle.sym_exec.specs.declared.symbolic.Cell.TheVariants.{Fixed, Element}
+use Rattle.tc_code.specs.declared.cell.Cell.{Cell}
+use Rattle.tc_code.specs.declared.cell.Cell.TheVariants.{Fixed, Element}
 use Rattle.sym_exec.specs.declared.symbolic.Test.{Test}
 
 -- the values of the slots' terms
@@ -69,9 +70,7 @@ pub record Asked : Type 0 where
 abbrev pub asked_by : ℤ → Request → List Asked
 asked_by v (Read c) = record { cell = c; takes = Some v; writes = None } ∷ []
 asked_by v (Write c w) = record { cell = c; takes = None; writes = Some w } ∷ []
-asked_by v (Exchange c w) = record { cell = c; takes = Some v; writes = Some w } ∷ []
-asked_by v (CompareExchange c e w) =
-    record { cell = c; takes = Some v; writes = Some (replaced v e w) } ∷ []
+asked_by v (Exchange c u) = record { cell = c; takes = Some v; writes = Some (updated u v) } ∷ []
 asked_by v _ = []
 
 -- the accesses of a thread's next k steps, in order
@@ -82,7 +81,7 @@ asked_of code (suc k) a =
     (instr_of code a.local) [] ++ asked_of code k (goes_on code a)
 
 -- the cell of a symbolic access, and the whole access, with the values of its terms
-abbrev pub cell_by : List Node → List ℤ → Cell → ℕ
+abbrev pub cell_by : List Node → List ℤ → Cell ℕ → ℕ
 cell_by nodes loads (Fixed c) = c
 cell_by nodes loads (Element first len index) = cell_at first (value_of nodes loads index)
 

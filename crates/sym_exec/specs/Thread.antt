@@ -3,18 +3,21 @@ use Rattle.std.specs.Prelude.{ℕ, ◌<◌, ◌+◌, ◌-◌, ◌==◌, pos, Boo
 use Rattle.std.specs.Prelude.{List, [], ◌∷◌, ◌++◌, fold, slice_set, slice_index_or}
 use Rattle.std.specs.List.{All}
 use Rattle.std.specs.Option.{option_map_or}
+use Rattle.int_ops.specs.declared.arith.BinOp.TheVariants as operator
+use Rattle.int_ops.specs.declared.update.Update.{Update}
+use Rattle.int_ops.specs.declared.update.Update.TheVariants as update
 use Rattle.tc_code.specs.Code.{Code, instr_at, line_at}
 use Rattle.tc_code.specs.Expr.{Expr}
+use Rattle.tc_code.specs.declared.cell.Cell.{Cell}
+use Rattle.tc_code.specs.declared.cell.Cell.TheVariants.{Fixed, Element}
 use Rattle.tc_code.specs.declared.instr.Instr.{Instr}
-use Rattle.tc_code.specs.declared.instr.Instr.TheVariants.{Set, Load, LoadAt, Store, StoreAt, Inside, Branch, Create, Assert, Nonzero, InRange, Swap, Cas}
+use Rattle.tc_code.specs.declared.instr.Instr.TheVariants.{Set, Load, Store, Inside, Branch, Create, Assert, Nonzero, InRange, Modify}
 use Rattle.path_walk.specs.Paths.{Walk}
 use Rattle.sym_terms.specs.declared.node.Node.{Node}
-use Rattle.sym_terms.specs.declared.node.Node.TheVariants.{Constant, Symbol}
+use Rattle.sym_terms.specs.declared.node.Node.TheVariants.{Constant, Symbol, Binary}
 use Rattle.sym_exec.specs.Making.{Made, term_of_node, expr_term, expr_terms, range_test, last_index, replaced_term}
 use Rattle.sym_exec.specs.declared.symbolic.Test.{Test}
 use Rattle.sym_exec.specs.declared.symbolic.Access.{Access}
-use Rattle.sym_exec.specs.declared.symbolic.Cell.{Cell}
-use Rattle.sym_exec.specs.declared.symbolic.Cell.TheVariants.{Fixed, Element}
 
 -- a create: its step, and the terms of the arguments that it hands to the child
 pub record Handed : Type 0 where
@@ -85,7 +88,7 @@ with_test d line wanted x =
     }
 
 -- appends a store of a term to a cell
-abbrev pub with_store : Doing → Cell → Made → Doing
+abbrev pub with_store : Doing → Cell ℕ → Made → Doing
 with_store d cell x =
     record d {
       nodes = x.nodes;
@@ -98,7 +101,7 @@ abbrev pub symbol_in : Doing → Made
 symbol_in d = term_of_node d.nodes (Symbol d.loads)
 
 -- appends a load of a cell into a slot, and a store of `writes` to the same cell if it is given
-abbrev pub with_load : Doing → ℕ → Cell → ℕ → Option ℕ → Doing
+abbrev pub with_load : Doing → ℕ → Cell ℕ → ℕ → Option ℕ → Doing
 with_load d k cell symbol writes = record d {
   slots = slice_set d.slots k symbol;
   loads = d.loads + 1;
@@ -108,22 +111,52 @@ with_load d k cell symbol writes = record d {
 }
 
 -- loads a cell into a slot
-abbrev pub reading : Doing → ℕ → Cell → Doing
+abbrev pub reading : Doing → ℕ → Cell ℕ → Doing
 reading d k cell = let v = symbol_in d in with_load (with_term d v) k cell v.term None
 
--- exchanges a cell: loads it into a slot, and stores a term to it
-abbrev pub with_exchange : Doing → ℕ → Cell → Made → Doing
-with_exchange d k cell x =
-    let v = symbol_in (with_term d x) in with_load (with_term d v) k cell v.term (Some x.term)
+-- the execution with more nodes
+abbrev pub with_nodes : Doing → List Node → Doing
+with_nodes d nodes = record d { nodes = nodes }
 
--- compares and exchanges a cell: loads it into a slot, and stores `new` if it was `expected`
-abbrev pub with_compare_exchange : Doing → ℕ → Cell → Expr → Expr → Doing
-with_compare_exchange d k cell expected new =
-    let e = term_in d expected in
-    let f = term_in (with_term d e) new in
-    let v = symbol_in (with_term d f) in
-    let w = replaced_term v.nodes v.term e.term f.term in
+-- an update over terms
+pub record Updating : Type 0 where
+  pub update : Update ℕ
+  pub nodes : List Node
+
+-- the terms of an update's operands, in order
+abbrev pub update_terms : Doing → Update Expr → Updating
+update_terms d (update.Swap e) =
+    let x = term_in d e in record { update = update.Swap x.term; nodes = x.nodes }
+update_terms d (update.Cas e new) =
+    let x = term_in d e in
+    let y = term_in (with_term d x) new in
+    record { update = update.Cas x.term y.term; nodes = y.nodes }
+update_terms d (update.Add e) =
+    let x = term_in d e in record { update = update.Add x.term; nodes = x.nodes }
+
+-- the term that an update stores, given the term that it loads
+abbrev pub updated_term : List Node → Update ℕ → ℕ → Made
+updated_term nodes (update.Swap x) v = record { term = x; nodes = nodes }
+updated_term nodes (update.Cas x y) v = replaced_term nodes v x y
+updated_term nodes (update.Add x) v = term_of_node nodes (Binary operator.Add v x)
+
+-- updates a cell: loads it into a slot, and stores the updated term to it
+abbrev pub with_update : Doing → ℕ → Cell ℕ → Update Expr → Doing
+with_update d k cell u =
+    let x = update_terms d u in
+    let v = symbol_in (with_nodes d x.nodes) in
+    let w = updated_term v.nodes x.update v.term in
     with_load (with_term d w) k cell v.term (Some w.term)
+
+-- the cell that an instruction accesses, with the nodes of its index
+pub record Reached : Type 0 where
+  pub cell : Cell ℕ
+  pub nodes : List Node
+
+abbrev pub cell_of : Doing → Cell Expr → Reached
+cell_of d (Fixed c) = record { cell = Fixed c; nodes = d.nodes }
+cell_of d (Element first len i) =
+    let x = term_in d i in record { cell = Element first len x.term; nodes = x.nodes }
 
 -- appends a create that hands the terms of expressions to a child
 abbrev pub with_handed_terms : Doing → List Expr → Doing
@@ -135,12 +168,10 @@ with_handed_terms d es =
 -- the execution after an instruction at `line`, where `wanted` is the wanted outcome of a test
 abbrev pub after_instr : ℕ → Bool → Doing → Instr → Doing
 after_instr line wanted d (Set k e) = with_slot d k (term_in d e)
-after_instr line wanted d (Load k c) = reading d k (Fixed c)
-after_instr line wanted d (LoadAt k first len i) =
-    let x = term_in d i in reading (with_term d x) k (Element first len x.term)
-after_instr line wanted d (Store c e) = with_store d (Fixed c) (term_in d e)
-after_instr line wanted d (StoreAt first len i e) =
-    let x = term_in d i in with_store d (Element first len x.term) (term_in (with_term d x) e)
+after_instr line wanted d (Load k c) =
+    let x = cell_of d c in reading (with_nodes d x.nodes) k x.cell
+after_instr line wanted d (Store c e) =
+    let x = cell_of d c in with_store d x.cell (term_in (with_nodes d x.nodes) e)
 after_instr line wanted d (Inside len i) =
     with_test d line wanted (range_test (term_in d i) (last_index len))
 after_instr line wanted d (Branch e to) =
@@ -149,8 +180,8 @@ after_instr line wanted d (Create h f es) = with_handed_terms d es
 after_instr line wanted d (Assert e) = with_test d line wanted (term_in d e)
 after_instr line wanted d (Nonzero e) = with_test d line wanted (term_in d e)
 after_instr line wanted d (InRange e) = with_test d line wanted (range_test (term_in d e) (pos 31))
-after_instr line wanted d (Swap k c e) = with_exchange d k (Fixed c) (term_in d e)
-after_instr line wanted d (Cas k c e new) = with_compare_exchange d k (Fixed c) e new
+after_instr line wanted d (Modify k c u) =
+    let x = cell_of d c in with_update (with_nodes d x.nodes) k x.cell u
 after_instr line wanted d _ = d
 
 -- the wanted outcome: a branch's as the path has it; other tests pass, except in the failing step

@@ -10,7 +10,7 @@ ghost use Rattle.tc_base.specs.declared.moves.Move.{Move};
 ghost use Rattle.tc_code.specs.Code.{Code};
 ghost use Rattle.tc_code.specs.Lawful.{IsLawful};
 ghost use Rattle.tc_code.specs.Run.{run};
-ghost use Rattle.tc_code.specs.Step.{replaced};
+ghost use Rattle.int_ops.specs.Updates.{replaced};
 ghost use Rattle.run_laws.specs.Alone.{Alone};
 ghost use Rattle.run_laws.specs.Ints.{PassesInts};
 ghost use Rattle.path_walk.specs.Paths.{Paths};

@@ -1,13 +1,15 @@
 //! Terms of expressions and of tests.
 ghost use Rattle.std.specs.Prelude.{◌≡◌, ◌<◌, ◌≤◌, ◌^◌, ℤ, pos, [], length, IfOk, OnOk, IsTrue};
 ghost use Rattle.std.specs.List.{list_all};
+ghost use Rattle.int_ops.specs.Updates.{operands_of};
 ghost use Rattle.tc_code.specs.Expr.{names_slots};
 ghost use Rattle.sym_terms.specs.declared.node.Node.TheVariants.{Constant, Symbol, Unary, Binary};
 ghost use Rattle.sym_exec.specs.Thread.{AreOf};
 ghost use Rattle.sym_exec.specs.Making as spec;
+ghost use Rattle.sym_exec.specs.Thread as thread;
 ghost use Rattle.sym_exec.specs.Making.{Grows};
 
-use int_ops::{BinOp, UnOp};
+use int_ops::{BinOp, UnOp, Update};
 use std::alloc::{AllocError, Global};
 use sym_terms::{Id, Terms};
 use tc_code::{Expr, Node};
@@ -119,12 +121,7 @@ pub(crate) fn last_index(length: u32) -> i32
 
 /// A cell's value after a compare-and-exchange: the new value if the cell had the expected one, and
 /// its old value otherwise. Terms have no conditional, so the term uses bitwise operators.
-pub(crate) fn replaced_term(
-    terms: &mut Terms,
-    found: Id,
-    expected: Id,
-    new: Id,
-) -> Result<Id, AllocError>
+fn replaced_term(terms: &mut Terms, found: Id, expected: Id, new: Id) -> Result<Id, AllocError>
     requires found { found < length terms.old }
     requires expected { expected < length terms.old }
     requires new { new < length terms.old }
@@ -136,4 +133,22 @@ pub(crate) fn replaced_term(
     let mask = unary(terms, UnOp::Neg, same)?;
     let masked = binary(terms, BinOp::And, change, mask)?;
     binary(terms, BinOp::Xor, found, masked)
+}
+
+/// A cell's value after an update, given the terms of its operands and of the cell's old value.
+pub(crate) fn updated_term(
+    terms: &mut Terms,
+    update: Update<Id>,
+    found: Id,
+) -> Result<Id, AllocError>
+    requires found { found < length terms.old }
+    requires operands { AreOf terms.old (operands_of update) }
+    ensures term { IfOk result (λ term. record { term = term; nodes = terms.new } ≡ thread.updated_term terms.old update found) }
+    ensures grown { Grows terms.old terms.new }
+{
+    match update {
+        Update::Swap(value) => Ok(value),
+        Update::Cas(expected, new) => replaced_term(terms, found, expected, new),
+        Update::Add(value) => binary(terms, BinOp::Add, found, value),
+    }
 }

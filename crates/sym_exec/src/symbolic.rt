@@ -20,14 +20,8 @@ pub struct Test {
     pub wanted: bool,
 }
 
-/// A cell of memory.
-#[derive(Clone, Copy, Debug, PartialEq, Eq)]
-pub enum Cell {
-    /// The cell with this number.
-    Fixed(u32),
-    /// The element at an index, which is a term, of the array that begins at the cell `first`.
-    Element { first: u32, length: u32, index: Id },
-}
+/// A cell of memory, whose index is a term.
+pub type Cell = tc_code::Cell<Id>;
 
 /// An event that loads, stores or does both, with its step, its cell and its values.
 #[derive(Clone, Copy, Debug, PartialEq, Eq)]

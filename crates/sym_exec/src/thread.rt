@@ -1,25 +1,26 @@
 //! The execution of one thread.
 ghost use Rattle.std.specs.Prelude.{◌≡◌, ◌+◌, ◌<◌, ◌≤◌, ◌^◌, ◌-◌, ◌++◌, [], ℕ, List, length, replicate, OnOk, IfOk, IsTrue, option_map, None};
 ghost use Rattle.std.specs.List.{list_all};
+ghost use Rattle.int_ops.specs.Updates.{operands_of};
 ghost use Rattle.tc_code.specs.Expr.{names_slots};
 ghost use Rattle.tc_code.specs.Lawful.{IsLawful};
 ghost use Rattle.tc_code.specs.Step.{ints_of};
 ghost use Rattle.sym_terms.specs.declared.node.Node.{Node};
-ghost use Rattle.sym_exec.specs.helpers.Threads.{names_within, doing_of};
+ghost use Rattle.sym_exec.specs.helpers.Threads.{cell_named, names_within, doing_of};
 ghost use Rattle.sym_exec.specs.Thread.{AreOf, HasTerms};
 ghost use Rattle.sym_exec.specs.Making.{Grows};
 ghost use Rattle.sym_exec.specs.Thread as spec;
 ghost use Rattle.sym_exec.specs.Making.{range_test as range_of};
-ghost use Rattle.sym_exec.specs.declared.symbolic.Cell.TheVariants.{Element};
 
 use crate::making::{
-    constant, expr_term, expr_terms, last_index, range_test, replaced_term, symbol,
+    constant, expr_term, expr_terms, last_index, range_test, symbol, updated_term,
 };
-use crate::symbolic::{Access, Cell, Handed, Test};
+use crate::symbolic::{Access, Handed, Test};
+use int_ops::Update;
 use path_walk::Walk;
 use std::alloc::{AllocError, Global};
 use sym_terms::{Id, Terms};
-use tc_code::{Code, Expr, Exprs, Instr};
+use tc_code::{Cell, Code, Expr, Exprs, Instr};
 
 /// A thread's execution so far.
 #[derive(Drop)]
@@ -61,7 +62,7 @@ impl Thread {
     }
 
     /// Appends a store of a term to a cell.
-    fn store(&mut self, cell: Cell, term: Id) -> Result<(), AllocError>
+    fn store(&mut self, cell: Cell<Id>, term: Id) -> Result<(), AllocError>
         ensures { (nodes : List Node) → OnOk result (doing_of self.new nodes ≡ spec.with_store (doing_of self.old nodes) cell (record { term = term; nodes = nodes })) }
     {
         let step = self.steps;
@@ -78,7 +79,7 @@ impl Thread {
     fn load(
         &mut self,
         slot: u32,
-        cell: Cell,
+        cell: Cell<Id>,
         symbol: Id,
         writes: Option<Id>,
     ) -> Result<(), AllocError>
@@ -98,7 +99,7 @@ impl Thread {
     }
 
     /// Loads a cell into a slot.
-    fn read(&mut self, terms: &mut Terms, slot: u32, cell: Cell) -> Result<(), AllocError>
+    fn read(&mut self, terms: &mut Terms, slot: u32, cell: Cell<Id>) -> Result<(), AllocError>
         requires { slot < length self.old.slots.items }
         ensures read { OnOk result (doing_of self.new terms.new ≡ spec.reading (doing_of self.old terms.old) slot cell) }
         ensures grown { Grows terms.old terms.new }
@@ -171,7 +172,7 @@ impl Thread {
     }
 
     /// Appends a store of an expression to a cell.
-    fn store_value(&mut self, terms: &mut Terms, cell: Cell, e: &Expr) -> Result<(), AllocError>
+    fn store_value(&mut self, terms: &mut Terms, cell: Cell<Id>, e: &Expr) -> Result<(), AllocError>
         requires slots { AreOf terms.old self.old.slots.items }
         requires names { IsTrue (names_slots (length self.old.slots.items) e.now) }
         ensures stored { OnOk result (doing_of self.new terms.new
@@ -182,63 +183,72 @@ impl Thread {
         self.store(cell, term)
     }
 
-    /// The cell at an index of an array, where the index is an expression.
-    fn element(
+    /// The cell that an instruction accesses.
+    fn cell_of(&self, terms: &mut Terms, cell: &Cell<Expr>) -> Result<Cell<Id>, AllocError>
+        requires slots { AreOf terms.old self.now.slots.items }
+        requires names { IsTrue (cell_named (length self.now.slots.items) cell.now) }
+        ensures cell { IfOk result (λ reached. reached ≡ (spec.cell_of (doing_of self.now terms.old) cell.now).cell) }
+        ensures nodes { OnOk result (terms.new ≡ (spec.cell_of (doing_of self.now terms.old) cell.now).nodes) }
+        ensures grown { Grows terms.old terms.new }
+    {
+        match cell {
+            Cell::Fixed(cell) => Ok(Cell::Fixed(*cell)),
+            Cell::Element {
+                first,
+                length,
+                index,
+            } => {
+                let index = self.term(terms, index)?;
+                Ok(Cell::Element {
+                    first: *first,
+                    length: *length,
+                    index,
+                })
+            }
+        }
+    }
+
+    /// The terms of an update's operands.
+    fn update_terms(
         &self,
         terms: &mut Terms,
-        first: u32,
-        len: u32,
-        index: &Expr,
-    ) -> Result<Cell, AllocError>
+        update: &Update<Expr>,
+    ) -> Result<Update<Id>, AllocError>
         requires slots { AreOf terms.old self.now.slots.items }
-        requires names { IsTrue (names_slots (length self.now.slots.items) index.now) }
-        ensures cell { IfOk result (λ cell. cell ≡ Element first len (spec.term_in (doing_of self.now terms.old) index.now).term) }
-        ensures nodes { OnOk result (terms.new ≡ (spec.term_in (doing_of self.now terms.old) index.now).nodes) }
+        requires names { IsTrue (list_all (names_slots (length self.now.slots.items)) (operands_of update.now)) }
+        ensures update { IfOk result (λ made. record { update = made; nodes = terms.new } ≡ spec.update_terms (doing_of self.now terms.old) update.now) }
+        ensures within { IfOk result (λ made. AreOf terms.new (operands_of made)) }
         ensures grown { Grows terms.old terms.new }
     {
-        let index = self.term(terms, index)?;
-        Ok(Cell::Element {
-            first,
-            length: len,
-            index,
-        })
+        match update {
+            Update::Swap(e) => Ok(Update::Swap(self.term(terms, e)?)),
+            Update::Cas(expected, new) => {
+                let expected = self.term(terms, expected)?;
+                let new = self.term(terms, new)?;
+                Ok(Update::Cas(expected, new))
+            }
+            Update::Add(e) => Ok(Update::Add(self.term(terms, e)?)),
+        }
     }
 
-    /// Exchanges a cell: loads it into a slot, and stores an expression.
-    fn swap(&mut self, terms: &mut Terms, slot: u32, cell: Cell, e: &Expr) -> Result<(), AllocError>
-        requires slot { slot < length self.old.slots.items }
-        requires slots { AreOf terms.old self.old.slots.items }
-        requires names { IsTrue (names_slots (length self.old.slots.items) e.now) }
-        ensures swapped { OnOk result (doing_of self.new terms.new
-            ≡ spec.with_exchange (doing_of self.old terms.old) slot cell (spec.term_in (doing_of self.old terms.old) e.now)) }
-        ensures grown { Grows terms.old terms.new }
-    {
-        let term = self.term(terms, e)?;
-        let symbol = symbol(terms, self.loads)?;
-        self.load(slot, cell, symbol, Some(term))
-    }
-
-    /// Compares and exchanges a cell: loads it into a slot, and stores `new` if it was `expected`.
-    fn replace(
+    /// Updates a cell: loads it into a slot, and stores the updated term to it.
+    fn update(
         &mut self,
         terms: &mut Terms,
         slot: u32,
-        cell: Cell,
-        expected: &Expr,
-        new: &Expr,
+        cell: Cell<Id>,
+        update: &Update<Expr>,
     ) -> Result<(), AllocError>
         requires slot { slot < length self.old.slots.items }
         requires slots { AreOf terms.old self.old.slots.items }
-        requires expected { IsTrue (names_slots (length self.old.slots.items) expected.now) }
-        requires new { IsTrue (names_slots (length self.old.slots.items) new.now) }
-        ensures replaced { OnOk result (doing_of self.new terms.new
-            ≡ spec.with_compare_exchange (doing_of self.old terms.old) slot cell expected.now new.now) }
+        requires names { IsTrue (list_all (names_slots (length self.old.slots.items)) (operands_of update.now)) }
+        ensures updated { OnOk result (doing_of self.new terms.new
+            ≡ spec.with_update (doing_of self.old terms.old) slot cell update.now) }
         ensures grown { Grows terms.old terms.new }
     {
-        let expected = self.term(terms, expected)?;
-        let new = self.term(terms, new)?;
+        let update = self.update_terms(terms, update)?;
         let symbol = symbol(terms, self.loads)?;
-        let written = replaced_term(terms, symbol, expected, new)?;
+        let written = updated_term(terms, update, symbol)?;
         self.load(slot, cell, symbol, Some(written))
     }
 
@@ -276,24 +286,12 @@ impl Thread {
     {
         match instr {
             Instr::Set { slot, value } => self.set_value(terms, *slot, value),
-            Instr::Load { slot, cell } => self.read(terms, *slot, Cell::Fixed(*cell)),
-            Instr::LoadAt {
-                slot,
-                first,
-                length,
-                index,
-            } => {
-                let cell = self.element(terms, *first, *length, index)?;
+            Instr::Load { slot, cell } => {
+                let cell = self.cell_of(terms, cell)?;
                 self.read(terms, *slot, cell)
             }
-            Instr::Store { cell, value } => self.store_value(terms, Cell::Fixed(*cell), value),
-            Instr::StoreAt {
-                first,
-                length,
-                index,
-                value,
-            } => {
-                let cell = self.element(terms, *first, *length, index)?;
+            Instr::Store { cell, value } => {
+                let cell = self.cell_of(terms, cell)?;
                 self.store_value(terms, cell, value)
             }
             Instr::Inside { length, index } => {
@@ -307,15 +305,10 @@ impl Thread {
             Instr::Assert(e) => self.test_value(terms, line, wanted, e),
             Instr::Nonzero(e) => self.test_value(terms, line, wanted, e),
             Instr::InRange(e) => self.test_range(terms, line, wanted, e, 31),
-            Instr::Swap { slot, cell, value } => {
-                self.swap(terms, *slot, Cell::Fixed(*cell), value)
+            Instr::Modify { slot, cell, update } => {
+                let cell = self.cell_of(terms, cell)?;
+                self.update(terms, *slot, cell, update)
             }
-            Instr::Cas {
-                slot,
-                cell,
-                expected,
-                value,
-            } => self.replace(terms, *slot, Cell::Fixed(*cell), expected, value),
             _ => Ok(()),
         }
     }

@@ -6,7 +6,7 @@ use Rattle.std.specs.List.{AllByRecursion as Each, filter_map, cons_option}
 use Rattle.sym_exec.specs.tc_base.States.{Local}
 use Rattle.sym_exec.specs.tc_code.Code.{Code, instr_at, line_at}
 use Rattle.sym_exec.specs.tc_code.declared.instr.Instr.{Instr}
-use Rattle.sym_exec.specs.tc_code.declared.instr.Instr.TheVariants.{Load, LoadAt, Store, StoreAt, Inside, Branch, Create, Assert, Nonzero, InRange, Swap, Cas}
+use Rattle.sym_exec.specs.tc_code.declared.instr.Instr.TheVariants.{Load, Store, Inside, Branch, Create, Assert, Nonzero, InRange, Modify}
 use Rattle.sym_exec.specs.tc_code.Lawful.{IsLawful}
 use Rattle.sym_exec.specs.tc_code.Step.{ints_of}
 use Rattle.sym_exec.specs.sym_terms.Terms.{AreTerms}
@@ -14,7 +14,7 @@ use Rattle.sym_exec.specs.Making.{Grows}
 use Rattle.sym_exec.specs.Thread.{Handed, Doing, HasTerms, after_instr, wanted_of, after_step, after_all, Route}
 use Rattle.sym_exec.specs.Alone.{slots_by}
 use Rattle.sym_exec.specs.declared.symbolic.Access.{Access}
-use Rattle.sym_exec.specs.declared.symbolic.Cell.{Cell}
+use Rattle.sym_exec.specs.tc_code.declared.cell.Cell.{Cell}
 use Rattle.sym_exec.specs.declared.symbolic.Test.{Test}
 use Rattle.sym_exec.proofs.Grown.{grows_none, grows_both}
 use Rattle.sym_exec.proofs.Sound.{instr_named, step_goes, stepped_by}
@@ -63,7 +63,7 @@ test_added i wanted d e line term none tests accesses creates = record {
   creates = creates ∙ sym (append-nil d.creates);
 }
 
-access_added : (i : Instr) (wanted : Bool) (d e : Doing) (cell : Cell) (takes writes : Option ℕ) → cons_option takes [] ≡ cond (is_load i) (d.loads ∷ []) []
+access_added : (i : Instr) (wanted : Bool) (d e : Doing) (cell : Cell ℕ) (takes writes : Option ℕ) → cons_option takes [] ≡ cond (is_load i) (d.loads ∷ []) []
     → e.accesses ≡ d.accesses ++ record { step = d.steps; cell = cell; takes = takes; writes = writes } ∷ [] → e.tests ≡ d.tests → e.creates ≡ d.creates
     → Adds i wanted d e
 access_added i wanted d e cell takes writes taken accesses tests creates = record {
@@ -80,13 +80,8 @@ access_added i wanted d e cell takes writes taken accesses tests creates = recor
 
 pub adds : (line : ℕ) (wanted : Bool) (d : Doing) (i : Instr) → Adds i wanted d (after_instr line wanted d i)
 adds line wanted d (Load k c) = access_added (Load k c) wanted d (after_instr line wanted d (Load k c)) _ _ _ refl refl refl refl
-adds line wanted d (LoadAt k first len i) =
-    access_added (LoadAt k first len i) wanted d (after_instr line wanted d (LoadAt k first len i)) _ _ _ refl refl refl refl
 adds line wanted d (Store c e) = access_added (Store c e) wanted d (after_instr line wanted d (Store c e)) _ _ _ refl refl refl refl
-adds line wanted d (StoreAt first len i e) =
-    access_added (StoreAt first len i e) wanted d (after_instr line wanted d (StoreAt first len i e)) _ _ _ refl refl refl refl
-adds line wanted d (Swap k c e) = access_added (Swap k c e) wanted d (after_instr line wanted d (Swap k c e)) _ _ _ refl refl refl refl
-adds line wanted d (Cas k c e new) = access_added (Cas k c e new) wanted d (after_instr line wanted d (Cas k c e new)) _ _ _ refl refl refl refl
+adds line wanted d (Modify k c u) = access_added (Modify k c u) wanted d (after_instr line wanted d (Modify k c u)) _ _ _ refl refl refl refl
 adds line wanted d (Inside len i) = test_added (Inside len i) wanted d (after_instr line wanted d (Inside len i)) _ _ refl refl refl refl
 adds line wanted d (Branch e to) = test_added (Branch e to) wanted d (after_instr line wanted d (Branch e to)) _ _ refl refl refl refl
 adds line wanted d (Assert e) = test_added (Assert e) wanted d (after_instr line wanted d (Assert e)) _ _ refl refl refl refl

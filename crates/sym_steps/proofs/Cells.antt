@@ -1,26 +1,27 @@
 -- The cells of an instruction's request are those of its accesses, whatever value it takes.
 use Rattle.std.proofs.Common.{◌≡◌, ◌∙◌, ℕ, ℤ, List, [], ◌∷◌, ◌++◌, map, length, Bool, true, false, Option, refl, ap, sym, append-nil}
-use Rattle.std.specs.Prelude.{nat_lt}
+use Rattle.std.specs.Prelude.{◌&&◌, nat_lt}
 use Rattle.std.specs.Bool.{IsTrue}
+use Rattle.std.specs.List.{list_all}
 use Rattle.std.proofs.lemmas.Bool.{and_parts}
 use Rattle.order_events.specs.tc_base.States.{Local}
-use Rattle.order_events.specs.tc_code.Expr.{Expr, names_slots, value_of as expr_value_of}
+use Rattle.order_events.specs.int_ops.Updates.{operands_of}
+use Rattle.order_events.specs.tc_code.Expr.{Expr, names_slots}
+use Rattle.order_events.specs.tc_code.declared.cell.Cell.{Cell}
 use Rattle.order_events.specs.tc_code.declared.instr.Instr.{Instr}
-use Rattle.order_events.specs.tc_code.declared.instr.Instr.TheVariants.{Load, LoadAt, Store, StoreAt, Inside, Holds, Ready, Assert, Nonzero, InRange, Swap, Cas}
-use Rattle.order_events.specs.tc_code.Step.{value_in, cell_at, site, request}
+use Rattle.order_events.specs.tc_code.declared.instr.Instr.TheVariants.{Load, Store, Inside, Holds, Ready, Assert, Nonzero, InRange, Modify}
+use Rattle.order_events.specs.tc_code.Step.{cell_in, site, request}
 use Rattle.order_events.specs.sym_terms.Terms.{AreTerms}
-use Rattle.order_events.specs.sym_terms.Values.{value_of}
 use Rattle.order_events.specs.sym_terms.declared.node.Node.{Node}
 use Rattle.order_events.specs.sym_terms.declared.node.Node.TheVariants.{Symbol}
-use Rattle.sym_laws.specs.sym_exec.Making.{Made, Grows}
-use Rattle.sym_laws.specs.sym_exec.Thread.{Doing, HasTerms, term_in, after_instr}
-use Rattle.sym_laws.specs.sym_exec.helpers.Threads.{names_within}
+use Rattle.sym_laws.specs.sym_exec.Making.{Grows}
+use Rattle.sym_laws.specs.sym_exec.Thread.{Doing, HasTerms, with_nodes, cell_of, after_instr}
+use Rattle.sym_laws.specs.sym_exec.helpers.Threads.{cell_named, names_within}
 use Rattle.sym_laws.specs.sym_exec.Alone.{slots_by, Asked, asked_by, cell_by}
 use Rattle.sym_laws.specs.sym_exec.declared.symbolic.Access.{Access}
-use Rattle.sym_laws.specs.sym_exec.declared.symbolic.Cell.{Cell}
-use Rattle.sym_laws.specs.sym_exec.declared.symbolic.Cell.TheVariants.{Fixed, Element}
 use Rattle.sym_laws.proofs.sym_exec.Grown.{grows_both, grows_made, expr_grows}
-use Rattle.sym_laws.proofs.sym_exec.Values.{HasValue, value_stays, expr_value}
+use Rattle.sym_laws.proofs.sym_exec.Sound.{cell_goes, updating_goes}
+use Rattle.sym_laws.proofs.sym_exec.Tells.{Reaches, reaches}
 
 -- the cells of what is asked, and those of accesses
 abbrev pub asked_cells : ℤ → Local → Instr → List ℕ
@@ -35,7 +36,7 @@ pub record HasCells (loads : List ℤ) (d e : Doing) (t : Local) (i : Instr) : T
   pub accesses : e.accesses ≡ d.accesses ++ found
   pub cells : (later : List Node) → Grows e.nodes later → (took : ℤ) → asked_cells took t i ≡ cells_of later loads found
 
-one_cell : (loads : List ℤ) (d e : Doing) (t : Local) (i : Instr) (cell : Cell) (takes writes : Option ℕ)
+one_cell : (loads : List ℤ) (d e : Doing) (t : Local) (i : Instr) (cell : Cell ℕ) (takes writes : Option ℕ)
     → e.accesses ≡ d.accesses ++ record { step = d.steps; cell = cell; takes = takes; writes = writes } ∷ []
     → ((later : List Node) → Grows e.nodes later → (took : ℤ) → asked_cells took t i ≡ cell_by later loads cell ∷ []) → HasCells loads d e t i
 one_cell loads d e t i cell takes writes accesses cells =
@@ -48,37 +49,31 @@ site_cells : (took : ℤ) (b : Bool) → map (λ (a : Asked). a.cell) (asked_by 
 site_cells took true = refl
 site_cells took false = refl
 
--- the value of an expression's term, in all later nodes
-in_later : (loads : List ℤ) (x : Made) (e : Expr) (t : Local) (d : Doing) (later : List Node) → HasValue loads x (expr_value_of e (slots_by loads d))
-    → t.slots ≡ slots_by loads d → Grows x.nodes later → value_of later loads x.term ≡ value_in t e
-in_later loads x e t d later h is g = value_stays x.nodes later loads x.term g h.within ∙ h.value ∙ ap (expr_value_of e) (sym is)
+-- an instruction that accesses a cell: its index has a term first
+reached_cell : (loads : List ℤ) (d e : Doing) (c : Cell Expr) (t : Local) (i : Instr) (takes writes : Option ℕ) → Reaches loads d c t
+    → e.accesses ≡ d.accesses ++ record { step = d.steps; cell = (cell_of d c).cell; takes = takes; writes = writes } ∷ []
+    → Grows (cell_of d c).nodes e.nodes → ((took : ℤ) → asked_cells took t i ≡ cell_in t c ∷ []) → HasCells loads d e t i
+reached_cell loads d e c t i takes writes r accesses up asked =
+    one_cell loads d e t i (cell_of d c).cell takes writes accesses (λ later g took.
+    asked took ∙ ap (λ n. n ∷ []) (sym (r.cell_is later (grows_both (cell_of d c).nodes e.nodes later up g))))
 
 pub has_cells : (loads : List ℤ) (line : ℕ) (wanted : Bool) (d : Doing) (i : Instr) (t : Local) → AreTerms d.nodes → HasTerms d
     → IsTrue (names_within (length d.slots) i) → t.slots ≡ slots_by loads d → HasCells loads d (after_instr line wanted d i) t i
 has_cells loads line wanted d (Load k c) t are s named is =
-    one_cell loads d (after_instr line wanted d (Load k c)) t (Load k c) (Fixed c) _ _ refl (λ later g took. refl)
-has_cells loads line wanted d (LoadAt k first len i) t are s named is =
-    let both = and_parts (nat_lt k (length d.slots)) (names_slots (length d.slots) i) named in
-    let x = term_in d i in
-    let h = expr_value d.nodes d.slots i loads are s.slots both.1 in
-    let e = after_instr line wanted d (LoadAt k first len i) in
-    let up : Grows x.nodes e.nodes = grows_made x.nodes (Symbol d.loads) in
-    one_cell loads d e t (LoadAt k first len i) (Element first len x.term) _ _ refl (λ later g took.
-    ap (λ v. cell_at first v ∷ []) (sym (in_later loads x i t d later h is (grows_both x.nodes e.nodes later up g))))
-has_cells loads line wanted d (Store c e) t are s named is =
-    one_cell loads d (after_instr line wanted d (Store c e)) t (Store c e) (Fixed c) _ _ refl (λ later g took. refl)
-has_cells loads line wanted d (StoreAt first len i v) t are s named is =
-    let both = and_parts (names_slots (length d.slots) i) (names_slots (length d.slots) v) named in
-    let x = term_in d i in
-    let h = expr_value d.nodes d.slots i loads are s.slots both.0 in
-    let e = after_instr line wanted d (StoreAt first len i v) in
-    let up : Grows x.nodes e.nodes = expr_grows x.nodes d.slots v in
-    one_cell loads d e t (StoreAt first len i v) (Element first len x.term) _ _ refl (λ later g took.
-    ap (λ w. cell_at first w ∷ []) (sym (in_later loads x i t d later h is (grows_both x.nodes e.nodes later up g))))
-has_cells loads line wanted d (Swap k c e) t are s named is =
-    one_cell loads d (after_instr line wanted d (Swap k c e)) t (Swap k c e) (Fixed c) _ _ refl (λ later g took. refl)
-has_cells loads line wanted d (Cas k c e new) t are s named is =
-    one_cell loads d (after_instr line wanted d (Cas k c e new)) t (Cas k c e new) (Fixed c) _ _ refl (λ later g took. refl)
+    let named = and_parts (nat_lt k (length d.slots)) (cell_named (length d.slots) c) named in
+    let e = after_instr line wanted d (Load k c) in
+    reached_cell loads d e c t (Load k c) _ _ (reaches loads d c t are s named.1 is) refl (grows_made (cell_of d c).nodes (Symbol d.loads)) (λ took. refl)
+has_cells loads line wanted d (Store c v) t are s named is =
+    let named = and_parts (cell_named (length d.slots) c) (names_slots (length d.slots) v) named in
+    let e = after_instr line wanted d (Store c v) in
+    reached_cell loads d e c t (Store c v) _ _ (reaches loads d c t are s named.0 is) refl (expr_grows (cell_of d c).nodes d.slots v) (λ took. refl)
+has_cells loads line wanted d (Modify k c u) t are s named is =
+    let named = and_parts (nat_lt k (length d.slots) && cell_named (length d.slots) c) (list_all (names_slots (length d.slots)) (operands_of u)) named in
+    let cell = (and_parts (nat_lt k (length d.slots)) (cell_named (length d.slots) c) named.0).1 in
+    let x = cell_of d c in
+    let e = after_instr line wanted d (Modify k c u) in
+    reached_cell loads d e c t (Modify k c u) _ _ (reaches loads d c t are s cell is) refl
+    (updating_goes (with_nodes d x.nodes) k x.cell u (cell_goes d c s).sound).grows (λ took. refl)
 has_cells loads line wanted d (Inside len i) t are s named is =
     no_cell loads d (after_instr line wanted d (Inside len i)) t (Inside len i) refl (λ took. site_cells took _)
 has_cells loads line wanted d (Holds m) t are s named is =

@@ -1,5 +1,7 @@
 //! Requests of instructions.
 
+use int_ops::Update;
+
 /// What an instruction asks of the memory and of the other threads: at most one thing.
 #[derive(Clone, Copy, Debug, PartialEq, Eq)]
 pub enum Request {
@@ -9,10 +11,8 @@ pub enum Request {
     Read(u32),
     /// Store a value to a cell.
     Write(u32, i32),
-    /// Load a cell and store a value to it, in one step.
-    Exchange(u32, i32),
-    /// Load a cell and, if it has the first value, store the second to it, in one step.
-    CompareExchange(u32, i32, i32),
+    /// Load a cell and store the updated value to it, in one step.
+    Exchange(u32, Update<i32>),
     /// Make the thread's later stores reach memory after its earlier ones.
     Bar,
     /// Acquire a mutex.

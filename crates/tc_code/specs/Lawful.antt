@@ -1,14 +1,17 @@
 -- Lawful code: the rules that it obeys.
-use Rattle.std.specs.Prelude.{◌≡◌, ℕ, zero, suc, ◌+◌, ◌-◌, ◌<◌, ◌≤◌, List, [], ◌∷◌, length, nat_lt, nat_le, ◌==◌}
+use Rattle.std.specs.Prelude.{◌≡◌, ℕ, zero, suc, ◌+◌, ◌-◌, ◌<◌, ◌≤◌, List, [], ◌∷◌, ◌++◌, length, nat_lt, nat_le, ◌==◌}
 use Rattle.std.specs.Prelude.{Bool, true, false, not, ◌&&◌, ◌||◌, pos, IsTrue, Option, Some, None, slice_get}
 use Rattle.std.specs.List.{All, list_all, list_any}
 use Rattle.std.specs.Option.{option_map_or}
 use Rattle.int_ops.specs.Arith.{IsInt}
+use Rattle.int_ops.specs.Updates.{operands_of}
 use Rattle.tc_limits.specs.declared.limits.TheConstants.{CELLS}
 use Rattle.tc_code.specs.Expr.{Expr, HasInts, names_slots, names_slot}
+use Rattle.tc_code.specs.declared.cell.Cell.{Cell}
+use Rattle.tc_code.specs.declared.cell.Cell.TheVariants.{Fixed, Element}
 use Rattle.tc_code.specs.declared.instr.Instr.{Instr}
-use Rattle.tc_code.specs.declared.instr.Instr.TheVariants.{Set, Load, LoadAt, Store, StoreAt, Inside, Branch, Goto, Holds, Lock, Unlock, Sleep, Wake}
-use Rattle.tc_code.specs.declared.instr.Instr.TheVariants.{Signal, Broadcast, Create, Ready, Join, Assert, Nonzero, InRange, Swap, Cas, Fence, Stbar, Exit}
+use Rattle.tc_code.specs.declared.instr.Instr.TheVariants.{Set, Load, Store, Inside, Branch, Goto, Holds, Lock, Unlock, Sleep, Wake}
+use Rattle.tc_code.specs.declared.instr.Instr.TheVariants.{Signal, Broadcast, Create, Ready, Join, Assert, Nonzero, InRange, Modify, Fence, Stbar, Exit}
 use Rattle.tc_code.specs.Code.{Code}
 use Rattle.tc_code.specs.declared.code.Func.{Func}
 
@@ -16,15 +19,16 @@ use Rattle.tc_code.specs.declared.code.Func.{Func}
 abbrev pub takes : Code → ℕ → ℕ → Bool
 takes code f n = option_map_or (λ g. g.params == n) (slice_get code.functions f) false
 
+-- whether a cell exists, or an array and the slots of an index
+abbrev pub has_cell : Code → Func → Cell Expr → Bool
+has_cell code f (Fixed c) = nat_lt c (length code.memory)
+has_cell code f (Element a len i) = nat_le (a + len) (length code.memory) && names_slots f.ints i
+
 -- whether everything that an instruction names exists, except the target of a jump
 abbrev pub names_what_is : Code → Func → Instr → Bool
 names_what_is code f (Set k e) = nat_lt k f.ints && names_slots f.ints e
-names_what_is code f (Load k c) = nat_lt k f.ints && nat_lt c (length code.memory)
-names_what_is code f (LoadAt k a len i) =
-    nat_lt k f.ints && nat_le (a + len) (length code.memory) && names_slots f.ints i
-names_what_is code f (Store c e) = nat_lt c (length code.memory) && names_slots f.ints e
-names_what_is code f (StoreAt a len i e) =
-    nat_le (a + len) (length code.memory) && names_slots f.ints i && names_slots f.ints e
+names_what_is code f (Load k c) = nat_lt k f.ints && has_cell code f c
+names_what_is code f (Store c e) = has_cell code f c && names_slots f.ints e
 names_what_is code f (Inside len i) = nat_le len (length code.memory) && names_slots f.ints i
 names_what_is code f (Branch e to) = names_slots f.ints e
 names_what_is code f (Goto to) = true
@@ -42,11 +46,8 @@ names_what_is code f (Join h) = nat_lt h f.handles
 names_what_is code f (Assert e) = names_slots f.ints e
 names_what_is code f (Nonzero e) = names_slots f.ints e
 names_what_is code f (InRange e) = names_slots f.ints e
-names_what_is code f (Swap k c e) =
-    nat_lt k f.ints && nat_lt c (length code.memory) && names_slots f.ints e
-names_what_is code f (Cas k c e new) =
-    nat_lt k f.ints && nat_lt c (length code.memory) && names_slots f.ints e
-    && names_slots f.ints new
+names_what_is code f (Modify k c u) =
+    nat_lt k f.ints && has_cell code f c && list_all (names_slots f.ints) (operands_of u)
 names_what_is code f Fence = true
 names_what_is code f Stbar = true
 names_what_is code f Exit = true
@@ -64,23 +65,32 @@ is_outside c a = nat_lt c a.first || nat_le (a.first + a.length) c
 abbrev pub is_array : List Array → (first length : ℕ) → Bool
 is_array arrays first n = list_any (λ a. a.first == first && a.length == n) arrays
 
--- whether each cell that an instruction names is in no array, and each array is one of these
+-- the cell that an instruction accesses, if it accesses one
+abbrev pub accessed : Instr → Option (Cell Expr)
+accessed (Load k c) = Some c
+accessed (Store c e) = Some c
+accessed (Modify k c u) = Some c
+accessed _ = None
+
+-- whether a single cell is in no array, and the array of an element is one of these
+abbrev pub is_apart : List Array → Cell Expr → Bool
+is_apart arrays (Fixed c) = list_all (is_outside c) arrays
+is_apart arrays (Element a len i) = is_array arrays a len
+
+-- whether the cell that an instruction accesses, if any, is apart
 abbrev pub keeps_apart : List Array → Instr → Bool
-keeps_apart arrays (Load k c) = list_all (is_outside c) arrays
-keeps_apart arrays (LoadAt k a len i) = is_array arrays a len
-keeps_apart arrays (Store c e) = list_all (is_outside c) arrays
-keeps_apart arrays (StoreAt a len i e) = is_array arrays a len
-keeps_apart arrays (Swap k c e) = list_all (is_outside c) arrays
-keeps_apart arrays (Cas k c e new) = list_all (is_outside c) arrays
-keeps_apart arrays _ = true
+keeps_apart arrays i = option_map_or (is_apart arrays) (accessed i) true
+
+-- the index of an element
+abbrev pub index_of : Cell Expr → List Expr
+index_of (Fixed c) = []
+index_of (Element a len i) = i ∷ []
 
 -- the expressions of an instruction
 abbrev pub exprs_of : Instr → List Expr
 exprs_of (Set k e) = e ∷ []
-exprs_of (Load k c) = []
-exprs_of (LoadAt k a len i) = i ∷ []
-exprs_of (Store c e) = e ∷ []
-exprs_of (StoreAt a len i e) = i ∷ e ∷ []
+exprs_of (Load k c) = index_of c
+exprs_of (Store c e) = index_of c ++ e ∷ []
 exprs_of (Inside len i) = i ∷ []
 exprs_of (Branch e to) = e ∷ []
 exprs_of (Goto to) = []
@@ -97,8 +107,7 @@ exprs_of (Join h) = []
 exprs_of (Assert e) = e ∷ []
 exprs_of (Nonzero e) = e ∷ []
 exprs_of (InRange e) = e ∷ []
-exprs_of (Swap k c e) = e ∷ []
-exprs_of (Cas k c e new) = e ∷ new ∷ []
+exprs_of (Modify k c u) = index_of c ++ operands_of u
 exprs_of Fence = []
 exprs_of Stbar = []
 exprs_of Exit = []
@@ -115,9 +124,7 @@ is_bound _ = false
 abbrev pub written : Instr → Option ℕ
 written (Set k e) = Some k
 written (Load k c) = Some k
-written (LoadAt k a len i) = Some k
 written (Store c e) = None
-written (StoreAt a len i e) = None
 written (Inside len i) = None
 written (Branch e to) = None
 written (Goto to) = None
@@ -134,8 +141,7 @@ written (Join h) = None
 written (Assert e) = None
 written (Nonzero e) = None
 written (InRange e) = None
-written (Swap k c e) = Some k
-written (Cas k c e new) = Some k
+written (Modify k c u) = Some k
 written Fence = None
 written Stbar = None
 written Exit = None
@@ -200,10 +206,8 @@ pub record IsLawfulFunction (code : Code) (f : Func) : Type 0 where
   -- a join directly follows the test that the child can be joined
   pub join : (k h : ℕ) → slice_get f.instrs k ≡ Some (Join h) → StandsBefore f.instrs k (Ready h)
   -- the index of every array access is guarded by a test
-  pub load : (k slot first len : ℕ) (index : Expr)
-      → slice_get f.instrs k ≡ Some (LoadAt slot first len index) → IsGuarded f.instrs len index k
-  pub store : (k first len : ℕ) (index value : Expr)
-      → slice_get f.instrs k ≡ Some (StoreAt first len index value) → IsGuarded f.instrs len index k
+  pub access : (k first len : ℕ) (i : Instr) (index : Expr) → slice_get f.instrs k ≡ Some i
+      → accessed i ≡ Some (Element first len index) → IsGuarded f.instrs len index k
   -- the last instruction is an exit, and no other is
   pub last : slice_get f.instrs (length f.instrs - 1) ≡ Some Exit
   pub only : (k : ℕ) → slice_get f.instrs k ≡ Some Exit → k + 1 ≡ length f.instrs

@@ -6,10 +6,15 @@ use Rattle.int_ops.specs.declared.arith.UnOp.{UnOp}
 use Rattle.int_ops.specs.declared.arith.UnOp.TheVariants as unary
 use Rattle.int_ops.specs.declared.arith.BinOp.{BinOp}
 use Rattle.int_ops.specs.declared.arith.BinOp.TheVariants as binary
+use Rattle.int_ops.specs.Updates.{operands_of}
+use Rattle.int_ops.specs.declared.update.Update.{Update}
+use Rattle.int_ops.specs.declared.update.Update.TheVariants as update
 use Rattle.tc_code.specs.Expr.{Expr, Number, Slot, Unary, Binary}
+use Rattle.tc_code.specs.declared.cell.Cell.{Cell}
+use Rattle.tc_code.specs.declared.cell.Cell.TheVariants.{Fixed, Element}
 use Rattle.tc_code.specs.declared.instr.Instr.{Instr}
-use Rattle.tc_code.specs.declared.instr.Instr.TheVariants.{Set, Load, LoadAt, Store, StoreAt, Inside, Branch, Goto, Holds, Lock, Unlock, Sleep, Wake}
-use Rattle.tc_code.specs.declared.instr.Instr.TheVariants.{Signal, Broadcast, Create, Ready, Join, Assert, Nonzero, InRange, Swap, Cas, Fence, Stbar, Exit}
+use Rattle.tc_code.specs.declared.instr.Instr.TheVariants.{Set, Load, Store, Inside, Branch, Goto, Holds, Lock, Unlock, Sleep, Wake}
+use Rattle.tc_code.specs.declared.instr.Instr.TheVariants.{Signal, Broadcast, Create, Ready, Join, Assert, Nonzero, InRange, Modify, Fence, Stbar, Exit}
 use Rattle.tc_code.specs.Code.{Code}
 use Rattle.tc_code.specs.declared.code.Func.{Func}
 
@@ -57,15 +62,26 @@ expr_text (Unary op a) = codes "(" ++ (unary_text op ++ (expr_text a ++ codes ")
 expr_text (Binary op a b) =
     codes "(" ++ (spaced (expr_text a ∷ binary_text op ∷ expr_text b ∷ []) ++ codes ")")
 
+-- a cell as text: its number, or an array's first cell and length, and the index
+abbrev pub cell_text : Cell Expr → List ℕ
+cell_text (Fixed c) = decimal c
+cell_text (Element a len i) = spaced (decimal a ∷ decimal len ∷ expr_text i ∷ [])
+
+-- what the word of an access ends with
+abbrev pub at_text : Cell Expr → List ℕ
+at_text (Fixed c) = codes ""
+at_text (Element a len i) = codes "at"
+
+abbrev pub update_word : Update Expr → List ℕ
+update_word (update.Swap e) = codes "swap"
+update_word (update.Cas e new) = codes "cas"
+update_word (update.Add e) = codes "add"
+
 -- an instruction as text: its word, then everything that it names, by number
 abbrev pub instr_text : Instr → List ℕ
 instr_text (Set k e) = spaced (codes "set" ∷ slot_text k ∷ expr_text e ∷ [])
-instr_text (Load k c) = spaced (codes "load" ∷ slot_text k ∷ decimal c ∷ [])
-instr_text (LoadAt k a len i) =
-    spaced (codes "loadat" ∷ slot_text k ∷ decimal a ∷ decimal len ∷ expr_text i ∷ [])
-instr_text (Store c e) = spaced (codes "store" ∷ decimal c ∷ expr_text e ∷ [])
-instr_text (StoreAt a len i e) =
-    spaced (codes "storeat" ∷ decimal a ∷ decimal len ∷ expr_text i ∷ expr_text e ∷ [])
+instr_text (Load k c) = spaced ((codes "load" ++ at_text c) ∷ slot_text k ∷ cell_text c ∷ [])
+instr_text (Store c e) = spaced ((codes "store" ++ at_text c) ∷ cell_text c ∷ expr_text e ∷ [])
 instr_text (Inside len i) = spaced (codes "inside" ∷ decimal len ∷ expr_text i ∷ [])
 instr_text (Branch e to) = spaced (codes "branch" ∷ expr_text e ∷ decimal to ∷ [])
 instr_text (Goto to) = spaced (codes "goto" ∷ decimal to ∷ [])
@@ -82,9 +98,9 @@ instr_text (Join h) = spaced (codes "join" ∷ decimal h ∷ [])
 instr_text (Assert e) = spaced (codes "assert" ∷ expr_text e ∷ [])
 instr_text (Nonzero e) = spaced (codes "nonzero" ∷ expr_text e ∷ [])
 instr_text (InRange e) = spaced (codes "inrange" ∷ expr_text e ∷ [])
-instr_text (Swap k c e) = spaced (codes "swap" ∷ slot_text k ∷ decimal c ∷ expr_text e ∷ [])
-instr_text (Cas k c e new) =
-    spaced (codes "cas" ∷ slot_text k ∷ decimal c ∷ expr_text e ∷ expr_text new ∷ [])
+instr_text (Modify k c u) =
+    spaced
+    ((update_word u ++ at_text c) ∷ slot_text k ∷ cell_text c ∷ map expr_text (operands_of u))
 instr_text Fence = codes "fence"
 instr_text Stbar = codes "stbar"
 instr_text Exit = codes "exit"

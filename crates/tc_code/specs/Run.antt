@@ -1,5 +1,5 @@
 -- Runs of the machine, and what they reproduce.
-use Rattle.std.specs.Prelude.{◌≡◌, List, [], ◌∷◌, Bool, false, Option, Some, None, option_and_then, option_map, slice_get, IsSomeAnd}
+use Rattle.std.specs.Prelude.{◌≡◌, List, [], ◌∷◌, false, Option, Some, None, option_and_then, option_map, slice_get, IsSomeAnd}
 use Rattle.std.specs.FinMap as map
 use Rattle.run_log.specs.tc_base.Names.{Name}
 use Rattle.run_log.specs.tc_base.Buffers.{BufferOps}

@@ -8,6 +8,8 @@ use Rattle.std.specs.Cmp.Lexicographic.{slice_cmp}
 use Rattle.std.specs.FinMap as fin
 use Rattle.std.specs.FinSet as set
 use Rattle.int_ops.specs.Arith.{is_distance}
+use Rattle.int_ops.specs.Updates.{updated, with_operands}
+use Rattle.int_ops.specs.declared.update.Update.{Update}
 use Rattle.run_log.specs.tc_base.Names.{Name, main, child}
 use Rattle.run_log.specs.tc_base.Buffers.{BufferOps}
 use Rattle.run_log.specs.tc_base.States.{Local, Thread, State}
@@ -16,12 +18,14 @@ use Rattle.run_log.specs.tc_base.declared.handle.Handle.TheVariants.{Unset, Chil
 use Rattle.run_log.specs.tc_base.declared.moves.Move.{Move}
 use Rattle.run_log.specs.tc_base.declared.moves.Move.TheVariants as move
 use Rattle.run_log.specs.tc_base.declared.request.Request.{Request}
-use Rattle.run_log.specs.tc_base.declared.request.Request.TheVariants.{Silent, Read, Write, Exchange, CompareExchange, Bar, Acquire, Release, BeginWait}
+use Rattle.run_log.specs.tc_base.declared.request.Request.TheVariants.{Silent, Read, Write, Exchange, Bar, Acquire, Release, BeginWait}
 use Rattle.run_log.specs.tc_base.declared.request.Request.TheVariants.{EndWait, WakeOne, WakeAll, Start, Await, OrderStores, Finish, Fail}
 use Rattle.tc_code.specs.Expr.{Expr, value_of}
+use Rattle.tc_code.specs.declared.cell.Cell.{Cell}
+use Rattle.tc_code.specs.declared.cell.Cell.TheVariants.{Fixed, Element}
 use Rattle.tc_code.specs.declared.instr.Instr.{Instr}
-use Rattle.tc_code.specs.declared.instr.Instr.TheVariants.{Set, Load, LoadAt, Store, StoreAt, Inside, Branch, Goto, Holds, Lock, Unlock, Sleep, Wake}
-use Rattle.tc_code.specs.declared.instr.Instr.TheVariants.{Signal, Broadcast, Create, Ready, Join, Assert, Nonzero, InRange, Swap, Cas, Fence, Stbar, Exit}
+use Rattle.tc_code.specs.declared.instr.Instr.TheVariants.{Set, Load, Store, Inside, Branch, Goto, Holds, Lock, Unlock, Sleep, Wake}
+use Rattle.tc_code.specs.declared.instr.Instr.TheVariants.{Signal, Broadcast, Create, Ready, Join, Assert, Nonzero, InRange, Modify, Fence, Stbar, Exit}
 use Rattle.tc_code.specs.Code.{Code, instr_at}
 
 -- the request of a site: nothing if its test holds, and failure if it doesn't
@@ -43,6 +47,15 @@ cell_at first index = first + unsigned_abs index
 abbrev pub value_in : Local → Expr → ℤ
 value_in t e = value_of e t.slots
 
+-- the cell that a thread accesses
+abbrev pub cell_in : Local → Cell Expr → ℕ
+cell_in t (Fixed c) = c
+cell_in t (Element first len i) = cell_at first (value_in t i)
+
+-- an update over the values of its expressions
+abbrev pub update_in : Local → Update Expr → Update ℤ
+update_in t u = with_operands (value_in t) u
+
 abbrev pub holds : Local → ℕ → Bool
 holds t m = slice_index_or t.held m false
 
@@ -62,10 +75,8 @@ child_number _ = 0
 -- what an instruction asks of the memory and of the other threads
 abbrev pub request : Local → Instr → Request
 request t (Set k e) = Silent
-request t (Load k c) = Read c
-request t (LoadAt k first len i) = Read (cell_at first (value_in t i))
-request t (Store c e) = Write c (value_in t e)
-request t (StoreAt first len i e) = Write (cell_at first (value_in t i)) (value_in t e)
+request t (Load k c) = Read (cell_in t c)
+request t (Store c e) = Write (cell_in t c) (value_in t e)
 request t (Inside len i) = site (is_within len (value_in t i))
 request t (Branch e to) = Silent
 request t (Goto to) = Silent
@@ -82,8 +93,7 @@ request t (Join h) = Await (child_number (handle_of t h))
 request t (Assert e) = site (is_nonzero (value_in t e))
 request t (Nonzero e) = site (is_nonzero (value_in t e))
 request t (InRange e) = site (is_distance (value_in t e))
-request t (Swap k c e) = Exchange c (value_in t e)
-request t (Cas k c e new) = CompareExchange c (value_in t e) (value_in t new)
+request t (Modify k c u) = Exchange (cell_in t c) (update_in t u)
 request t Fence = OrderStores
 request t Stbar = Bar
 request t Exit = Finish
@@ -113,9 +123,7 @@ step_with_mutex t m b = record (step_to_next t) { held = slice_set t.held m b }
 abbrev pub local_after : Local → Instr → ℤ → Local
 local_after t (Set k e) v = record (step_to_next t) { slots = slice_set t.slots k (value_in t e) }
 local_after t (Load k c) v = record (step_to_next t) { slots = slice_set t.slots k v }
-local_after t (LoadAt k a len i) v = record (step_to_next t) { slots = slice_set t.slots k v }
 local_after t (Store c e) v = step_to_next t
-local_after t (StoreAt a len i e) v = step_to_next t
 local_after t (Inside len i) v = step_to_next t
 local_after t (Branch e to) v = step_by_branch t (is_nonzero (value_in t e)) to
 local_after t (Goto to) v = step_to_place t to
@@ -136,8 +144,7 @@ local_after t (Join h) v =
 local_after t (Assert e) v = step_to_next t
 local_after t (Nonzero e) v = step_to_next t
 local_after t (InRange e) v = step_to_next t
-local_after t (Swap k c e) v = record (step_to_next t) { slots = slice_set t.slots k v }
-local_after t (Cas k c e new) v = record (step_to_next t) { slots = slice_set t.slots k v }
+local_after t (Modify k c u) v = record (step_to_next t) { slots = slice_set t.slots k v }
 local_after t Fence v = step_to_next t
 local_after t Stbar v = step_to_next t
 local_after t Exit v = record (step_to_next t) { has_exited = true }
@@ -169,10 +176,6 @@ is_free s m = is_none (slice_index_or s.owners m None)
 abbrev pub in_memory : {B : Type 0} → State B → ℕ → ℤ
 in_memory s c = slice_index_or s.memory c (pos 0)
 
--- a cell after a compare-and-exchange: the new value if the old one is as expected, else unchanged
-abbrev pub replaced : ℤ → ℤ → ℤ → ℤ
-replaced old expected value = if int_eq old expected then value else old
-
 -- whether a thread's child of that number has exited
 abbrev pub child_has_exited : {B : Type 0} → State B → Name → ℕ → Bool
 child_has_exited s n k =
@@ -183,8 +186,7 @@ abbrev pub is_event : Request → Bool
 is_event Silent = false
 is_event (Read c) = true
 is_event (Write c v) = true
-is_event (Exchange c v) = true
-is_event (CompareExchange c e v) = true
+is_event (Exchange c u) = true
 is_event Bar = false
 is_event (Acquire m) = true
 is_event (Release m) = true
@@ -203,8 +205,7 @@ abbrev pub drains_first : Request → Bool
 drains_first Silent = false
 drains_first (Read c) = false
 drains_first (Write c v) = false
-drains_first (Exchange c v) = true
-drains_first (CompareExchange c e v) = true
+drains_first (Exchange c u) = true
 drains_first Bar = false
 drains_first (Acquire m) = true
 drains_first (Release m) = true
@@ -223,8 +224,7 @@ abbrev pub is_let : {B : Type 0} → State B → Name → Request → Bool
 is_let s n Silent = true
 is_let s n (Read c) = true
 is_let s n (Write c v) = true
-is_let s n (Exchange c v) = true
-is_let s n (CompareExchange c e v) = true
+is_let s n (Exchange c u) = true
 is_let s n Bar = true
 is_let s n (Acquire m) = is_free s m
 is_let s n (Release m) = true
@@ -270,10 +270,11 @@ module _ {B : Type 0} (ops : BufferOps B) where
       (record { local = local_after t.local i (pos 0); buffer = ops.issue t.buffer c v })
       else record (state_after_step s n t i) { memory = slice_set s.memory c v }
 
-  -- the state after an exchange: in one step, the thread loads the cell and stores v to it
-  abbrev pub state_after_exchange : State B → Name → Thread B → Instr → ℕ → ℤ → State B
-  state_after_exchange s n t i c v =
-      record (state_after_read s n t i (in_memory s c)) { memory = slice_set s.memory c v }
+  -- the state after an exchange: in one step, the thread loads the cell and stores to it
+  abbrev pub state_after_exchange : State B → Name → Thread B → Instr → ℕ → Update ℤ → State B
+  state_after_exchange s n t i c u =
+      record (state_after_read s n t i (in_memory s c))
+      { memory = slice_set s.memory c (updated u (in_memory s c)) }
 
   -- a new thread: its first slots are the arguments, and everything else is 0, unset or free
   abbrev pub born : Code → ℕ → List ℤ → Thread B
@@ -297,9 +298,7 @@ module _ {B : Type 0} (ops : BufferOps B) where
   perform code s n t i Silent = state_after_step s n t i
   perform code s n t i (Read c) = state_after_read s n t i (loaded s t c)
   perform code s n t i (Write c v) = state_after_store s n t i c v
-  perform code s n t i (Exchange c v) = state_after_exchange s n t i c v
-  perform code s n t i (CompareExchange c e v) =
-      state_after_exchange s n t i c (replaced (in_memory s c) e v)
+  perform code s n t i (Exchange c u) = state_after_exchange s n t i c u
   perform code s n t i Bar =
       with_thread s n (record { local = local_after t.local i (pos 0); buffer = ops.bar t.buffer })
   perform code s n t i (Acquire m) =

@@ -1,9 +1,9 @@
 //! The texts of expressions and instructions.
 ghost use Rattle.std.specs.Prelude.{◌≡◌};
-ghost use Rattle.tc_code.specs.Listing.{unary_text, binary_text};
+ghost use Rattle.tc_code.specs.Listing.{unary_text, binary_text, at_text};
 
-use crate::{Expr, Exprs, Instr, Node};
-use int_ops::{BinOp, UnOp};
+use crate::{Cell, Expr, Exprs, Instr, Node};
+use int_ops::{BinOp, UnOp, Update};
 use std::fmt;
 
 fn unary_text(op: UnOp) -> &'static str
@@ -84,6 +84,35 @@ impl fmt::Display for Exprs {
     }
 }
 
+/// The cell's number, or the array's first cell, its length and the index.
+impl fmt::Display for Cell<Expr> {
+    ghost use Rattle.std.specs.Prelude.{Some};
+    ghost use Rattle.tc_code.specs.Listing.{cell_text};
+
+    ghost output = { λ c. Some (cell_text c) };
+
+    fn fmt<W: fmt::Write>(&self, f: &mut fmt::Formatter<W>) -> fmt::Result {
+        match self {
+            Cell::Fixed(cell) => write!(f, "{cell}"),
+            Cell::Element {
+                first,
+                length,
+                index,
+            } => write!(f, "{first} {length} {index}"),
+        }
+    }
+}
+
+/// What the word of an access ends with.
+fn at_text(cell: &Cell<Expr>) -> &'static str
+    ensures { result.now ≡ at_text cell.now }
+{
+    match cell {
+        Cell::Fixed(_) => "",
+        Cell::Element { .. } => "at",
+    }
+}
+
 /// The instruction's word, and then everything that it names, by number.
 impl fmt::Display for Instr {
     ghost use Rattle.std.specs.Prelude.{Some};
@@ -94,20 +123,14 @@ impl fmt::Display for Instr {
     fn fmt<W: fmt::Write>(&self, f: &mut fmt::Formatter<W>) -> fmt::Result {
         match self {
             Instr::Set { slot, value } => write!(f, "set ${slot} {value}"),
-            Instr::Load { slot, cell } => write!(f, "load ${slot} {cell}"),
-            Instr::LoadAt {
-                slot,
-                first,
-                length,
-                index,
-            } => write!(f, "loadat ${slot} {first} {length} {index}"),
-            Instr::Store { cell, value } => write!(f, "store {cell} {value}"),
-            Instr::StoreAt {
-                first,
-                length,
-                index,
-                value,
-            } => write!(f, "storeat {first} {length} {index} {value}"),
+            Instr::Load { slot, cell } => {
+                let at = at_text(cell);
+                write!(f, "load{at} ${slot} {cell}")
+            }
+            Instr::Store { cell, value } => {
+                let at = at_text(cell);
+                write!(f, "store{at} {cell} {value}")
+            }
             Instr::Inside { length, index } => write!(f, "inside {length} {index}"),
             Instr::Branch { condition, target } => write!(f, "branch {condition} {target}"),
             Instr::Goto { target } => write!(f, "goto {target}"),
@@ -128,13 +151,16 @@ impl fmt::Display for Instr {
             Instr::Assert(e) => write!(f, "assert {e}"),
             Instr::Nonzero(e) => write!(f, "nonzero {e}"),
             Instr::InRange(e) => write!(f, "inrange {e}"),
-            Instr::Swap { slot, cell, value } => write!(f, "swap ${slot} {cell} {value}"),
-            Instr::Cas {
-                slot,
-                cell,
-                expected,
-                value,
-            } => write!(f, "cas ${slot} {cell} {expected} {value}"),
+            Instr::Modify { slot, cell, update } => {
+                let at = at_text(cell);
+                match update {
+                    Update::Swap(value) => write!(f, "swap{at} ${slot} {cell} {value}"),
+                    Update::Cas(expected, value) => {
+                        write!(f, "cas{at} ${slot} {cell} {expected} {value}")
+                    }
+                    Update::Add(value) => write!(f, "add{at} ${slot} {cell} {value}"),
+                }
+            }
             Instr::Fence => write!(f, "fence"),
             Instr::Stbar => write!(f, "stbar"),
             Instr::Exit => write!(f, "exit"),

@@ -1,7 +1,8 @@
 //! Instructions.
 ghost use Rattle.std.specs.Prelude.{◌≡◌, ◌+◌, ◌<◌, ◌^◌, OnSome, option_map, slice_get};
 
-use crate::{Expr, Exprs};
+use crate::{Cell, Expr, Exprs};
+use int_ops::Update;
 use std::marker::Model;
 
 /// An instruction of a thread. A site only tests something, and fails if that is false.
@@ -15,25 +16,11 @@ pub enum Instr {
     /// Loads the cell into the slot.
     Load {
         slot: u32,
-        cell: u32,
-    },
-    /// Loads the element at the index, of the array that begins at cell `first`, into the slot.
-    LoadAt {
-        slot: u32,
-        first: u32,
-        length: u32,
-        index: Expr,
+        cell: Cell<Expr>,
     },
     /// Stores the value to the cell.
     Store {
-        cell: u32,
-        value: Expr,
-    },
-    /// Stores the value to the element at the index, of the array that begins at cell `first`.
-    StoreAt {
-        first: u32,
-        length: u32,
-        index: Expr,
+        cell: Cell<Expr>,
         value: Expr,
     },
     /// A site, which fails if the index isn't inside an array of that length.
@@ -101,19 +88,11 @@ pub enum Instr {
     Nonzero(Expr),
     /// A site, which fails if the value is below 0 or above 31: a shift distance must not be.
     InRange(Expr),
-    /// Loads the cell into the slot and stores the value to the cell, in one step.
-    Swap {
+    /// Loads the cell into the slot and stores the updated value to the cell, in one step.
+    Modify {
         slot: u32,
-        cell: u32,
-        value: Expr,
-    },
-    /// Loads the cell into the slot and, if it had the expected value, stores the new one, in one
-    /// step.
-    Cas {
-        slot: u32,
-        cell: u32,
-        expected: Expr,
-        value: Expr,
+        cell: Cell<Expr>,
+        update: Update<Expr>,
     },
     /// Waits until all stores of the thread are in memory.
     Fence,

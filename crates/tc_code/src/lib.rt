@@ -1,6 +1,7 @@
 //! Flat code: what a program is lowered to, and what that means.
 #![tactic(auto)]
 
+mod cell;
 mod code;
 mod display;
 mod expr;
@@ -8,6 +9,7 @@ mod instr;
 mod list;
 mod source;
 
+pub use cell::Cell;
 pub use code::{Code, Func};
 pub use expr::{Expr, Exprs, Node, value};
 pub use instr::{Instr, Instrs};

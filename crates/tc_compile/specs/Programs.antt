@@ -11,7 +11,7 @@ use Rattle.tc_compile.specs.declared.fault.CompileFault.TheVariants.{Refused, Me
 
 -- the language of the programs that are compiled
 abbrev pub language : ℕ
-language = 3
+language = 4
 
 -- the text is a program, and this is its code
 pub record IsCodeOf (bytes : List ℕ) (code : Code) : Type 0 where

@@ -1,5 +1,6 @@
 -- A program has no two neighbouring comparisons.
-use Rattle.std.proofs.Common.{◌≡◌, Bool, true, false, List, [], ◌∷◌, refl}
+use Rattle.std.proofs.Common.{◌≡◌, Bool, true, false, List, [], ◌∷◌, Option, Some, None, refl}
+use Rattle.tc_syntax.specs.int_ops.Updates.{operands_of}
 use Rattle.tc_syntax.specs.int_ops.declared.arith.UnOp.TheVariants.{Neg, Not, Inv}
 use Rattle.tc_syntax.specs.tc_lexer.declared.token.Keyword.TheVariants as keyword
 use Rattle.tc_syntax.specs.tc_lexer.declared.token.Sign.TheVariants as sign
@@ -23,12 +24,12 @@ use Rattle.tc_syntax.specs.tc_tree.Grammar.{
   expression_then,
   others_then,
   list_then,
+  index_then,
   Statement,
   Assign,
   Store,
   Create,
-  Swap,
-  Cas,
+  Modify,
   Act,
   Wait,
   Order,
@@ -107,6 +108,10 @@ list_apart : (es : List Expression) (rest : List Word) → AreApart rest → Are
 list_apart [] rest h = h
 list_apart (e ∷ es) rest h = expression_apart e (others_then es rest) (others_apart es rest h)
 
+index_apart : (i : Option Expression) (rest : List Word) → AreApart rest → AreApart (index_then i rest)
+index_apart None rest h = h
+index_apart (Some i) rest h = (never _, expression_apart i (ASign sign.CloseBracket ∷ rest) (never _, h))
+
 -- ---- statements
 
 closed : (rest : List Word) → AreApart rest → AreApart (ASign sign.CloseParen ∷ ASign sign.Semicolon ∷ rest)
@@ -129,31 +134,8 @@ mutual
   )
   statement_apart (Create x f es) rest h =
       (never _, (never _, (never _, (never _, (never _, list_apart es (ASign sign.CloseParen ∷ ASign sign.Semicolon ∷ rest) (closed rest h))))))
-  statement_apart (Swap r x e) rest h = (
-    never _,
-    (never _, (never _, (never _, (never _, (never _, expression_apart e (ASign sign.CloseParen ∷ ASign sign.Semicolon ∷ rest) (closed rest h)))))),
-  )
-  statement_apart (Cas r x e f) rest h = (
-    never _,
-    (
-      never _,
-      (
-        never _,
-        (
-          never _,
-          (
-            never _,
-            (
-              never _,
-              expression_apart e
-                  (ASign sign.Comma ∷ expression_then f (ASign sign.CloseParen ∷ ASign sign.Semicolon ∷ rest))
-                  (never _, expression_apart f (ASign sign.CloseParen ∷ ASign sign.Semicolon ∷ rest) (closed rest h)),
-            ),
-          ),
-        ),
-      ),
-    ),
-  )
+  statement_apart (Modify r x i u) rest h =
+      (never _, (never _, (never _, (never _, (never _, index_apart i _ (others_apart (operands_of u) _ (closed rest h)))))))
   statement_apart (Act p a x) rest h = (never _, (never _, (never _, closed rest h)))
   statement_apart (Wait p c m) rest h = (never _, (never _, (never _, (never _, (never _, closed rest h)))))
   statement_apart (Order p b) rest h = (never _, (never _, closed rest h))

@@ -15,8 +15,7 @@ use Rattle.tc_syntax.specs.tc_tree.Grammar.{
   Assign,
   Store,
   Create,
-  Swap,
-  Cas,
+  Modify,
   Act,
   Wait,
   Order,
@@ -59,8 +58,7 @@ statements_begin Nil p rest = refl
 statements_begin (Cons (Assign x e) b) p rest = refl
 statements_begin (Cons (Store a i e) b) p rest = refl
 statements_begin (Cons (Create h f es) b) p rest = refl
-statements_begin (Cons (Swap a x e) b) p rest = refl
-statements_begin (Cons (Cas a x e f) b) p rest = refl
+statements_begin (Cons (Modify r x i u) b) p rest = refl
 statements_begin (Cons (Act q a x) b) p rest = refl
 statements_begin (Cons (Wait q c m) b) p rest = refl
 statements_begin (Cons (Order q o) b) p rest = refl

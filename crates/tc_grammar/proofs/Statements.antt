@@ -1,6 +1,10 @@
 -- Words begin with at most one statement.
-use Rattle.std.proofs.Common.{◌≡◌, true, false, List, ◌∷◌, drop, refl, sym, ap}
-use Rattle.std.specs.Prelude.{None}
+use Rattle.std.proofs.Common.{◌≡◌, true, false, List, [], ◌∷◌, Option, Some, None, drop, refl, sym, ap, ap₂}
+use Rattle.tc_syntax.specs.int_ops.Updates.{operands_of}
+use Rattle.tc_syntax.specs.int_ops.declared.update.Update.{Update}
+use Rattle.tc_syntax.specs.int_ops.declared.update.Update.TheVariants as update
+use Rattle.tc_syntax.specs.tc_tree.declared.statement.Target.{Target}
+use Rattle.tc_syntax.specs.tc_tree.declared.statement.UpdateKind.{UpdateKind}
 use Rattle.tc_syntax.specs.tc_lexer.declared.place.Place.{Place}
 use Rattle.tc_syntax.specs.tc_lexer.declared.token.Keyword.{Keyword as AnyKeyword}
 use Rattle.tc_syntax.specs.tc_lexer.declared.token.Keyword.TheVariants as keyword
@@ -8,15 +12,14 @@ use Rattle.tc_syntax.specs.tc_lexer.declared.token.Sign.{Sign}
 use Rattle.tc_syntax.specs.tc_lexer.declared.token.Sign.TheVariants as sign
 use Rattle.tc_syntax.specs.tc_tree.declared.expression.Name.{Name}
 use Rattle.tc_syntax.specs.tc_tree.declared.word.Word.{Word}
-use Rattle.tc_syntax.specs.tc_tree.declared.word.Word.TheVariants.{Name as AName, Keyword as AKeyword, Sign as ASign, End as AnEnd}
+use Rattle.tc_syntax.specs.tc_tree.declared.word.Word.TheVariants.{Name as AName, Update as AnUpdate, Keyword as AKeyword, Sign as ASign, End as AnEnd}
 use Rattle.tc_syntax.specs.tc_tree.Grammar.{
   Expression,
   Statement,
   Assign,
   Store,
   Create,
-  Swap,
-  Cas,
+  Modify,
   Act,
   Wait,
   Order,
@@ -30,11 +33,17 @@ use Rattle.tc_syntax.specs.tc_tree.Grammar.{
   Nothing,
   Else,
   ElseIf,
+  target_by,
+  kind_of,
   expression_then,
+  index_then,
+  others_then,
   statement_then,
   statements_then,
   otherwise_then,
   IsGrouped,
+  IsGroupedIndex,
+  AreGrouped,
   IsWell,
   AreWell,
   IsWellOtherwise,
@@ -86,17 +95,35 @@ store_same a b i j e f r s gi gj ge gf is =
     let value = before_semicolon e f r s ge gf (ap (drop 1) index.1) in
     (cc, value.1)
 
-swap_same : (a b x y : Name) (e f : Expression) (r s : List Word) → IsGrouped e → IsGrouped f → Same (Swap a x e) (Swap b y f) r s
-swap_same a b x y e f r s g h is =
-    let value = before_paren e f (ASign sign.Semicolon ∷ r) (ASign sign.Semicolon ∷ s) g h (ap (drop 6) is) in
-    (cc, cc)
+index_same : (i j : Option Expression) (r s : List Word) → IsGroupedIndex i → IsGroupedIndex j → target_by i ≡ target_by j
+    → index_then i r ≡ index_then j s → (i ≡ j) × (r ≡ s)
+index_same None None r s g h t is = (refl, is)
+index_same None (Some j) r s g h t is = absurd cc
+index_same (Some i) None r s g h t is = absurd cc
+index_same (Some i) (Some j) r s g h t is = let index = before_bracket i j r s g h (ap (drop 1) is) in (ap Some index.0, index.1)
 
-cas_same : (a b x y : Name) (d e f g : Expression) (r s : List Word) → IsGrouped d → IsGrouped e → IsGrouped f → IsGrouped g
-    → Same (Cas a x d f) (Cas b y e g) r s
-cas_same a b x y d e f g r s gd ge gf gg is =
-    let old = before_comma d e (expression_then f (ASign sign.CloseParen ∷ ASign sign.Semicolon ∷ r))
-    (expression_then g (ASign sign.CloseParen ∷ ASign sign.Semicolon ∷ s)) gd ge (ap (drop 6) is) in
-    let new = before_paren f g (ASign sign.Semicolon ∷ r) (ASign sign.Semicolon ∷ s) gf gg old.1 in
+one_operand : (e f : Expression) (r s : List Word) → IsGrouped e → IsGrouped f
+    → others_then (e ∷ []) (ASign sign.CloseParen ∷ r) ≡ others_then (f ∷ []) (ASign sign.CloseParen ∷ s) → (e ≡ f) × (r ≡ s)
+one_operand e f r s g h is = before_paren e f r s g h (ap (drop 1) is)
+
+operands_same : (u v : Update Expression) (r s : List Word) → AreGrouped (operands_of u) → AreGrouped (operands_of v) → kind_of u ≡ kind_of v
+    → others_then (operands_of u) (ASign sign.CloseParen ∷ r) ≡ others_then (operands_of v) (ASign sign.CloseParen ∷ s) → (u ≡ v) × (r ≡ s)
+operands_same (update.Swap e) (update.Swap f) r s g h k is = let o = one_operand e f r s g.0 h.0 is in (ap update.Swap o.0, o.1)
+operands_same (update.Add e) (update.Add f) r s g h k is = let o = one_operand e f r s g.0 h.0 is in (ap update.Add o.0, o.1)
+operands_same (update.Cas d e) (update.Cas f g') r s g h k is =
+    let old = before_comma d f (expression_then e (ASign sign.CloseParen ∷ r)) (expression_then g' (ASign sign.CloseParen ∷ s)) g.0 h.0 (ap (drop 1) is) in
+    let new = before_paren e g' r s g.1.0 h.1.0 old.1 in
+    (ap₂ update.Cas old.0 new.0, new.1)
+operands_same _ _ r s g h k is = absurd cc
+
+modify_same : (a b x y : Name) (i j : Option Expression) (u v : Update Expression) (r s : List Word) → IsWell (Modify a x i u) → IsWell (Modify b y j v)
+    → Same (Modify a x i u) (Modify b y j v) r s
+modify_same a b x y i j u v r s g h is =
+    let kinds : kind_of u ≡ kind_of v = cc in
+    let targets : target_by i ≡ target_by j = cc in
+    let index = index_same i j (others_then (operands_of u) (ASign sign.CloseParen ∷ ASign sign.Semicolon ∷ r))
+    (others_then (operands_of v) (ASign sign.CloseParen ∷ ASign sign.Semicolon ∷ s)) g.0 h.0 targets (ap (drop 5) is) in
+    let operands = operands_same u v (ASign sign.Semicolon ∷ r) (ASign sign.Semicolon ∷ s) g.1 h.1 kinds index.1 in
     (cc, cc)
 
 create_same : (h k f g : Name) (es fs : List Expression) (r s : List Word) → IsWell (Create h f es) → IsWell (Create k g fs)
@@ -118,18 +145,21 @@ guard_same e f r s g h is =
     let condition = before_paren e f (ASign sign.OpenBrace ∷ r) (ASign sign.OpenBrace ∷ s) g h (ap (drop 1) is) in
     (condition.0, cc)
 
--- no value begins with `create`, `swap` or `cas`
+-- no value begins with `create` or with an update
 no_value : (x y : Name) (e : Expression) (r ws : List Word) (k : AnyKeyword)
     → statement_then (Assign x e) r ≡ AName y ∷ ASign sign.Assign ∷ AKeyword k ∷ ws → ⊥
 no_value x y e r ws k is = no_keyword e (ASign sign.Semicolon ∷ r) ws k (ap (drop 2) is)
+
+no_update : (x y : Name) (e : Expression) (r ws : List Word) (k : UpdateKind) (t : Target)
+    → statement_then (Assign x e) r ≡ AName y ∷ ASign sign.Assign ∷ AnUpdate k t ∷ ws → ⊥
+no_update x y e r ws k t is = no_expression e (ASign sign.Semicolon ∷ r) (AnUpdate k t ∷ ws) (ap (drop 2) is) refl
 
 -- no statement begins with a closing brace or with `else`
 no_end : (a : Statement) (p : Place) (r rest : List Word) → statement_then a rest ≡ AnEnd p ∷ r → ⊥
 no_end (Assign x e) p r rest is = cc
 no_end (Store a i e) p r rest is = cc
 no_end (Create h f es) p r rest is = cc
-no_end (Swap a x e) p r rest is = cc
-no_end (Cas a x e f) p r rest is = cc
+no_end (Modify a x i u) p r rest is = cc
 no_end (Act q a x) p r rest is = cc
 no_end (Wait q c m) p r rest is = cc
 no_end (Order q b) p r rest is = cc
@@ -146,8 +176,7 @@ mutual
   statement_same (Assign x e) (Assign y f) r s g h m n is = assign_same x y e f r s g h is
   statement_same (Store a i e) (Store b j f) r s g h m n is = store_same a b i j e f r s g.0 h.0 g.1 h.1 is
   statement_same (Create a f es) (Create b k fs) r s g h m n is = create_same a b f k es fs r s g h is
-  statement_same (Swap a x e) (Swap b y f) r s g h m n is = swap_same a b x y e f r s g h is
-  statement_same (Cas a x d f) (Cas b y e f') r s g h m n is = cas_same a b x y d e f f' r s g.0 h.0 g.1 h.1 is
+  statement_same (Modify a x i u) (Modify b y j v) r s g h m n is = modify_same a b x y i j u v r s g h is
   statement_same (Act p a x) (Act q b y) r s g h m n is = (cc, cc)
   statement_same (Wait p c x) (Wait q d y) r s g h m n is = (cc, cc)
   statement_same (Order p b) (Order q c) r s g h m n is = (cc, cc)
@@ -163,11 +192,9 @@ mutual
       let others = otherwise_same o o' r s g.2 h.2 m n body.2 in
       (cc, others.1)
   statement_same (Assign x e) (Create y f es) r s g h m n is = absurd (no_value x y e r _ keyword.Create is)
-  statement_same (Assign x e) (Swap y z f) r s g h m n is = absurd (no_value x y e r _ keyword.Swap is)
-  statement_same (Assign x e) (Cas y z f f') r s g h m n is = absurd (no_value x y e r _ keyword.Cas is)
+  statement_same (Assign x e) (Modify y z i u) r s g h m n is = absurd (no_update x y e r _ (kind_of u) (target_by i) is)
   statement_same (Create x f es) (Assign y e) r s g h m n is = absurd (no_value y x e s _ keyword.Create (sym is))
-  statement_same (Swap x z f) (Assign y e) r s g h m n is = absurd (no_value y x e s _ keyword.Swap (sym is))
-  statement_same (Cas x z f f') (Assign y e) r s g h m n is = absurd (no_value y x e s _ keyword.Cas (sym is))
+  statement_same (Modify x z i u) (Assign y e) r s g h m n is = absurd (no_update y x e s _ (kind_of u) (target_by i) (sym is))
   statement_same _ _ r s g h m n is = absurd cc
 
   -- the statements of a block, up to its closing brace

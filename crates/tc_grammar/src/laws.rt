@@ -12,7 +12,7 @@ pub fn words_are_one_program()
 /// Words are a program or have one fault, at a word or at their end, and never both.
 pub fn words_have_one_fault()
     ensures some { (words : List OneWord)
-        → ((program : OneProgram) × IsSpelled 3 words program) ⊎ ((k : ℕ) × IsSyntaxFault 3 words k) }
+        → ((program : OneProgram) × IsSpelled 4 words program) ⊎ ((k : ℕ) × IsSyntaxFault 4 words k) }
     ensures earlier { (language : ℕ) (words : List OneWord) → 1 ≤ language → AreOf language words
         → ((program : OneProgram) × IsSpelled language words program) ⊎ ((k : ℕ) × IsSyntaxFault language words k) }
     ensures one { (language : ℕ) (words : List OneWord) (this that : ℕ)

@@ -334,7 +334,7 @@ is_found language (b ∷ bs) p e = elim (cases_Bool (is_space b)) [
 
 -- Results of the reader's calls.
 
-pub front_word : (bytes : List ℕ) (b : ℕ) → Some b ≡ slice_get bytes 0 → is_space b ≡ false → is_word b ≡ true → front 3 bytes ≡ word_piece 3 bytes
+pub front_word : (bytes : List ℕ) (b : ℕ) → Some b ≡ slice_get bytes 0 → is_space b ≡ false → is_word b ≡ true → front 4 bytes ≡ word_piece 4 bytes
 front_word [] b e h k = absurd cc
 front_word (c ∷ cs) b e h k =
     let same : b ≡ c = cc in
@@ -345,13 +345,13 @@ shape_token : (t : PlainToken) (kind : TokenKind) (len : ℕ) → kind_of t ≡ 
 shape_token t kind len e f = cc
 
 pub word_shape : (bytes : List ℕ) (n : ℕ) (kind : TokenKind) → n ≡ prefix_len is_word bytes → 0 < n
-    → option_map kind_of (word_token 3 (take n bytes)) ≡ Some kind
-    → ◌≡◌ {A = Option Shape} (Some (record { kind = Some kind; len = n })) (option_map shape_of (word_piece 3 bytes))
+    → option_map kind_of (word_token 4 (take n bytes)) ≡ Some kind
+    → ◌≡◌ {A = Option Shape} (Some (record { kind = Some kind; len = n })) (option_map shape_of (word_piece 4 bytes))
 word_shape bytes n kind e some h =
-    let m = mapped kind_of (word_token 3 (take n bytes)) kind h in
+    let m = mapped kind_of (word_token 4 (take n bytes)) kind h in
     let long : length (take n bytes) ≡ n = omega (arith, length-take n bytes, prefix_len-le-length is_word bytes) in
     let passes : list_all is_word (take n bytes) ≡ true = ap (λ (k : ℕ). list_all is_word (take k bytes)) e ∙ run_passes is_word bytes in
-    let w = word_writes 3 (take n bytes) m.0 (omega arith) passes m.1 in
+    let w = word_writes 4 (take n bytes) m.0 (omega arith) passes m.1 in
     shape_token m.0 kind n m.2 (ap length w.spelled ∙ long)
     ∙ (ap (λ (o : Option PlainToken). option_map shape_of (option_map Token o)) (sym m.1)
-    ∙ ap (λ (k : ℕ). option_map shape_of (option_map Token (word_token 3 (take k bytes)))) e)
+    ∙ ap (λ (k : ℕ). option_map shape_of (option_map Token (word_token 4 (take k bytes)))) e)

@@ -7,3 +7,4 @@ pub mod Readings
 pub mod OneReading
 pub mod NextLanguage
 pub mod Longest
+pub mod LaterLanguages

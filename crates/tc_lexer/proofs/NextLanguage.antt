@@ -69,7 +69,7 @@ keywords_of_3 Cas = inr refl
 keywords_of_3 Stbar = inr refl
 
 -- the byte after a piece continues it in both languages or in neither
-ends_same : (m n : ℕ) (p : Piece) → ((b : ℕ) → continues n p b ≡ continues m p b) → (after : List ℕ) → EndsBefore m p after → EndsBefore n p after
+pub ends_same : (m n : ℕ) (p : Piece) → ((b : ℕ) → continues n p b ≡ continues m p b) → (after : List ℕ) → EndsBefore m p after → EndsBefore n p after
 ends_same m n p h [] e = tt
 ends_same m n p h (b ∷ bs) e = ap not (h b) ∙ e
 

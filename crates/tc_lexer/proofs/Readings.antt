@@ -194,25 +194,25 @@ rest_is text start = take_all (length text - start) (drop start text) (omega (ar
 pub record IsFoundAt (text : List ℕ) (start : ℕ) (s : Shape) : Type 0 where
   pub piece : Piece
   pub after : List ℕ
-  pub begins : Begins 3 (drop start text) piece after
+  pub begins : Begins 4 (drop start text) piece after
   pub shape : shape_of piece ≡ s
 
-pub found_at : (text : List ℕ) (start : ℕ) (o : Option Shape) (s : Shape) → o ≡ option_map shape_of (front 3 (take (length text - start) (drop start text)))
+pub found_at : (text : List ℕ) (start : ℕ) (o : Option Shape) (s : Shape) → o ≡ option_map shape_of (front 4 (take (length text - start) (drop start text)))
     → o ≡ Some s → IsFoundAt text start s
 found_at text start o s e f =
-    let m = mapped shape_of (front 3 (drop start text)) s (ap (λ (b : List ℕ). option_map shape_of (front 3 b)) (sym (rest_is text start)) ∙ (sym e ∙ f)) in
-    let x = is_found 3 (drop start text) m.0 m.1 in
+    let m = mapped shape_of (front 4 (drop start text)) s (ap (λ (b : List ℕ). option_map shape_of (front 4 b)) (sym (rest_is text start)) ∙ (sym e ∙ f)) in
+    let x = is_found 4 (drop start text) m.0 m.1 in
     record { piece = m.0; after = x.0; begins = x.1; shape = m.2 }
 
-pub none_at : (text : List ℕ) (start : ℕ) (o : Option Shape) → o ≡ option_map shape_of (front 3 (take (length text - start) (drop start text))) → o ≡ None
-    → BeginsNone 3 (drop start text)
+pub none_at : (text : List ℕ) (start : ℕ) (o : Option Shape) → o ≡ option_map shape_of (front 4 (take (length text - start) (drop start text))) → o ≡ None
+    → BeginsNone 4 (drop start text)
 none_at text start o e f =
-    none_found 3 (drop start text)
-    (unmapped shape_of (front 3 (drop start text)) (ap (λ (b : List ℕ). option_map shape_of (front 3 b)) (sym (rest_is text start)) ∙ (sym e ∙ f)))
+    none_found 4 (drop start text)
+    (unmapped shape_of (front 4 (drop start text)) (ap (λ (b : List ℕ). option_map shape_of (front 4 b)) (sym (rest_is text start)) ∙ (sym e ∙ f)))
 
 pub found_fits : (text : List ℕ) (start : ℕ) (s : Shape) → start < length text → IsFoundAt text start s → (0 < s.len) × (start + s.len ≤ length text)
 found_fits text start s h x =
-    let b = begins_shorter 3 (drop start text) x.piece x.after x.begins in
+    let b = begins_shorter 4 (drop start text) x.piece x.after x.begins in
     let len = ap (λ (t : Shape). t.len) x.shape in
     (omega arith, omega (arith, length-drop start text))
 
@@ -251,14 +251,14 @@ none_is text start s x k = none_among (take start text) s x.piece x.shape k
 
 -- the invariant of the reader's loop, one piece further on
 pub kept : (text : List ℕ) (tokens next : List SpannedToken) (start : ℕ) (place place' : Place) (s : Shape) → start < length text
-    → IsRead 3 text tokens start place → (x : IsFoundAt text start s) → next ≡ tokens ++ token_among (take start text) x.piece
-    → place' ≡ place_from place (take s.len (take (length text - start) (drop start text))) → IsRead 3 text next (start + s.len) place'
+    → IsRead 4 text tokens start place → (x : IsFoundAt text start s) → next ≡ tokens ++ token_among (take start text) x.piece
+    → place' ≡ place_from place (take s.len (take (length text - start) (drop start text))) → IsRead 4 text next (start + s.len) place'
 kept text tokens next start place place' s h r x e f =
     let len : length (written x.piece) ≡ s.len = ap (λ (t : Shape). t.len) x.shape in
     let bytes : take s.len (take (length text - start) (drop start text)) ≡ written x.piece = ap (take s.len) (rest_is text start ∙ x.begins.split)
     ∙ take_at (written x.piece) x.after s.len len in
-    let more = read_more 3 text tokens start place x.piece x.after r x.begins in
+    let more = read_more 4 text tokens start place x.piece x.after r x.begins in
     let place_is : place_from place (written x.piece) ≡ place' = ap (place_from place) (sym bytes) ∙ sym f in
-    subst (λ (q : Place). IsRead 3 text next (start + s.len) q) place_is
-    (subst (λ (n : ℕ). IsRead 3 text next (start + n) (place_from place (written x.piece))) len
-    (subst (λ (ts : List SpannedToken). IsRead 3 text ts (start + length (written x.piece)) (place_from place (written x.piece))) (sym e) more))
+    subst (λ (q : Place). IsRead 4 text next (start + s.len) q) place_is
+    (subst (λ (n : ℕ). IsRead 4 text next (start + n) (place_from place (written x.piece))) len
+    (subst (λ (ts : List SpannedToken). IsRead 4 text ts (start + length (written x.piece)) (place_from place (written x.piece))) (sym e) more))

@@ -1,5 +1,6 @@
 -- Tokens as the grammar sees them, without their places, and how they are spelled.
 -- Languages are numbered: 2 adds the signs `/ % << >>`, and 3 the keywords `swap cas stbar`.
+-- Language 4 has the tokens of 3.
 use Rattle.std.specs.Prelude.{◌≡◌, ℕ, ℤ, pos, negsuc, ◌^◌, ◌<◌, ◌≤◌, Bool, false, ◌&&◌, ◌||◌, ◌==◌, nat_le, IsTrue, List, [], ◌∷◌, map, slice_range, codes}
 use Rattle.std.specs.List.{list_all}
 use Rattle.std.specs.Fmt.{decimal}

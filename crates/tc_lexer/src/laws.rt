@@ -1,5 +1,5 @@
 //! Laws of the definitions of a text's tokens. They do nothing when they run.
-ghost use Rattle.std.specs.Prelude.{◌≡◌, ℕ, ◌≤◌, List, ◌++◌, length, IsTrue, All};
+ghost use Rattle.std.specs.Prelude.{◌≡◌, ◌↔◌, ℕ, ◌≤◌, List, ◌++◌, length, IsTrue, All};
 ghost use Rattle.tc_lexer.specs.declared.token.Token.{Token as OneToken};
 ghost use Rattle.tc_lexer.specs.declared.fault.LexFault.{LexFault as OneFault};
 ghost use Rattle.tc_lexer.specs.Tokens.{plain_tokens};
@@ -49,4 +49,10 @@ pub fn language_2_has_the_tokens_of_1()
 pub fn language_3_has_the_tokens_of_2()
     ensures { (text : List ℕ) (tokens : List OneToken)
         → AreTokens 2 text tokens → HaveNoKeywordOf 3 (plain_tokens text tokens) → AreTokens 3 text tokens }
+{}
+
+/// Language 4 has the tokens of language 3, and its faults.
+pub fn language_4_has_the_tokens_of_3()
+    ensures tokens { (text : List ℕ) (tokens : List OneToken) → AreTokens 3 text tokens ↔ AreTokens 4 text tokens }
+    ensures faults { (text : List ℕ) (fault : OneFault) → IsFault 3 text fault ↔ IsFault 4 text fault }
 {}

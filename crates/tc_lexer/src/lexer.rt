@@ -12,14 +12,14 @@ use crate::token::Token;
 use crate::tokens::Tokens;
 use std::alloc::Global;
 
-/// The tokens of a program's text, in language 3, which has all keywords and signs.
+/// The tokens of a program's text, in language 4, which has all keywords and signs.
 ///
 /// A text has either one list of tokens or one fault, so only one answer is right, except that
 /// memory may run out. The time grows linearly with the text.
 pub fn lex(alloc: Global, text: &[u8]) -> Result<Tokens, LexFault>
     requires { length text.now ≤ PROGRAM_BYTES }
-    ensures found { IfOk result (λ tokens. AreTokens 3 text.now tokens) }
-    ensures refused { IfErr result (λ fault. fault ≢ lex_fault.Memory → IsFault 3 text.now fault) }
+    ensures found { IfOk result (λ tokens. AreTokens 4 text.now tokens) }
+    ensures refused { IfErr result (λ fault. fault ≢ lex_fault.Memory → IsFault 4 text.now fault) }
 {
     let mut tokens = Vec::new(alloc);
     let mut place = Place { line: 1, col: 1 };

@@ -13,7 +13,7 @@ mod words;
 pub use fault::LexFault;
 pub use laws::{
     faults_are_one, language_2_has_the_tokens_of_1, language_3_has_the_tokens_of_2,
-    pieces_are_longest, tokens_are_one, tokens_are_spans,
+    language_4_has_the_tokens_of_3, pieces_are_longest, tokens_are_one, tokens_are_spans,
 };
 pub use lexer::lex;
 pub use place::{Place, place_after};

@@ -39,7 +39,7 @@ impl Piece {
 /// The piece at the front of a text.
 pub(crate) fn piece_at(text: &[u8]) -> Option<Piece>
     requires { length text.now < 2 ^ 32 }
-    ensures { result ≡ option_map shape_of (reading.front 3 text.now) }
+    ensures { result ≡ option_map shape_of (reading.front 4 text.now) }
 {
     let first = *text.first()?;
     if is_space(first) {
@@ -54,7 +54,7 @@ pub(crate) fn piece_at(text: &[u8]) -> Option<Piece>
 /// The word at the front, if the text begins with bytes of a word.
 fn word_at(text: &[u8]) -> Option<Piece>
     requires { 0 < prefix_len is_word text.now }
-    ensures { result ≡ option_map shape_of (reading.word_piece 3 text.now) }
+    ensures { result ≡ option_map shape_of (reading.word_piece 4 text.now) }
 {
     let len = word_len(text);
     let kind = word_kind(&text[..len])?;
@@ -72,7 +72,7 @@ fn word_len(text: &[u8]) -> usize
 /// The comment or the sign at the front.
 fn mark_at(text: &[u8]) -> Option<Piece>
     requires { length text.now < 2 ^ 32 }
-    ensures { result ≡ option_map shape_of (reading.mark_piece 3 text.now) }
+    ensures { result ≡ option_map shape_of (reading.mark_piece 4 text.now) }
 {
     if text.starts_with(b"//") {
         return Some(Piece::blank(2 + line_len(&text[2..])));
@@ -109,7 +109,7 @@ fn close_at(text: &[u8]) -> Option<usize>
 /// What a word is: a keyword, a name or a number.
 fn word_kind(word: &[u8]) -> Option<TokenKind>
     requires { 0 < length word.now }
-    ensures { result ≡ option_map kind_of (reading.word_token 3 word.now) }
+    ensures { result ≡ option_map kind_of (reading.word_token 4 word.now) }
 {
     if !begins_with_letter(word) {
         return Some(TokenKind::Number(int_of(word)?));

@@ -63,14 +63,14 @@ static SIGNS: [Sign; 29] = [
 
 /// The keyword with this spelling.
 pub(crate) fn keyword_of(word: &[u8]) -> Option<Keyword>
-    ensures { result ≡ keyword_of 3 word.now }
+    ensures { result ≡ keyword_of 4 word.now }
 {
     KEYWORDS.iter().copied().find(|k| k.text() == word)
 }
 
 /// The longest sign at the front.
 pub(crate) fn sign_at(text: &[u8]) -> Option<Sign>
-    ensures { result ≡ sign_at 3 text.now }
+    ensures { result ≡ sign_at 4 text.now }
 {
     SIGNS.iter().copied().find(|s| text.starts_with(s.text()))
 }

@@ -27,14 +27,15 @@ use Rattle.std.proofs.Common.{
 use Rattle.std.proofs.lemmas.Bool.{cases_lt}
 use Rattle.std.proofs.lemmas.Option.{none-some, same_Some}
 use Rattle.tc_code.specs.Expr.{Expr}
+use Rattle.tc_code.specs.declared.cell.Cell.TheVariants.{Fixed, Element}
 use Rattle.tc_code.specs.declared.instr.Instr.{Instr}
-use Rattle.tc_code.specs.declared.instr.Instr.TheVariants.{Set, Load, LoadAt, Store, StoreAt, Inside, Branch, Goto, Holds, Lock, Unlock, Sleep, Wake}
-use Rattle.tc_code.specs.declared.instr.Instr.TheVariants.{Signal, Broadcast, Create, Ready, Join, Assert, Nonzero, InRange, Swap, Cas, Fence, Stbar, Exit}
+use Rattle.tc_code.specs.declared.instr.Instr.TheVariants.{Set, Load, Store, Inside, Branch, Goto, Holds, Lock, Unlock, Sleep, Wake}
+use Rattle.tc_code.specs.declared.instr.Instr.TheVariants.{Signal, Broadcast, Create, Ready, Join, Assert, Nonzero, InRange, Modify, Fence, Stbar, Exit}
 use Rattle.tc_code.specs.Lawful.{target, is_bound, keeps, StandsBefore}
 
 -- whether an instruction belongs to the one before it: no jump leads to it
 abbrev pub is_glued : Instr → Bool
-is_glued (LoadAt t a len i) = true
+is_glued (Load t (Element a len i)) = true
 is_glued i = is_bound i
 
 -- a jump may lead to a place
@@ -63,14 +64,16 @@ May all s e k (Unlock m) = StandsBefore all k (Holds m)
 May all s e k (Sleep c m) = StandsBefore all k (Holds m) × (slice_get all (k + 1) ≡ Some (Wake c m))
 May all s e k (Wake c m) = StandsBefore all k (Sleep c m)
 May all s e k (Join h) = StandsBefore all k (Ready h)
-May all s e k (LoadAt t a len i) = StandsBefore all k (Inside len i)
-May all s e k (StoreAt a len i v) = IsTested all s e k len i
+May all s e k (Load t (Element a len i)) = StandsBefore all k (Inside len i)
+May all s e k (Store (Element a len i) v) = IsTested all s e k len i
+May all s e k (Modify t (Element a len i) u) = IsTested all s e k len i
 May all s e k (Branch c to) = Lands all s e to
 May all s e k (Goto to) = Lands all s e to
 May all s e k Exit = ⊥
 May all s e k (Set t v) = Unit {0}
-May all s e k (Load t c) = Unit {0}
-May all s e k (Store c v) = Unit {0}
+May all s e k (Load t (Fixed c)) = Unit {0}
+May all s e k (Store (Fixed c) v) = Unit {0}
+May all s e k (Modify t (Fixed c) u) = Unit {0}
 May all s e k (Inside len i) = Unit {0}
 May all s e k (Holds m) = Unit {0}
 May all s e k (Lock m) = Unit {0}
@@ -81,8 +84,6 @@ May all s e k (Ready h) = Unit {0}
 May all s e k (Assert v) = Unit {0}
 May all s e k (Nonzero v) = Unit {0}
 May all s e k (InRange v) = Unit {0}
-May all s e k (Swap t c v) = Unit {0}
-May all s e k (Cas t c v w) = Unit {0}
 May all s e k Fence = Unit {0}
 May all s e k Stbar = Unit {0}
 
@@ -145,18 +146,20 @@ larger_tested all s e s' e' k len index low within spares t = record {
 
 larger : (all : List Instr) (s e s' e' k : ℕ) (i : Instr) → s ≤ s' → e' ≤ e → (e' < e → IsFree all e') → Spares all s e s' e' → k < e'
     → May all s' e' k i → May all s e k i
-larger all s e s' e' k (StoreAt a len index v) low high free spares within h = larger_tested all s e s' e' k len index low within spares h
+larger all s e s' e' k (Store (Element a len index) v) low high free spares within h = larger_tested all s e s' e' k len index low within spares h
+larger all s e s' e' k (Modify t (Element a len index) u) low high free spares within h = larger_tested all s e s' e' k len index low within spares h
 larger all s e s' e' k (Branch c to) low high free spares within h = larger_lands all s e s' e' to low high free h
 larger all s e s' e' k (Goto to) low high free spares within h = larger_lands all s e s' e' to low high free h
 larger all s e s' e' k (Unlock m) low high free spares within h = h
 larger all s e s' e' k (Sleep c m) low high free spares within h = h
 larger all s e s' e' k (Wake c m) low high free spares within h = h
 larger all s e s' e' k (Join m) low high free spares within h = h
-larger all s e s' e' k (LoadAt t a len index) low high free spares within h = h
+larger all s e s' e' k (Load t (Element a len index)) low high free spares within h = h
 larger all s e s' e' k Exit low high free spares within h = h
 larger all s e s' e' k (Set t v) low high free spares within h = h
-larger all s e s' e' k (Load t c) low high free spares within h = h
-larger all s e s' e' k (Store c v) low high free spares within h = h
+larger all s e s' e' k (Load t (Fixed c)) low high free spares within h = h
+larger all s e s' e' k (Store (Fixed c) v) low high free spares within h = h
+larger all s e s' e' k (Modify t (Fixed c) u) low high free spares within h = h
 larger all s e s' e' k (Inside len index) low high free spares within h = h
 larger all s e s' e' k (Holds m) low high free spares within h = h
 larger all s e s' e' k (Lock m) low high free spares within h = h
@@ -167,8 +170,6 @@ larger all s e s' e' k (Ready t) low high free spares within h = h
 larger all s e s' e' k (Assert v) low high free spares within h = h
 larger all s e s' e' k (Nonzero v) low high free spares within h = h
 larger all s e s' e' k (InRange v) low high free spares within h = h
-larger all s e s' e' k (Swap t c v) low high free spares within h = h
-larger all s e s' e' k (Cas t c v w) low high free spares within h = h
 larger all s e s' e' k Fence low high free spares within h = h
 larger all s e s' e' k Stbar low high free spares within h = h
 
@@ -383,19 +384,19 @@ looped_back all s m n c test back a b =
       starts = λ some. free_s;
     }
 
--- after the test of an index, instructions that don't change the index, and then the store
-pub stored_after : (all : List Instr) (s m first len : ℕ) (index value : Expr) → slice_get all s ≡ Some (Inside len index)
-    → slice_get all m ≡ Some (StoreAt first len index value)
+-- after the test of an index, instructions that don't change the index, and then the access
+pub accessed_after : (all : List Instr) (s m len : ℕ) (index : Expr) (access : Instr) → is_glued access ≡ false → target access ≡ None
+    → (IsTested all s (m + 1) m len index → May all s (m + 1) m access) → slice_get all s ≡ Some (Inside len index) → slice_get all m ≡ Some access
     → ((at : ℕ) (i : Instr) → slice_get all at ≡ Some i → s < at → at < m → IsTrue (keeps index i)) → Block all (s + 1) m → Block all s (m + 1)
-stored_after all s m first len index value test write kept a =
+accessed_after all s m len index access unglued leads_nowhere may test write kept a =
     let ends : s + 1 ≤ m = a.ends in
-    let free_m : IsFree all m = free_at all m (StoreAt first len index value) write refl in
+    let free_m : IsFree all m = free_at all m access write unglued in
     let spares : Spares all s (m + 1) (s + 1) m = λ from to i above below outside there leads.
     elim outside [
       | inl less ↦ let same : from ≡ s = omega (arith, less, above) in
           absurd (no_jump all s (Inside len index) i to test refl (subst (λ n. slice_get all n ≡ Some i) same there) leads)
       | inr more ↦ let same : from ≡ m = omega (arith, more, below) in
-          absurd (no_jump all m (StoreAt first len index value) i to write refl (subst (λ n. slice_get all n ≡ Some i) same there) leads)
+          absurd (no_jump all m access i to write leads_nowhere (subst (λ n. slice_get all n ≡ Some i) same there) leads)
     ] in
     let tested : IsTested all s (m + 1) m len index = record {
       place = s;
@@ -408,7 +409,7 @@ stored_after all s m first len index value test write kept a =
             | inl later ↦ elim (cases_lt from m) [
               | inl inside ↦ (later, inside)
               | inr end ↦ let same : from ≡ m = omega (arith, end, below) in
-                  absurd (no_jump all m (StoreAt first len index value) i to write refl (subst (λ n. slice_get all n ≡ Some i) same there) leads)
+                  absurd (no_jump all m access i to write leads_nowhere (subst (λ n. slice_get all n ≡ Some i) same there) leads)
             ]
             | inr here ↦ let same : from ≡ s = omega (arith, here, above) in
                 absurd (no_jump all s (Inside len index) i to test refl (subst (λ n. slice_get all n ≡ Some i) same there) leads)
@@ -423,8 +424,7 @@ stored_after all s m first len index value test write kept a =
               | inl inside ↦ inner all s (m + 1) (s + 1) m (omega arith) (omega arith) (λ less. free_m) spares a k i (omega (arith, later)) inside there
               | inr end ↦
                   let same : m ≡ k = omega (arith, end, below) in
-                  stands_there all s (m + 1) m k (StoreAt first len index value) i same write there
-                  (subst (λ n. IsTested all s (m + 1) n len index) same tested)
+                  stands_there all s (m + 1) m k access i same write there (subst (λ n. May all s (m + 1) n access) same (may tested))
             ]
           ];
       starts = λ some. free_at all s (Inside len index) test refl;

@@ -31,22 +31,24 @@ use Rattle.std.proofs.Common.{
 use Rattle.std.specs.List.{list_all}
 use Rattle.std.proofs.lemmas.Bool.{cases_lt, true≢false}
 use Rattle.std.proofs.lemmas.List.{append-nil}
-use Rattle.std.proofs.lemmas.Option.{none-some, slice_get_within}
+use Rattle.std.proofs.lemmas.Option.{none-some, same_Some, slice_get_within}
 use Rattle.tc_code.specs.Expr.{Expr}
+use Rattle.tc_code.specs.declared.cell.Cell.{Cell}
+use Rattle.tc_code.specs.declared.cell.Cell.TheVariants.{Element}
 use Rattle.tc_code.specs.declared.instr.Instr.{Instr}
-use Rattle.tc_code.specs.declared.instr.Instr.TheVariants.{LoadAt, StoreAt, Inside, Unlock, Sleep, Wake, Join, Exit}
+use Rattle.tc_code.specs.declared.instr.Instr.TheVariants.{Load, Store, Modify, Inside, Unlock, Sleep, Wake, Join, Exit}
 use Rattle.tc_code.specs.Code.{Code}
 use Rattle.tc_code.specs.Lawful as lawful
-use Rattle.tc_code.specs.Lawful.{names_what_is, keeps_apart, is_bound, target, StandsBefore, IsTarget, IsGuarded, IsLawfulFunction}
+use Rattle.tc_code.specs.Lawful.{accessed, names_what_is, keeps_apart, is_bound, target, StandsBefore, IsTarget, IsGuarded, IsLawfulFunction}
 use Rattle.tc_code.specs.declared.code.Func.{Func}
-use Rattle.tc_lower.proofs.Blocks.{Block, Lands, is_glued, block_lands, there_is}
+use Rattle.tc_lower.proofs.Blocks.{Block, IsTested, Lands, is_glued, block_lands, there_is}
 use Rattle.tc_lower.proofs.Ints.{AllFine, fine_append, fine_at, none}
 use Rattle.tc_lower.proofs.Parts.{IsAt, at_right, at_first, all_append, all_pass, first_true, second_true}
 use Rattle.tc_lower.proofs.Sound.{names_apart}
 
 -- an instruction to which a jump may lead isn't bound to the one before it
 unbound : (i : Instr) → is_glued i ≡ false → is_bound i ≡ false
-unbound (LoadAt t a len index) h = refl
+unbound (Load t c) h = refl
 unbound (Unlock m) h = h
 unbound (Sleep c m) h = h
 unbound (Wake c m) h = h
@@ -113,10 +115,10 @@ module _ (code : Code) (f : Func) (body : List Instr) (whole : f.instrs ≡ body
             record { instr = Exit; there = subst (λ p. slice_get f.instrs p ≡ Some Exit) same exit_at; unbound = refl }
       ]
 
-  load_guarded : (k slot first len : ℕ) (index : Expr) → slice_get f.instrs k ≡ Some (LoadAt slot first len index) → IsGuarded f.instrs len index k
+  load_guarded : (k slot first len : ℕ) (index : Expr) → slice_get f.instrs k ≡ Some (Load slot (Element first len index)) → IsGuarded f.instrs len index k
   load_guarded k slot first len index there =
-      let within = inside k (LoadAt slot first len index) there (λ e. absurd cc) in
-      let test = before_is f.instrs k (Inside len index) (block.stands k (LoadAt slot first len index) (omega arith) within there) in (
+      let within = inside k (Load slot (Element first len index)) there (λ e. absurd cc) in
+      let test = before_is f.instrs k (Inside len index) (block.stands k (Load slot (Element first len index)) (omega arith) within there) in (
         test.0,
         record {
           before = omega (arith, test.1);
@@ -126,24 +128,39 @@ module _ (code : Code) (f : Func) (body : List Instr) (whole : f.instrs ≡ body
               let same : to ≡ k = omega (arith, test.1, low, high) in
               let l = jump_inside from to i here leads in
               let less : to < length body = omega (arith, same, within) in
-              absurd (true≢false (l.free less (LoadAt slot first len index) (subst (λ p. slice_get f.instrs p ≡ Some (LoadAt slot first len index)) (sym
+              absurd (true≢false (l.free less (Load slot (Element first len index)) (subst (λ p. slice_get f.instrs p ≡ Some (Load slot (Element first len index))) (sym
               same) there)));
         },
       )
 
-  store_guarded : (k first len : ℕ) (index value : Expr) → slice_get f.instrs k ≡ Some (StoreAt first len index value) → IsGuarded f.instrs len index k
-  store_guarded k first len index value there =
-      let within = inside k (StoreAt first len index value) there (λ e. absurd cc) in
-      let t = block.stands k (StoreAt first len index value) (omega arith) within there in (
-        t.place,
-        record {
-          before = t.before;
-          test = t.test;
-          kept = t.kept;
-          enters = λ from to i here leads low high.
-              t.enters from to i (omega arith) (inside from i here (λ e. none-some to (ap target (sym e) ∙ leads))) here leads low high;
-        },
-      )
+  tested_guarded : (k len : ℕ) (index : Expr) → IsTested f.instrs 0 (length body) k len index → IsGuarded f.instrs len index k
+  tested_guarded k len index t = (
+    t.place,
+    record {
+      before = t.before;
+      test = t.test;
+      kept = t.kept;
+      enters = λ from to i here leads low high.
+          t.enters from to i (omega arith) (inside from i here (λ e. none-some to (ap target (sym e) ∙ leads))) here leads low high;
+    },
+  )
+
+  access_guarded : (k first len : ℕ) (i : Instr) (index : Expr) → slice_get f.instrs k ≡ Some i → accessed i ≡ Some (Element first len index)
+      → IsGuarded f.instrs len index k
+  access_guarded k first len (Load slot c) index there e =
+      let same : c ≡ Element first len index = same_Some c (Element first len index) e in
+      load_guarded k slot first len index (subst (λ (c : Cell Expr). slice_get f.instrs k ≡ Some (Load slot c)) same there)
+  access_guarded k first len (Store c v) index there e =
+      let same : c ≡ Element first len index = same_Some c (Element first len index) e in
+      let here = subst (λ (c : Cell Expr). slice_get f.instrs k ≡ Some (Store c v)) same there in
+      tested_guarded k len index
+      (block.stands k (Store (Element first len index) v) (omega arith) (inside k (Store (Element first len index) v) here (λ e. absurd cc)) here)
+  access_guarded k first len (Modify slot c u) index there e =
+      let same : c ≡ Element first len index = same_Some c (Element first len index) e in
+      let here = subst (λ (c : Cell Expr). slice_get f.instrs k ≡ Some (Modify slot c u)) same there in
+      tested_guarded k len index
+      (block.stands k (Modify slot (Element first len index) u) (omega arith) (inside k (Modify slot (Element first len index) u) here (λ e. absurd cc)) here)
+  access_guarded k first len _ index there e = absurd (none-some _ e)
 
   -- each instruction names existing things, and treats the arrays as separate
   each_names : (arrays : List lawful.Array) → IsTrue (list_all (names_apart arrays code f) body) → (k : ℕ) (i : Instr) → slice_get f.instrs k ≡ Some i
@@ -169,8 +186,7 @@ module _ (code : Code) (f : Func) (body : List Instr) (whole : f.instrs ≡ body
     wait = λ k c m there. (block.stands k (Sleep c m) (omega arith) (inside k (Sleep c m) there (λ e. absurd cc)) there).1;
     wake = λ k c m there. block.stands k (Wake c m) (omega arith) (inside k (Wake c m) there (λ e. absurd cc)) there;
     join = λ k h there. block.stands k (Join h) (omega arith) (inside k (Join h) there (λ e. absurd cc)) there;
-    load = load_guarded;
-    store = store_guarded;
+    access = access_guarded;
     last = let same : length body ≡ length f.instrs - 1 = omega (arith, size) in subst (λ p. slice_get f.instrs p ≡ Some Exit) same exit_at;
     only = exit_only;
   }

@@ -1,6 +1,7 @@
 -- If the numbers of a program are ints, those of its code are ints.
 use Rattle.std.proofs.Common.{◌≡◌, ℕ, zero, suc, ◌+◌, Bool, true, false, cond, nat_eq, List, [], ◌∷◌, ◌++◌, length, replicate, Option, Some, None, pos, arith}
 use Rattle.std.proofs.Common.{slice_get, subst}
+use Rattle.std.specs.Prelude.{IfSome}
 use Rattle.std.specs.List.{All}
 use Rattle.std.proofs.lemmas.List.Elements.{All-nil, All-cons, All-append, All-replicate}
 use Rattle.std.proofs.lemmas.Option.{none-some, same_Some}
@@ -8,10 +9,15 @@ use Rattle.int_ops.specs.Arith.{IsInt, negated}
 use Rattle.int_ops.specs.declared.arith.BinOp.{BinOp}
 use Rattle.int_ops.specs.declared.arith.BinOp.TheVariants as binary
 use Rattle.int_ops.specs.declared.arith.UnOp.TheVariants.{Neg}
+use Rattle.int_ops.specs.Updates.{operands_of}
+use Rattle.int_ops.specs.declared.update.Update.{Update}
+use Rattle.int_ops.specs.declared.update.Update.TheVariants as update
 use Rattle.int_ops.proofs.Ints.{unary_int}
 use Rattle.tc_code.specs.Expr as code_expr
 use Rattle.tc_code.specs.Expr.{Expr, HasInts}
 use Rattle.tc_code.specs.Lawful.{exprs_of}
+use Rattle.tc_code.specs.declared.cell.Cell.{Cell as CodeCell}
+use Rattle.tc_code.specs.declared.cell.Cell.TheVariants as cell
 use Rattle.tc_code.specs.declared.instr.Instr.{Instr}
 use Rattle.tc_code.specs.declared.instr.Instr.TheVariants as instr
 use Rattle.tc_code.specs.declared.instr.Instr.TheVariants.{Set, Branch, Goto, Create}
@@ -45,6 +51,7 @@ use Rattle.tc_tree.specs.Grammar.{
   Binary,
   binary_sign,
   expression_then,
+  index_then,
   others_then,
   list_then,
   Statement,
@@ -77,8 +84,10 @@ use Rattle.tc_lower.specs.Statements.{
   test_of_index,
   store,
   creation,
-  swap,
-  cas,
+  cell_of,
+  modification,
+  indexed,
+  updating,
   action,
   wait,
   barrier,
@@ -257,13 +266,22 @@ creation_ints : (o q : Option Thing) (es : List Expr) → All HasInts es → All
 creation_ints (Some (Handle h)) (Some (Function f n)) es g = created_ints (nat_eq n (length es)) h f es g
 creation_ints _ _ es g = tt
 
-swap_ints : (o q : Option Thing) (free : ℕ) (e : Expr) → HasInts e → AllFine (swap o q free e)
-swap_ints (Some (Slot k)) (Some (Cell c)) free e h = (one e h, (one (code_expr.Slot free) tt, tt))
-swap_ints _ _ free e h = (one e h, tt)
+-- the index of a cell, if it has one, is over ints
+abbrev CellFine : Option (CodeCell Expr) → Type 0
+CellFine (Some (cell.Element first len i)) = HasInts i
+CellFine _ = Unit {0}
 
-cas_ints : (o q : Option Thing) (free : ℕ) (e new : Expr) → HasInts e → HasInts new → AllFine (cas o q free e new)
-cas_ints (Some (Slot k)) (Some (Cell c)) free e new g h = (two e new g h, (one (code_expr.Slot free) tt, tt))
-cas_ints _ _ free e new g h = (one e g, tt)
+cell_ints : (o : Option Thing) (i : Option Expr) → IfSome i HasInts → CellFine (cell_of o i)
+cell_ints (Some (Array first len)) (Some i) h = h
+cell_ints (Some (Cell c)) None h = tt
+cell_ints _ _ h = tt
+
+modification_ints : (o : Option Thing) (c : Option (CodeCell Expr)) (free : ℕ) (u : Update Expr) → CellFine c → All HasInts (operands_of u)
+    → AllFine (modification o c free u)
+modification_ints (Some (Slot k)) (Some (cell.Fixed c)) free u g h = (h, (one (code_expr.Slot free) tt, tt))
+modification_ints (Some (Slot k)) (Some (cell.Element first len i)) free u g h =
+    (All-cons HasInts i (operands_of u) g h, (one (code_expr.Slot free) tt, tt))
+modification_ints _ _ free u g h = (one (code_expr.Number (pos 0)) (omega arith), tt)
 
 action_ints : (a : Action) (o : Option Thing) → AllFine (action a o)
 action_ints Join (Some (Handle h)) = (none, (none, tt))
@@ -297,6 +315,36 @@ branched_ints line at test body more others t b o =
     (passing_ints more (next + length others.instrs))) o
 
 module _ (scope : Name → Option Thing) where
+  indexed_ints : (a : Name) (i : Option Expression) (rest : List Word) → AreInts (index_then i rest)
+      → ((at free : ℕ) → AllFine (indexed scope at free a i).instrs × IfSome (indexed scope at free a i).index HasInts) × AreInts rest
+  indexed_ints a None rest h = ((λ at free. (tt, tt)), h)
+  indexed_ints a (Some i) rest h =
+      let k = expression_ints scope i (ASign sign.CloseBracket ∷ rest) h.1 in (
+        λ at free.
+            let v = evaluated scope at free i in
+            let f = k.0 at free in
+            (fine_append v.instrs (test_of_index (scope a) v.value) f.instrs (test_ints (scope a) v.value f.value), f.value),
+        k.1.1,
+      )
+
+  updating_ints : (u : Update Expression) (rest : List Word) → AreInts (others_then (operands_of u) rest)
+      → ((at free : ℕ) → AllFine (updating scope at free u).instrs × All HasInts (operands_of (updating scope at free u).update)) × AreInts rest
+  updating_ints (update.Swap e) rest h =
+      let k = expression_ints scope e rest h.1 in ((λ at free. let f = k.0 at free in (f.instrs, All-cons HasInts _ [] f.value none)), k.1)
+  updating_ints (update.Add e) rest h =
+      let k = expression_ints scope e rest h.1 in ((λ at free. let f = k.0 at free in (f.instrs, All-cons HasInts _ [] f.value none)), k.1)
+  updating_ints (update.Cas e new) rest h =
+      let k = expression_ints scope e (ASign sign.Comma ∷ expression_then new rest) h.1 in
+      let l = expression_ints scope new rest k.1.1 in (
+        λ at free.
+            let old = evaluated scope at free e in
+            let v = evaluated scope (at + length old.instrs) old.free new in
+            let f = k.0 at free in
+            let g = l.0 (at + length old.instrs) old.free in
+            (fine_append old.instrs v.instrs f.instrs g.instrs, All-cons HasInts old.value (v.value ∷ []) f.value (All-cons HasInts v.value [] g.value none)),
+        l.1,
+      )
+
   mutual
     statement_ints : (s : Statement) (rest : List Word) → AreInts (statement_then s rest)
         → ((at free : ℕ) → AllFine (lowered scope at free s).instrs) × AreInts rest
@@ -331,25 +379,18 @@ module _ (scope : Name → Option Thing) where
               fine_append given.instrs (creation (scope h) (scope f) given.values) g.instrs (creation_ints (scope h) (scope f) given.values g.values),
           k.1.1.1,
         )
-    statement_ints (grammar.Swap r x e) rest h =
-        let k = expression_ints scope e (ASign sign.CloseParen ∷ ASign sign.Semicolon ∷ rest) h.1.1.1.1.1.1 in (
+    statement_ints (grammar.Modify r x i u) rest h =
+        let k = indexed_ints x i (others_then (operands_of u) (ASign sign.CloseParen ∷ ASign sign.Semicolon ∷ rest)) h.1.1.1.1.1 in
+        let l = updating_ints u (ASign sign.CloseParen ∷ ASign sign.Semicolon ∷ rest) k.1 in (
           λ at free.
-              let v = evaluated scope at free e in
+              let index = indexed scope at free x i in
+              let place = at + length index.instrs in
+              let given = updating scope place index.free u in
               let f = k.0 at free in
-              fine_append v.instrs (swap (scope r) (scope x) v.free v.value) f.instrs (swap_ints (scope r) (scope x) v.free v.value f.value),
-          k.1.1.1,
-        )
-    statement_ints (grammar.Cas r x e new) rest h =
-        let k = expression_ints scope e (ASign sign.Comma ∷ expression_then new (ASign sign.CloseParen ∷ ASign sign.Semicolon ∷ rest)) h.1.1.1.1.1.1 in
-        let l = expression_ints scope new (ASign sign.CloseParen ∷ ASign sign.Semicolon ∷ rest) k.1.1 in (
-          λ at free.
-              let old = evaluated scope at free e in
-              let v = evaluated scope (at + length old.instrs) old.free new in
-              let f = k.0 at free in
-              let g = l.0 (at + length old.instrs) old.free in
-              fine_append (old.instrs ++ v.instrs) (cas (scope r) (scope x) v.free old.value v.value)
-              (fine_append old.instrs v.instrs f.instrs g.instrs)
-              (cas_ints (scope r) (scope x) v.free old.value v.value f.value g.value),
+              let g = l.0 place index.free in
+              fine_append (index.instrs ++ given.instrs) (modification (scope r) (cell_of (scope x) index.index) given.free given.update)
+              (fine_append index.instrs given.instrs f.0 g.0)
+              (modification_ints (scope r) (cell_of (scope x) index.index) given.free given.update (cell_ints (scope x) index.index f.1) g.1),
           l.1.1.1,
         )
     statement_ints (grammar.Act p a x) rest h = (λ at free. action_ints a (scope x), h.1.1.1.1.1)

@@ -21,6 +21,9 @@ use Rattle.std.proofs.Common.{
   replicate,
   Option,
   Some,
+  None,
+  pos,
+  append_assoc,
   cond,
   refl,
   sym,
@@ -32,14 +35,19 @@ use Rattle.std.proofs.Common.{
 use Rattle.std.specs.List.{list_all}
 use Rattle.std.proofs.lemmas.Bool.Decides.{Decides-eqb}
 use Rattle.std.proofs.lemmas.List.{length-replicate}
+use Rattle.int_ops.specs.Updates.{operands_of}
+use Rattle.int_ops.specs.declared.update.Update.{Update}
+use Rattle.int_ops.specs.declared.update.Update.TheVariants as update
 use Rattle.tc_code.specs.Expr.{Expr, names_slots}
 use Rattle.tc_code.specs.Expr as code_expr
+use Rattle.tc_code.specs.declared.cell.Cell.{Cell as CodeCell}
+use Rattle.tc_code.specs.declared.cell.Cell.TheVariants as cell
 use Rattle.tc_code.specs.declared.instr.Instr.TheVariants as instr
 use Rattle.tc_code.specs.declared.instr.Instr.{Instr}
-use Rattle.tc_code.specs.declared.instr.Instr.TheVariants.{StoreAt, Inside, Branch, Goto}
+use Rattle.tc_code.specs.declared.instr.Instr.TheVariants.{Inside, Branch, Goto}
 use Rattle.tc_code.specs.Code.{Code}
 use Rattle.tc_code.specs.Lawful as lawful
-use Rattle.tc_code.specs.Lawful.{takes, is_outside, is_array, keeps}
+use Rattle.tc_code.specs.Lawful.{takes, has_cell, is_outside, is_array, keeps}
 use Rattle.tc_code.specs.declared.code.Func.{Func}
 use Rattle.tc_tree.specs.declared.expression.Name.{Name}
 use Rattle.tc_tree.specs.declared.statement.Action.{Action}
@@ -59,16 +67,19 @@ use Rattle.tc_lower.specs.Statements.{
   test_of_index,
   store,
   creation,
-  swap,
-  cas,
+  cell_of,
+  modification,
   action,
   wait,
   barrier,
   assigned,
   stored,
   created,
-  swapped,
-  compared,
+  Updating,
+  over_one,
+  updating,
+  indexed,
+  modified,
   asserted,
   looped,
   goes_on,
@@ -87,14 +98,15 @@ use Rattle.tc_lower.proofs.Blocks.{
   skipped,
   forked,
   looped_back,
-  stored_after,
+  IsTested,
+  accessed_after,
   one_block,
   two_block,
   wait_block,
   before_next,
 }
 use Rattle.tc_lower.proofs.Parts.{IsAt, at_left, at_right, at_first, at_next, all_append, all_weaker, all_pass, both_true, first_true, second_true}
-use Rattle.tc_lower.proofs.Sound.{lt_true, le_true, names_more, names_apart, writes_from, keeps_earlier, block_at, stands_at, IfThere, Sound, evaluated_sound}
+use Rattle.tc_lower.proofs.Sound.{lt_true, le_true, names_more, names_apart, writes_from, keeps_earlier, block_at, stands_at, InBounds, IfThere, Sound, after_sound, evaluated_sound}
 
 -- instructions from a place on, with a next free slot before and after them
 pub record Piece (arrays : List lawful.Array) (code : Code) (f : Func) (at free next : ℕ) (is : List Instr) : Type 0 where
@@ -153,43 +165,48 @@ module _ (arrays : List lawful.Array) (code : Code) (f : Func) (base : ℕ) wher
       one_piece at free free (instr.Set k e) (omega arith) (λ few. both_true (nat_lt k f.ints) (names_slots f.ints e)
       (lt_true k f.ints (omega (arith, few, low, there))) (names_more e free f.ints few named)) refl (λ all k. tt)
   assignment_piece at free (Some (Cell c)) e low there named =
-      one_piece at free free (instr.Store c e) (omega arith) (λ few.
+      one_piece at free free (instr.Store (cell.Fixed c) e) (omega arith) (λ few.
       both_true (list_all (is_outside c) arrays) (nat_lt c (length code.memory) && names_slots f.ints e) there.1
       (both_true (nat_lt c (length code.memory)) (names_slots f.ints e) (lt_true c (length code.memory) there.0) (names_more e free f.ints few named)))
       refl (λ all k. tt)
   assignment_piece at free _ e low there named = no_piece at free
 
-  swap_piece : (at free : ℕ) (o q : Option Thing) (e : Expr) → base ≤ free → IfThere arrays code f base o → IfThere arrays code f base q
-      → IsTrue (names_slots free e) → Piece arrays code f at free (free + 1) (swap o q free e)
-  swap_piece at free (Some (Slot k)) (Some (Cell c)) e low slot cell named =
-      both_pieces at free (free + 1) (free + 1) (instr.Swap free c e ∷ []) (instr.Set k (code_expr.Slot free) ∷ [])
-      (one_piece at free (free + 1) (instr.Swap free c e) (omega arith) (λ few.
-      both_true (list_all (is_outside c) arrays) (nat_lt free f.ints && nat_lt c (length code.memory) && names_slots f.ints e) cell.1
-      (both_true (nat_lt free f.ints && nat_lt c (length code.memory)) (names_slots f.ints e)
-      (both_true (nat_lt free f.ints) (nat_lt c (length code.memory)) (lt_true free f.ints (omega (arith, few))) (lt_true c (length code.memory) cell.0))
-      (names_more e free f.ints (omega (arith, few)) named))) refl (λ all k. tt))
-      (one_piece (at + 1) (free + 1) (free + 1) (instr.Set k (code_expr.Slot free)) (omega arith) (λ few. both_true (nat_lt k f.ints) (nat_lt free f.ints)
-      (lt_true k f.ints (omega (arith, few, low, slot))) (lt_true free f.ints (omega (arith, few)))) refl (λ all k. tt))
-  swap_piece at free _ _ e low slot cell named =
-      one_piece at free (free + 1) (instr.Set free e) (omega arith) (λ few. both_true (nat_lt free f.ints) (names_slots f.ints e)
-      (lt_true free f.ints (omega (arith, few))) (names_more e free f.ints (omega (arith, few)) named)) refl (λ all k. tt)
+  test_piece : (at free : ℕ) (o : Option Thing) (e : Expr) → IfThere arrays code f base o → IsTrue (names_slots free e)
+      → Piece arrays code f at free free (test_of_index o e)
+  test_piece at free (Some (Array first len)) e there named =
+      one_piece at free free (Inside len e) (omega arith) (λ few. both_true (nat_le len (length code.memory)) (names_slots f.ints e)
+      (le_true len (length code.memory) (omega (arith, there.0))) (names_more e free f.ints few named)) refl (λ all k. tt)
+  test_piece at free _ e there named = no_piece at free
 
-  cas_piece : (at free : ℕ) (o q : Option Thing) (e new : Expr) → base ≤ free → IfThere arrays code f base o → IfThere arrays code f base q
-      → IsTrue (names_slots free e) → IsTrue (names_slots free new) → Piece arrays code f at free (free + 1) (cas o q free e new)
-  cas_piece at free (Some (Slot k)) (Some (Cell c)) e new low slot cell named new_named =
-      both_pieces at free (free + 1) (free + 1) (instr.Cas free c e new ∷ []) (instr.Set k (code_expr.Slot free) ∷ [])
-      (one_piece at free (free + 1) (instr.Cas free c e new) (omega arith) (λ few.
-      both_true (list_all (is_outside c) arrays)
-      (nat_lt free f.ints && nat_lt c (length code.memory) && names_slots f.ints e && names_slots f.ints new) cell.1
-      (both_true (nat_lt free f.ints && nat_lt c (length code.memory) && names_slots f.ints e) (names_slots f.ints new)
-      (both_true (nat_lt free f.ints && nat_lt c (length code.memory)) (names_slots f.ints e)
-      (both_true (nat_lt free f.ints) (nat_lt c (length code.memory)) (lt_true free f.ints (omega (arith, few))) (lt_true c (length code.memory) cell.0))
-      (names_more e free f.ints (omega (arith, few)) named)) (names_more new free f.ints (omega (arith, few)) new_named))) refl (λ all k. tt))
-      (one_piece (at + 1) (free + 1) (free + 1) (instr.Set k (code_expr.Slot free)) (omega arith) (λ few. both_true (nat_lt k f.ints) (nat_lt free f.ints)
-      (lt_true k f.ints (omega (arith, few, low, slot))) (lt_true free f.ints (omega (arith, few)))) refl (λ all k. tt))
-  cas_piece at free _ _ e new low slot cell named new_named =
-      one_piece at free (free + 1) (instr.Set free e) (omega arith) (λ few. both_true (nat_lt free f.ints) (names_slots f.ints e)
-      (lt_true free f.ints (omega (arith, few))) (names_more e free f.ints (omega (arith, few)) named)) refl (λ all k. tt)
+  -- a slot that takes the old value of a cell
+  taken_piece : (at free k : ℕ) → base ≤ free → k < base → Piece arrays code f at (free + 1) (free + 1) (instr.Set k (code_expr.Slot free) ∷ [])
+  taken_piece at free k low slot =
+      one_piece at (free + 1) (free + 1) (instr.Set k (code_expr.Slot free)) (omega arith) (λ few. both_true (nat_lt k f.ints) (nat_lt free f.ints)
+      (lt_true k f.ints (omega (arith, few, low, slot))) (lt_true free f.ints (omega (arith, few)))) refl (λ all k. tt)
+
+  -- what comes of an update of no cell
+  idle_piece : (at free : ℕ) → Piece arrays code f at free (free + 1) (instr.Set free (code_expr.Number (pos 0)) ∷ [])
+  idle_piece at free =
+      one_piece at free (free + 1) (instr.Set free (code_expr.Number (pos 0))) (omega arith)
+      (λ few. both_true (nat_lt free f.ints) true (lt_true free f.ints (omega (arith, few))) refl) refl (λ all k. tt)
+
+  -- what an update names exists
+  update_named : (free : ℕ) (c : CodeCell Expr) (u : Update Expr) → IsTrue (lawful.is_apart arrays c) → IsTrue (has_cell code f c)
+      → IsTrue (list_all (names_slots free) (operands_of u)) → free + 1 ≤ f.ints → IsTrue (names_apart arrays code f (instr.Modify free c u))
+  update_named free c u apart there named few =
+      both_true (lawful.is_apart arrays c) (nat_lt free f.ints && has_cell code f c && list_all (names_slots f.ints) (operands_of u)) apart
+      (both_true (nat_lt free f.ints && has_cell code f c) (list_all (names_slots f.ints) (operands_of u))
+      (both_true (nat_lt free f.ints) (has_cell code f c) (lt_true free f.ints (omega (arith, few))) there)
+      (all_weaker (names_slots free) (names_slots f.ints) (λ e h. names_more e free f.ints (omega (arith, few)) h) (operands_of u) named))
+
+  cell_update_piece : (at free k c : ℕ) (u : Update Expr) → base ≤ free → k < base → InBounds arrays code f base (Cell c)
+      → IsTrue (list_all (names_slots free) (operands_of u))
+      → Piece arrays code f at free (free + 1) (instr.Modify free (cell.Fixed c) u ∷ instr.Set k (code_expr.Slot free) ∷ [])
+  cell_update_piece at free k c u low slot there named =
+      both_pieces at free (free + 1) (free + 1) (instr.Modify free (cell.Fixed c) u ∷ []) (instr.Set k (code_expr.Slot free) ∷ [])
+      (one_piece at free (free + 1) (instr.Modify free (cell.Fixed c) u) (omega arith) (update_named free (cell.Fixed c) u there.1
+      (lt_true c (length code.memory) there.0) named) refl (λ all k. tt))
+      (taken_piece (at + 1) free k low slot)
 
   action_piece : (at free : ℕ) (a : Action) (o : Option Thing) → IfThere arrays code f base o → Piece arrays code f at free free (action a o)
   action_piece at free Join (Some (Handle h)) there =
@@ -270,6 +287,52 @@ module _ (arrays : List lawful.Array) (code : Code) (f : Func) (base : ℕ) wher
         value_and at free v.free e (assignment (scope x) v.value) low
         (assignment_piece (at + length v.instrs) v.free (scope x) v.value (omega (arith, low, s.grows)) (there x) s.value)
 
+    -- an index, its test, instructions that leave the index as it is, and an access of the element
+    guarded_piece : (at free mid next len : ℕ) (index : Evaluated) (is : List Instr) (access : Instr) → Sound arrays code f at free index
+        → len ≤ length code.memory → Piece arrays code f (at + length index.instrs + 1) index.free mid is → IsTrue (list_all (writes_from index.free) is)
+        → mid ≤ next → is_glued access ≡ false → lawful.target access ≡ None
+        → ((all : List Instr) (s e k : ℕ) → IsTested all s e k len index.value → May all s e k access)
+        → (next ≤ f.ints → IsTrue (names_apart arrays code f access))
+        → Piece arrays code f at free next (index.instrs ++ Inside len index.value ∷ [] ++ is ++ access ∷ [])
+    guarded_piece at free mid next len index is access a fits b fresh up unglued leads_nowhere may named =
+        let m = at + length index.instrs in
+        let test = Inside len index.value in
+        let end = m + 1 + length is in
+        let is_place : at + length (index.instrs ++ test ∷ []) ≡ m + 1 = omega (arith, length-append index.instrs (test ∷ [])) in
+        let w_place : at + length (index.instrs ++ test ∷ [] ++ is) ≡ end =
+        omega (arith, length-append (index.instrs ++ test ∷ []) is, length-append index.instrs (test ∷ [])) in
+        let size : at + length (index.instrs ++ test ∷ [] ++ is ++ access ∷ []) ≡ end + 1 =
+        omega (arith, w_place, length-append (index.instrs ++ test ∷ [] ++ is) (access ∷ [])) in
+        record {
+          grows = omega (arith, a.grows, b.grows, up);
+          named = λ few.
+              let i_named : IsTrue (names_slots f.ints index.value) = names_more index.value index.free f.ints (omega (arith, few, b.grows, up)) a.value in
+              all_append (names_apart arrays code f) (index.instrs ++ test ∷ [] ++ is) (access ∷ [])
+              (all_append (names_apart arrays code f) (index.instrs ++ test ∷ []) is
+              (all_append (names_apart arrays code f) index.instrs (test ∷ []) (a.named (omega (arith, few, b.grows, up)))
+              (both_true (nat_le len (length code.memory) && names_slots f.ints index.value) true
+              (both_true (nat_le len (length code.memory)) (names_slots f.ints index.value) (le_true len (length code.memory) fits) i_named) refl))
+              (b.named (omega (arith, few, up))))
+              (both_true (names_apart arrays code f access) true (named few) refl);
+          block = λ all h.
+              let h3 = at_left all at (index.instrs ++ test ∷ [] ++ is) (access ∷ []) h in
+              let h2 = at_left all at (index.instrs ++ test ∷ []) is h3 in
+              let test_at = at_right all at index.instrs (test ∷ []) h2 in
+              let is_at : IsAt all (m + 1) is = stands_at all (at + length (index.instrs ++ test ∷ [])) (m + 1) is is_place
+              (at_right all at (index.instrs ++ test ∷ []) is h3) in
+              let w_at : IsAt all end (access ∷ []) = stands_at all (at + length (index.instrs ++ test ∷ [] ++ is)) end (access ∷ []) w_place
+              (at_right all at (index.instrs ++ test ∷ [] ++ is) (access ∷ []) h) in
+              let kept = λ (k : ℕ) (j : Instr) (here : slice_get all k ≡ Some j) (low : m < k) (high : k < end).
+              all_pass (keeps index.value) all (m + 1) is is_at
+              (all_weaker (writes_from index.free) (keeps index.value) (λ j h. keeps_earlier index.free index.value j a.value h) is fresh)
+              k j (omega (arith, low)) (omega (arith, high)) here in
+              let inside : Block all m (end + 1) =
+              accessed_after all m end len index.value access unglued leads_nowhere (may all m (end + 1) end) (at_first all m test [] test_at)
+              (at_first all end access [] w_at) kept (b.block all is_at) in
+              block_at all at at (end + 1) (at + length (index.instrs ++ test ∷ [] ++ is ++ access ∷ [])) refl (sym size)
+              (both_blocks all at m (end + 1) (a.block all (at_left all at index.instrs (test ∷ []) h2)) inside);
+        }
+
     -- the store to an array, or to no array
     store_piece : (at free : ℕ) (o : Option Thing) (i e : Expression) → base ≤ free → IfThere arrays code f base o
         → let index = evaluated scope at free i in
@@ -278,54 +341,17 @@ module _ (arrays : List lawful.Array) (code : Code) (f : Func) (base : ℕ) wher
         Piece arrays code f at free v.free (index.instrs ++ test ++ v.instrs ++ store o index.value v.value)
     store_piece at free (Some (Array first len)) i e low bounded =
         let index = evaluated scope at free i in
-        let m = at + length index.instrs in
-        let test = Inside len index.value in
-        let v = evaluated scope (m + 1) index.free e in
-        let write = StoreAt first len index.value v.value in
+        let v = evaluated scope (at + length index.instrs + 1) index.free e in
         let a = evaluated_sound arrays code f base scope there at free i low in
-        let b = evaluated_sound arrays code f base scope there (m + 1) index.free e (omega (arith, low, a.grows)) in
-        let end = m + 1 + length v.instrs in
-        let v_place : at + length (index.instrs ++ test ∷ []) ≡ m + 1 = omega (arith, length-append index.instrs (test ∷ [])) in
-        let w_place : at + length (index.instrs ++ test ∷ [] ++ v.instrs) ≡ end =
-        omega (arith, length-append (index.instrs ++ test ∷ []) v.instrs, length-append index.instrs (test ∷ [])) in
-        let size : at + length (index.instrs ++ test ∷ [] ++ v.instrs ++ write ∷ []) ≡ end + 1 =
-        omega (arith, w_place, length-append (index.instrs ++ test ∷ [] ++ v.instrs) (write ∷ [])) in
-        record {
-          grows = omega (arith, a.grows, b.grows);
-          named = λ few.
-              let i_named : IsTrue (names_slots f.ints index.value) = names_more index.value index.free f.ints (omega (arith, few, b.grows)) a.value in
-              let e_named : IsTrue (names_slots f.ints v.value) = names_more v.value v.free f.ints few b.value in
-              let stores = nat_le (first + len) (length code.memory) && names_slots f.ints index.value && names_slots f.ints v.value in
-              all_append (names_apart arrays code f) (index.instrs ++ test ∷ [] ++ v.instrs) (write ∷ [])
-              (all_append (names_apart arrays code f) (index.instrs ++ test ∷ []) v.instrs
-              (all_append (names_apart arrays code f) index.instrs (test ∷ []) (a.named (omega (arith, few, b.grows)))
-              (both_true (nat_le len (length code.memory) && names_slots f.ints index.value) true
-              (both_true (nat_le len (length code.memory)) (names_slots f.ints index.value)
-              (le_true len (length code.memory) (omega (arith, bounded.0))) i_named) refl))
-              (b.named few))
-              (both_true (is_array arrays first len && stores) true
-              (both_true (is_array arrays first len) stores bounded.1
-              (both_true (nat_le (first + len) (length code.memory) && names_slots f.ints index.value) (names_slots f.ints v.value)
-              (both_true (nat_le (first + len) (length code.memory)) (names_slots f.ints index.value) (le_true (first + len) (length code.memory) bounded.0)
-              i_named)
-              e_named)) refl);
-          block = λ all h.
-              let h3 = at_left all at (index.instrs ++ test ∷ [] ++ v.instrs) (write ∷ []) h in
-              let h2 = at_left all at (index.instrs ++ test ∷ []) v.instrs h3 in
-              let test_at = at_right all at index.instrs (test ∷ []) h2 in
-              let v_at : IsAt all (m + 1) v.instrs = stands_at all (at + length (index.instrs ++ test ∷ [])) (m + 1) v.instrs v_place
-              (at_right all at (index.instrs ++ test ∷ []) v.instrs h3) in
-              let w_at : IsAt all end (write ∷ []) = stands_at all (at + length (index.instrs ++ test ∷ [] ++ v.instrs)) end (write ∷ []) w_place
-              (at_right all at (index.instrs ++ test ∷ [] ++ v.instrs) (write ∷ []) h) in
-              let kept = λ (k : ℕ) (j : Instr) (here : slice_get all k ≡ Some j) (low : m < k) (high : k < end).
-              all_pass (keeps index.value) all (m + 1) v.instrs v_at
-              (all_weaker (writes_from index.free) (keeps index.value) (λ j h. keeps_earlier index.free index.value j a.value h) v.instrs b.fresh)
-              k j (omega (arith, low)) (omega (arith, high)) here in
-              let inside : Block all m (end + 1) =
-              stored_after all m end first len index.value v.value (at_first all m test [] test_at) (at_first all end write [] w_at) kept (b.block all v_at) in
-              block_at all at at (end + 1) (at + length (index.instrs ++ test ∷ [] ++ v.instrs ++ write ∷ [])) refl (sym size)
-              (both_blocks all at m (end + 1) (a.block all (at_left all at index.instrs (test ∷ []) h2)) inside);
-        }
+        let b = evaluated_sound arrays code f base scope there (at + length index.instrs + 1) index.free e (omega (arith, low, a.grows)) in
+        let there_is = nat_le (first + len) (length code.memory) && names_slots f.ints index.value in
+        guarded_piece at free v.free v.free len index v.instrs (instr.Store (cell.Element first len index.value) v.value) a (omega (arith, bounded.0))
+        (value_piece (at + length index.instrs + 1) index.free v b) b.fresh (omega arith) refl refl (λ all s e k t. t) (λ few.
+        both_true (is_array arrays first len) (there_is && names_slots f.ints v.value) bounded.1
+        (both_true there_is (names_slots f.ints v.value)
+        (both_true (nat_le (first + len) (length code.memory)) (names_slots f.ints index.value) (le_true (first + len) (length code.memory) bounded.0)
+        (names_more index.value index.free f.ints (omega (arith, few, b.grows)) a.value))
+        (names_more v.value v.free f.ints few b.value)))
     store_piece at free _ i e low bounded =
         let index = evaluated scope at free i in
         let v = evaluated scope (at + length index.instrs + 0) index.free e in
@@ -364,30 +390,111 @@ module _ (arrays : List lawful.Array) (code : Code) (f : Func) (base : ℕ) wher
         both_pieces at free given.free given.free given.instrs (creation (scope h) (scope t) given.values) g.piece
         (creation_piece (at + length given.instrs) given.free (scope h) (scope t) given.values (there h) (there t) g.values)
 
-    swapped_piece : (at free : ℕ) (r x : Name) (e : Expression) → base ≤ free
-        → let w = swapped scope at free r x e in Piece arrays code f at free w.free w.instrs
-    swapped_piece at free r x e low =
-        let v = evaluated scope at free e in
-        let s = evaluated_sound arrays code f base scope there at free e low in
-        value_and at free (v.free + 1) e (swap (scope r) (scope x) v.free v.value) low
-        (swap_piece (at + length v.instrs) v.free (scope r) (scope x) v.value (omega (arith, low, s.grows)) (there r) (there x) s.value)
+    -- the operands of an update, which name existing slots
+    abbrev last_of : Update Expr → Expr
+    last_of (update.Swap v) = v
+    last_of (update.Cas e v) = v
+    last_of (update.Add v) = v
 
-    compared_piece : (at free : ℕ) (r x : Name) (e new : Expression) → base ≤ free
-        → let w = compared scope at free r x e new in Piece arrays code f at free w.free w.instrs
-    compared_piece at free r x e new low =
+    record Operated (at free : ℕ) (given : Updating) : Type 0 where
+      sound : Sound arrays code f at free (record { instrs = given.instrs; value = last_of given.update; free = given.free })
+      named : IsTrue (list_all (names_slots given.free) (operands_of given.update))
+
+    one_operated : (at free : ℕ) (make : Expr → Update Expr) (e : Expression) → base ≤ free → ((v : Expr) → last_of (make v) ≡ v)
+        → ((v : Expr) → operands_of (make v) ≡ v ∷ []) → Operated at free (over_one make (evaluated scope at free e))
+    one_operated at free make e low last only =
+        let v = evaluated scope at free e in
+        let s = evaluated_sound arrays code f base scope there at free e low in record {
+          sound = record {
+            grows = s.grows;
+            value = subst (λ (w : Expr). IsTrue (names_slots v.free w)) (sym (last v.value)) s.value;
+            named = s.named;
+            fresh = s.fresh;
+            block = s.block;
+          };
+          named = subst (λ (es : List Expr). IsTrue (list_all (names_slots v.free) es)) (sym (only v.value))
+              (both_true (names_slots v.free v.value) true s.value refl);
+        }
+
+    operated : (at free : ℕ) (u : Update Expression) → base ≤ free → Operated at free (updating scope at free u)
+    operated at free (update.Swap e) low = one_operated at free update.Swap e low (λ v. refl) (λ v. refl)
+    operated at free (update.Add e) low = one_operated at free update.Add e low (λ v. refl) (λ v. refl)
+    operated at free (update.Cas e new) low =
         let old = evaluated scope at free e in
-        let a = evaluated_sound arrays code f base scope there at free e low in
         let v = evaluated scope (at + length old.instrs) old.free new in
-        let b = evaluated_sound arrays code f base scope there (at + length old.instrs) old.free new (omega (arith, low, a.grows)) in
-        both_pieces at free v.free (v.free + 1) (old.instrs ++ v.instrs) (cas (scope r) (scope x) v.free old.value v.value)
-        (both_pieces at free old.free v.free old.instrs v.instrs (value_piece at free old a) (value_piece (at + length old.instrs) old.free v b))
-        (cas_piece (at + length (old.instrs ++ v.instrs)) v.free (scope r) (scope x) old.value v.value (omega (
-          arith,
-          low,
-          a.grows,
-          b.grows,
-        )) (there r) (there x)
-        (names_more old.value old.free v.free b.grows a.value) b.value)
+        let a = evaluated_sound arrays code f base scope there at free e low in
+        let b = evaluated_sound arrays code f base scope there (at + length old.instrs) old.free new (omega (arith, low, a.grows)) in record {
+          sound = after_sound arrays code f at free old v a b;
+          named = both_true (names_slots v.free old.value) (names_slots v.free v.value && true) (names_more old.value old.free v.free b.grows a.value)
+              (both_true (names_slots v.free v.value) true b.value refl);
+        }
+
+    operands_piece : (at free : ℕ) (u : Update Expression) → base ≤ free
+        → let given = updating scope at free u in Piece arrays code f at free given.free given.instrs
+    operands_piece at free u low =
+        let s = (operated at free u low).sound in record { grows = s.grows; named = s.named; block = s.block }
+
+    -- an update of a single cell, or of none
+    single_piece : (at free : ℕ) (o q : Option Thing) (u : Update Expression) → base ≤ free → IfThere arrays code f base o → IfThere arrays code f base q
+        → let given = updating scope at free u in
+        Piece arrays code f at free (given.free + 1) (given.instrs ++ modification o (cell_of q None) given.free given.update)
+    single_piece at free (Some (Slot k)) (Some (Cell c)) u low slot bounded =
+        let given = updating scope at free u in
+        let g = operated at free u low in
+        both_pieces at free given.free (given.free + 1) given.instrs _ (operands_piece at free u low)
+        (cell_update_piece (at + length given.instrs) given.free k c given.update (omega (arith, low, g.sound.grows)) slot bounded g.named)
+    single_piece at free _ _ u low slot bounded =
+        let given = updating scope at free u in
+        both_pieces at free given.free (given.free + 1) given.instrs _ (operands_piece at free u low) (idle_piece (at + length given.instrs) given.free)
+
+    -- an update of an element, or of none
+    element_piece : (at free : ℕ) (o q : Option Thing) (i : Expression) (u : Update Expression) → base ≤ free → IfThere arrays code f base o
+        → IfThere arrays code f base q
+        → let index = evaluated scope at free i in
+        let test = test_of_index q index.value in
+        let given = updating scope (at + length (index.instrs ++ test)) index.free u in
+        Piece arrays code f at free (given.free + 1)
+        (index.instrs ++ test ++ given.instrs ++ modification o (cell_of q (Some index.value)) given.free given.update)
+    element_piece at free (Some (Slot k)) (Some (Array first len)) i u low slot bounded =
+        let index = evaluated scope at free i in
+        let a = evaluated_sound arrays code f base scope there at free i low in
+        let test = Inside len index.value in
+        let given = updating scope (at + length (index.instrs ++ test ∷ [])) index.free u in
+        let place : at + length (index.instrs ++ test ∷ []) ≡ at + length index.instrs + 1 = omega (arith, length-append index.instrs (test ∷ [])) in
+        let g = operated (at + length (index.instrs ++ test ∷ [])) index.free u (omega (arith, low, a.grows)) in
+        let reached = cell.Element first len index.value in
+        let access = instr.Modify given.free reached given.update in
+        let before = index.instrs ++ test ∷ [] ++ given.instrs in
+        let there_is = λ (few : given.free + 1 ≤ f.ints).
+        both_true (nat_le (first + len) (length code.memory)) (names_slots f.ints index.value) (le_true (first + len) (length code.memory) bounded.0)
+        (names_more index.value index.free f.ints (omega (arith, few, g.sound.grows)) a.value) in
+        subst (Piece arrays code f at free (given.free + 1)) (append_assoc before (access ∷ []) (instr.Set k (code_expr.Slot given.free) ∷ []))
+        (both_pieces at free (given.free + 1) (given.free + 1) (before ++ access ∷ []) (instr.Set k (code_expr.Slot given.free) ∷ [])
+        (guarded_piece at free given.free (given.free + 1) len index given.instrs access a (omega (arith, bounded.0))
+        (subst (λ n. Piece arrays code f n index.free given.free given.instrs) place
+        (operands_piece (at + length (index.instrs ++ test ∷ [])) index.free u (omega (arith, low, a.grows)))) g.sound.fresh (omega arith) refl refl
+        (λ all s e k t. t) (λ few. update_named given.free reached given.update bounded.1 (there_is few) g.named few))
+        (taken_piece (at + length (before ++ access ∷ [])) given.free k (omega (arith, low, a.grows, g.sound.grows)) slot))
+    element_piece at free _ q i u low slot bounded =
+        let index = evaluated scope at free i in
+        let a = evaluated_sound arrays code f base scope there at free i low in
+        let test = test_of_index q index.value in
+        let given = updating scope (at + length (index.instrs ++ test)) index.free u in
+        both_pieces at free given.free (given.free + 1) (index.instrs ++ test ++ given.instrs) _
+        (both_pieces at free index.free given.free (index.instrs ++ test) given.instrs
+        (both_pieces at free index.free index.free index.instrs test (value_piece at free index a)
+        (test_piece (at + length index.instrs) index.free q index.value bounded a.value))
+        (operands_piece (at + length (index.instrs ++ test)) index.free u (omega (arith, low, a.grows))))
+        (idle_piece (at + length (index.instrs ++ test ++ given.instrs)) given.free)
+
+    modified_piece : (at free : ℕ) (r x : Name) (i : Option Expression) (u : Update Expression) → base ≤ free
+        → let w = modified scope at free r x i u in Piece arrays code f at free w.free w.instrs
+    modified_piece at free r x None u low =
+        let same : at ≡ at + 0 = omega arith in
+        subst (λ n. let given = updating scope n free u in
+        Piece arrays code f at free (given.free + 1) (given.instrs ++ modification (scope r) (cell_of (scope x) None) given.free given.update)) same
+        (single_piece at free (scope r) (scope x) u low (there r) (there x))
+    modified_piece at free r x (Some i) u low = element_piece at free (scope r) (scope x) i u low (there r) (there x)
 
     asserted_piece : (at free : ℕ) (e : Expression) → base ≤ free → let w = asserted scope at free e in Piece arrays code f at free w.free w.instrs
     asserted_piece at free e low =
@@ -576,9 +683,8 @@ module _ (arrays : List lawful.Array) (code : Code) (f : Func) (base : ℕ) wher
       lowered_lined at free (grammar.Store a i e) low = on_its_line at free a.place.line (stored scope at free a i e) (store_piece at free (scope a) i e low
           (there a))
       lowered_lined at free (grammar.Create h t es) low = on_its_line at free h.place.line (created scope at free h t es) (created_piece at free h t es low)
-      lowered_lined at free (grammar.Swap r x e) low = on_its_line at free r.place.line (swapped scope at free r x e) (swapped_piece at free r x e low)
-      lowered_lined at free (grammar.Cas r x e new) low =
-          on_its_line at free r.place.line (compared scope at free r x e new) (compared_piece at free r x e new low)
+      lowered_lined at free (grammar.Modify r x i u) low =
+          on_its_line at free r.place.line (modified scope at free r x i u) (modified_piece at free r x i u low)
       lowered_lined at free (grammar.Act p a x) low =
           on_its_line at free p.line (record { instrs = action a (scope x); free = free }) (action_piece at free a (scope x) (there x))
       lowered_lined at free (grammar.Wait p c m) low =

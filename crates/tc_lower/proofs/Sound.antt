@@ -38,8 +38,9 @@ use Rattle.int_ops.specs.declared.arith.BinOp.{BinOp}
 use Rattle.int_ops.specs.declared.arith.BinOp.TheVariants as binary
 use Rattle.tc_code.specs.Expr as code_expr
 use Rattle.tc_code.specs.Expr.{Expr, names_slots, names_slot}
+use Rattle.tc_code.specs.declared.cell.Cell.TheVariants as cell
 use Rattle.tc_code.specs.declared.instr.Instr.{Instr}
-use Rattle.tc_code.specs.declared.instr.Instr.TheVariants.{Set, Load, LoadAt, Inside, Branch, Nonzero, InRange}
+use Rattle.tc_code.specs.declared.instr.Instr.TheVariants.{Set, Load, Inside, Branch, Nonzero, InRange}
 use Rattle.tc_code.specs.Code.{Code}
 use Rattle.tc_code.specs.Lawful as lawful
 use Rattle.tc_code.specs.Lawful.{takes, names_what_is, is_outside, is_array, keeps_apart, written, keeps}
@@ -194,7 +195,7 @@ module _ (arrays : List lawful.Array) (code : Code) (f : Func) (base : ℕ) wher
         (both_true (nat_lt free f.ints) (nat_lt c (length code.memory)) (lt_true free f.ints (omega (arith, few))) (lt_true c (length code.memory) there.0)))
         refl;
     fresh = both_true (nat_le free free) true (le_true free free (omega arith)) refl;
-    block = λ all h. one_block all at (Load free c) (at_first all at (Load free c) [] h) refl (λ k. tt);
+    block = λ all h. one_block all at (Load free (cell.Fixed c)) (at_first all at (Load free (cell.Fixed c)) [] h) refl (λ k. tt);
   }
   variable_sound at free _ low there = nothing_sound arrays code f at free (code_expr.Number (pos 0)) refl
 
@@ -205,19 +206,20 @@ module _ (arrays : List lawful.Array) (code : Code) (f : Func) (base : ℕ) wher
     value = lt_true free (free + 1) (omega arith);
     named = λ few.
         let e_named : IsTrue (names_slots f.ints e) = names_more e free f.ints (omega (arith, few)) named in
-        let load = nat_lt free f.ints && nat_le (a + len) (length code.memory) && names_slots f.ints e in
+        let there_is = nat_le (a + len) (length code.memory) && names_slots f.ints e in
+        let load = nat_lt free f.ints && there_is in
         both_true (nat_le len (length code.memory) && names_slots f.ints e) ((is_array arrays a len && load) && true)
         (both_true (nat_le len (length code.memory)) (names_slots f.ints e) (le_true len (length code.memory) (omega (arith, there.0))) e_named)
         (both_true (is_array arrays a len && load) true
         (both_true (is_array arrays a len) load there.1
-        (both_true (nat_lt free f.ints && nat_le (a + len) (length code.memory)) (names_slots f.ints e)
-        (both_true (nat_lt free f.ints) (nat_le (a + len) (length code.memory)) (lt_true free f.ints (omega (arith, few)))
-        (le_true (a + len) (length code.memory) there.0)) e_named)) refl);
+        (both_true (nat_lt free f.ints) there_is (lt_true free f.ints (omega (arith, few)))
+        (both_true (nat_le (a + len) (length code.memory)) (names_slots f.ints e) (le_true (a + len) (length code.memory) there.0) e_named))) refl);
     fresh = both_true (nat_le free free) true (le_true free free (omega arith)) refl;
     block = λ all h.
-        two_block all at (Inside len e) (LoadAt free a len e) (at_first all at (Inside len e) (LoadAt free a len e ∷ []) h)
-        (at_first all (at + 1) (LoadAt free a len e) [] (at_next all at (Inside len e) (LoadAt free a len e ∷ []) h)) refl (λ k. tt)
-        (before_next all at (Inside len e) (at_first all at (Inside len e) (LoadAt free a len e ∷ []) h));
+        let load = Load free (cell.Element a len e) in
+        two_block all at (Inside len e) load (at_first all at (Inside len e) (load ∷ []) h)
+        (at_first all (at + 1) load [] (at_next all at (Inside len e) (load ∷ []) h)) refl (λ k. tt)
+        (before_next all at (Inside len e) (at_first all at (Inside len e) (load ∷ []) h));
   }
   element_sound at free _ e there named = nothing_sound arrays code f at free e named
 

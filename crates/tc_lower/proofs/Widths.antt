@@ -2,6 +2,11 @@
 use Rattle.std.proofs.Common.{ℕ, ◌+◌, ◌*◌, ◌≤◌, Bool, true, false, cond, nat_eq, List, [], ◌∷◌, ◌++◌, length, Option, Some, None, arith, length-append}
 use Rattle.int_ops.specs.declared.arith.BinOp.{BinOp}
 use Rattle.int_ops.specs.declared.arith.BinOp.TheVariants as binary
+use Rattle.int_ops.specs.Updates.{operands_of}
+use Rattle.int_ops.specs.declared.update.Update.{Update}
+use Rattle.int_ops.specs.declared.update.Update.TheVariants as update
+use Rattle.tc_code.specs.declared.cell.Cell.{Cell as CodeCell}
+use Rattle.tc_code.specs.declared.cell.Cell.TheVariants as cell
 use Rattle.tc_code.specs.Expr.{Expr}
 use Rattle.tc_code.specs.Expr as code_expr
 use Rattle.tc_code.specs.declared.instr.Instr.{Instr}
@@ -25,6 +30,7 @@ use Rattle.tc_tree.specs.Grammar.{
   Binary,
   binary_sign,
   expression_then,
+  index_then,
   others_then,
   list_then,
   Statement,
@@ -48,8 +54,10 @@ use Rattle.tc_lower.specs.Statements.{
   test_of_index,
   store,
   creation,
-  swap,
-  cas,
+  cell_of,
+  modification,
+  indexed,
+  updating,
   action,
   wait,
   goes_on,
@@ -176,13 +184,9 @@ creation_width : (o q : Option Thing) (es : List Expr) → length (creation o q 
 creation_width (Some (Handle h)) (Some (Function f n)) es = created_width (nat_eq n (length es)) (Create h f es)
 creation_width _ _ es = omega arith
 
-swap_width : (o q : Option Thing) (free : ℕ) (e : Expr) → length (swap o q free e) ≤ 2
-swap_width (Some (Slot k)) (Some (Cell c)) free e = omega arith
-swap_width _ _ free e = omega arith
-
-cas_width : (o q : Option Thing) (free : ℕ) (e new : Expr) → length (cas o q free e new) ≤ 2
-cas_width (Some (Slot k)) (Some (Cell c)) free e new = omega arith
-cas_width _ _ free e new = omega arith
+modification_width : (o : Option Thing) (c : Option (CodeCell Expr)) (free : ℕ) (u : Update Expr) → length (modification o c free u) ≤ 2
+modification_width (Some (Slot k)) (Some c) free u = omega arith
+modification_width _ _ free u = omega arith
 
 action_width : (a : Action) (o : Option Thing) → length (action a o) ≤ 2
 action_width Join (Some (Handle h)) = omega arith
@@ -216,6 +220,32 @@ branched_width line at test body more others =
     )
 
 module _ (scope : Name → Option Thing) where
+  indexed_width : (at free : ℕ) (a : Name) (i : Option Expression) (rest : List Word)
+      → length (indexed scope at free a i).instrs + 3 * length rest ≤ 3 * length (index_then i rest)
+  indexed_width at free a None rest = omega arith
+  indexed_width at free a (Some i) rest =
+      let v = evaluated scope at free i in
+      omega (
+        arith,
+        length-append v.instrs (test_of_index (scope a) v.value),
+        test_width (scope a) v.value,
+        expression_width scope at free i (ASign sign.CloseBracket ∷ rest),
+      )
+
+  updating_width : (at free : ℕ) (u : Update Expression) (rest : List Word)
+      → length (updating scope at free u).instrs + 3 * length rest ≤ 3 * length (others_then (operands_of u) rest)
+  updating_width at free (update.Swap e) rest = omega (arith, expression_width scope at free e rest)
+  updating_width at free (update.Add e) rest = omega (arith, expression_width scope at free e rest)
+  updating_width at free (update.Cas e new) rest =
+      let old = evaluated scope at free e in
+      let v = evaluated scope (at + length old.instrs) old.free new in
+      omega (
+        arith,
+        length-append old.instrs v.instrs,
+        expression_width scope at free e (ASign sign.Comma ∷ expression_then new rest),
+        expression_width scope (at + length old.instrs) old.free new rest,
+      )
+
   mutual
     pub statement_width : (at free : ℕ) (s : Statement) (rest : List Word)
         → length (lowered scope at free s).instrs + 3 * length rest ≤ 3 * length (statement_then s rest)
@@ -250,24 +280,16 @@ module _ (scope : Name → Option Thing) where
           creation_width (scope h) (scope f) given.values,
           list_width scope at free es (ASign sign.CloseParen ∷ ASign sign.Semicolon ∷ rest),
         )
-    statement_width at free (grammar.Swap r x e) rest =
-        let v = evaluated scope at free e in
+    statement_width at free (grammar.Modify r x i u) rest =
+        let index = indexed scope at free x i in
+        let given = updating scope (at + length index.instrs) index.free u in
         omega (
           arith,
-          length-append v.instrs (swap (scope r) (scope x) v.free v.value),
-          swap_width (scope r) (scope x) v.free v.value,
-          expression_width scope at free e (ASign sign.CloseParen ∷ ASign sign.Semicolon ∷ rest),
-        )
-    statement_width at free (grammar.Cas r x e new) rest =
-        let old = evaluated scope at free e in
-        let v = evaluated scope (at + length old.instrs) old.free new in
-        omega (
-          arith,
-          length-append (old.instrs ++ v.instrs) (cas (scope r) (scope x) v.free old.value v.value),
-          length-append old.instrs v.instrs,
-          cas_width (scope r) (scope x) v.free old.value v.value,
-          expression_width scope at free e (ASign sign.Comma ∷ expression_then new (ASign sign.CloseParen ∷ ASign sign.Semicolon ∷ rest)),
-          expression_width scope (at + length old.instrs) old.free new (ASign sign.CloseParen ∷ ASign sign.Semicolon ∷ rest),
+          length-append (index.instrs ++ given.instrs) (modification (scope r) (cell_of (scope x) index.index) given.free given.update),
+          length-append index.instrs given.instrs,
+          modification_width (scope r) (cell_of (scope x) index.index) given.free given.update,
+          indexed_width at free x i (others_then (operands_of u) (ASign sign.CloseParen ∷ ASign sign.Semicolon ∷ rest)),
+          updating_width (at + length index.instrs) index.free u (ASign sign.CloseParen ∷ ASign sign.Semicolon ∷ rest),
         )
     statement_width at free (grammar.Act p a x) rest = omega (arith, action_width a (scope x))
     statement_width at free (grammar.Wait p c m) rest = omega (arith, wait_width (scope c) (scope m))

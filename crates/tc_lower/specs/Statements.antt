@@ -1,7 +1,11 @@
 -- Statements as instructions, each with its line.
-use Rattle.std.specs.Prelude.{ℕ, ◌+◌, nat_eq, Bool, true, false, List, [], ◌∷◌, ◌++◌, length, replicate, Option, Some, if◌then◌else◌}
+use Rattle.std.specs.Prelude.{ℕ, ◌+◌, pos, nat_eq, Bool, true, false, List, [], ◌∷◌, ◌++◌, length, replicate, Option, Some, None, if◌then◌else◌}
+use Rattle.int_ops.specs.declared.update.Update.{Update}
+use Rattle.int_ops.specs.declared.update.Update.TheVariants as update
 use Rattle.tc_code.specs.Expr.{Expr}
 use Rattle.tc_code.specs.Expr as code
+use Rattle.tc_code.specs.declared.cell.Cell.{Cell as CodeCell}
+use Rattle.tc_code.specs.declared.cell.Cell.TheVariants as cell
 use Rattle.tc_code.specs.declared.instr.Instr.TheVariants as instr
 use Rattle.tc_code.specs.declared.instr.Instr.{Instr}
 use Rattle.tc_tree.specs.declared.expression.Name.{Name}
@@ -15,8 +19,7 @@ use Rattle.tc_tree.specs.Grammar.{
   Assign,
   Store,
   Create,
-  Swap,
-  Cas,
+  Modify,
   Act,
   Wait,
   Order,
@@ -55,7 +58,7 @@ on_line line w =
 
 abbrev pub assignment : Option Thing → Expr → List Instr
 assignment (Some (Slot k)) e = instr.Set k e ∷ []
-assignment (Some (Cell c)) e = instr.Store c e ∷ []
+assignment (Some (Cell c)) e = instr.Store (cell.Fixed c) e ∷ []
 assignment _ e = []
 
 abbrev pub test_of_index : Option Thing → Expr → List Instr
@@ -63,7 +66,7 @@ test_of_index (Some (Array first len)) i = instr.Inside len i ∷ []
 test_of_index _ i = []
 
 abbrev pub store : Option Thing → Expr → Expr → List Instr
-store (Some (Array first len)) i e = instr.StoreAt first len i e ∷ []
+store (Some (Array first len)) i e = instr.Store (cell.Element first len i) e ∷ []
 store _ i e = []
 
 -- a create, if the thread has as many parameters as there are arguments
@@ -72,16 +75,17 @@ creation (Some (Handle h)) (Some (Function f parameters)) es =
     if nat_eq parameters (length es) then instr.Create h f es ∷ [] else []
 creation _ _ es = []
 
--- a swap: a new slot takes the cell's old value, and the int of the body takes that
-abbrev pub swap : Option Thing → Option Thing → ℕ → Expr → List Instr
-swap (Some (Slot k)) (Some (Cell c)) free e =
-    instr.Swap free c e ∷ instr.Set k (code.Slot free) ∷ []
-swap _ _ free e = instr.Set free e ∷ []
+-- the cell that an update changes: a global's, or an element of an array
+abbrev pub cell_of : Option Thing → Option Expr → Option (CodeCell Expr)
+cell_of (Some (Cell c)) None = Some (cell.Fixed c)
+cell_of (Some (Array first len)) (Some i) = Some (cell.Element first len i)
+cell_of _ _ = None
 
-abbrev pub cas : Option Thing → Option Thing → ℕ → Expr → Expr → List Instr
-cas (Some (Slot k)) (Some (Cell c)) free e new =
-    instr.Cas free c e new ∷ instr.Set k (code.Slot free) ∷ []
-cas _ _ free e new = instr.Set free e ∷ []
+-- an update: a new slot takes the cell's old value, and the int of the body takes that
+abbrev pub modification : Option Thing → Option (CodeCell Expr) → ℕ → Update Expr → List Instr
+modification (Some (Slot k)) (Some c) free u =
+    instr.Modify free c u ∷ instr.Set k (code.Slot free) ∷ []
+modification _ _ free u = instr.Set free (code.Number (pos 0)) ∷ []
 
 abbrev pub action : Action → Option Thing → List Instr
 action Join (Some (Handle h)) = instr.Ready h ∷ instr.Join h ∷ []
@@ -122,20 +126,49 @@ created scope at free h f es =
     let given = arguments scope at free es in
     record { instrs = given.instrs ++ creation (scope h) (scope f) given.values; free = given.free }
 
-abbrev pub swapped : (Name → Option Thing) → ℕ → ℕ → Name → Name → Expression → Written
-swapped scope at free r x e =
-    let v = evaluated scope at free e in
-    record { instrs = v.instrs ++ swap (scope r) (scope x) v.free v.value; free = v.free + 1 }
+-- the index of an update, if it has one, with the test that it is inside its array
+pub record Indexed : Type 0 where
+  pub instrs : List Instr
+  pub index : Option Expr
+  pub free : ℕ
 
-abbrev pub compared : (Name → Option Thing) → ℕ → ℕ → Name → Name → Expression → Expression
-    → Written
-compared scope at free r x e new =
+abbrev pub indexed : (Name → Option Thing) → ℕ → ℕ → Name → Option Expression → Indexed
+indexed scope at free a None = record { instrs = []; index = None; free = free }
+indexed scope at free a (Some i) =
+    let v = evaluated scope at free i in
+    record {
+      instrs = v.instrs ++ test_of_index (scope a) v.value;
+      index = Some v.value;
+      free = v.free;
+    }
+
+-- an update over the values of its operands
+pub record Updating : Type 0 where
+  pub instrs : List Instr
+  pub update : Update Expr
+  pub free : ℕ
+
+-- an update of one operand
+abbrev pub over_one : (Expr → Update Expr) → Evaluated → Updating
+over_one make v = record { instrs = v.instrs; update = make v.value; free = v.free }
+
+abbrev pub updating : (Name → Option Thing) → ℕ → ℕ → Update Expression → Updating
+updating scope at free (update.Swap e) = over_one update.Swap (evaluated scope at free e)
+updating scope at free (update.Cas e new) =
     let old = evaluated scope at free e in
     let v = evaluated scope (at + length old.instrs) old.free new in
+    record { instrs = old.instrs ++ v.instrs; update = update.Cas old.value v.value; free = v.free }
+updating scope at free (update.Add e) = over_one update.Add (evaluated scope at free e)
+
+abbrev pub modified : (Name → Option Thing) → ℕ → ℕ → Name → Name → Option Expression
+    → Update Expression → Written
+modified scope at free r x i u =
+    let index = indexed scope at free x i in
+    let given = updating scope (at + length index.instrs) index.free u in
     record {
-      instrs = old.instrs ++ v.instrs
-          ++ cas (scope r) (scope x) v.free old.value v.value;
-      free = v.free + 1;
+      instrs = index.instrs ++ given.instrs
+          ++ modification (scope r) (cell_of (scope x) index.index) given.free given.update;
+      free = given.free + 1;
     }
 
 abbrev pub asserted : (Name → Option Thing) → ℕ → ℕ → Expression → Written
@@ -190,8 +223,7 @@ abbrev mutual
   lowered scope at free (Assign x e) = on_line x.place.line (assigned scope at free x e)
   lowered scope at free (Store a i e) = on_line a.place.line (stored scope at free a i e)
   lowered scope at free (Create h f es) = on_line h.place.line (created scope at free h f es)
-  lowered scope at free (Swap r x e) = on_line r.place.line (swapped scope at free r x e)
-  lowered scope at free (Cas r x e new) = on_line r.place.line (compared scope at free r x e new)
+  lowered scope at free (Modify r x i u) = on_line r.place.line (modified scope at free r x i u)
   lowered scope at free (Act p a x) =
       on_line p.line (record { instrs = action a (scope x); free = free })
   lowered scope at free (Wait p c m) =

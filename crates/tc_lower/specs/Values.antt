@@ -5,8 +5,9 @@ use Rattle.int_ops.specs.declared.arith.BinOp.TheVariants as binary
 use Rattle.int_ops.specs.declared.arith.UnOp.TheVariants.{Not}
 use Rattle.tc_code.specs.Expr as code
 use Rattle.tc_code.specs.Expr.{Expr}
+use Rattle.tc_code.specs.declared.cell.Cell.TheVariants as cell
 use Rattle.tc_code.specs.declared.instr.Instr.{Instr}
-use Rattle.tc_code.specs.declared.instr.Instr.TheVariants.{Set, Load, LoadAt, Inside, Branch, Nonzero, InRange}
+use Rattle.tc_code.specs.declared.instr.Instr.TheVariants.{Set, Load, Inside, Branch, Nonzero, InRange}
 use Rattle.tc_tree.specs.declared.expression.Name.{Name}
 use Rattle.tc_tree.specs.declared.expression.Operator.{Operator}
 use Rattle.tc_tree.specs.declared.expression.Operator.TheVariants.{
@@ -43,13 +44,13 @@ pub record Evaluated : Type 0 where
 abbrev pub variable : Option Thing → ℕ → Evaluated
 variable (Some (Slot k)) free = record { instrs = []; value = code.Slot k; free = free }
 variable (Some (Cell c)) free =
-    record { instrs = Load free c ∷ []; value = code.Slot free; free = free + 1 }
+    record { instrs = Load free (cell.Fixed c) ∷ []; value = code.Slot free; free = free + 1 }
 variable _ free = record { instrs = []; value = code.Number (pos 0); free = free }
 
 -- an element: its index is tested, then it is loaded into the next free slot
 abbrev pub element : Option Thing → Expr → ℕ → Evaluated
 element (Some (Array first len)) i free = record {
-  instrs = Inside len i ∷ LoadAt free first len i ∷ [];
+  instrs = Inside len i ∷ Load free (cell.Element first len i) ∷ [];
   value = code.Slot free;
   free = free + 1;
 }

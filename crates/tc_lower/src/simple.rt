@@ -1,12 +1,13 @@
 //! Statements without inner statements, as instructions.
 ghost use Rattle.std.specs.Prelude.{◌≡◌, ◌++◌, [], ◌∷◌, OnOk, IfOk, length};
 ghost use Rattle.tc_lower.specs.Statements as spec;
-ghost use Rattle.tc_lower.specs.helpers.Seen.{arguments_by, plain_scope, HasRoom, IsAdded};
+ghost use Rattle.tc_lower.specs.helpers.Seen.{arguments_by, indexed_by, updating_by, plain_scope, HasRoom, IsAdded};
 
 use crate::things::{Scope, Thing, thing_of};
 use crate::value::{Writer, copy};
+use int_ops::Update;
 use std::alloc::{AllocError, Global};
-use tc_code::{Expr, Exprs, Instr};
+use tc_code::{Cell, Expr, Exprs, Instr};
 use tc_tree::{Action, Barrier, Expression, Name};
 
 impl Writer {
@@ -26,7 +27,10 @@ impl Writer {
         let value = self.evaluate(alloc, scope, value)?;
         match thing_of(scope, name) {
             Some(Thing::Slot(slot)) => self.draft.push(Instr::Set { slot, value }),
-            Some(Thing::Cell(cell)) => self.draft.push(Instr::Store { cell, value }),
+            Some(Thing::Cell(cell)) => {
+                let cell = Cell::Fixed(cell);
+                self.draft.push(Instr::Store { cell, value })
+            }
             _ => Ok(()),
         }
     }
@@ -50,12 +54,14 @@ impl Writer {
         self.test_index(alloc, array, &index)?;
         let value = self.evaluate(alloc, scope, value)?;
         match array {
-            Some(Thing::Array(first, length)) => self.draft.push(Instr::StoreAt {
-                first,
-                length,
-                index,
-                value,
-            }),
+            Some(Thing::Array(first, length)) => {
+                let cell = Cell::Element {
+                    first,
+                    length,
+                    index,
+                };
+                self.draft.push(Instr::Store { cell, value })
+            }
             _ => Ok(()),
         }
     }
@@ -128,60 +134,30 @@ impl Writer {
         Ok(values)
     }
 
-    /// `r = swap(x, e);`
+    /// `r = swap(x, e);` and the like.
     #[tactic(auto, using(crate::proofs::Lists::rows))]
-    pub(crate) fn swap(
+    pub(crate) fn modify(
         &mut self,
         alloc: Global,
         scope: Scope,
         local: &Name,
-        global: &Name,
-        value: &Expression,
+        target: &Name,
+        index: &Option<Expression>,
+        update: &Update<Expression>,
     ) -> Result<(), AllocError>
-        requires { HasRoom self.old (spec.swapped (plain_scope scope) (length self.old.draft) self.old.free local.now global.now value.now).instrs }
-        ensures { OnOk result (IsAdded self.old self.new (spec.swapped (plain_scope scope.entry) (length self.old.draft) self.old.free local.now global.now
-            value.now)) }
+        requires { HasRoom self.old (spec.modified (plain_scope scope) (length self.old.draft) self.old.free local.now target.now index.now update.now).instrs }
+        ensures { OnOk result (IsAdded self.old self.new (spec.modified (plain_scope scope.entry) (length self.old.draft) self.old.free local.now target.now
+            index.now update.now)) }
     {
-        let value = self.evaluate(alloc, scope, value)?;
+        let index = self.evaluate_index(alloc, scope, target, index)?;
+        let update = self.evaluate_update(alloc, scope, update)?;
         let slot = self.take_slot();
-        match (thing_of(scope, local), thing_of(scope, global)) {
-            (Some(Thing::Slot(local)), Some(Thing::Cell(cell))) => {
-                self.draft.push(Instr::Swap { slot, cell, value })?;
-                self.draft.push(Instr::Set {
-                    slot: local,
-                    value: Expr::slot(slot),
-                })
-            }
-            _ => self.draft.push(Instr::Set { slot, value }),
-        }
-    }
-
-    /// `r = cas(x, e, f);`
-    #[tactic(auto, using(crate::proofs::Lists::rows))]
-    pub(crate) fn cas(
-        &mut self,
-        alloc: Global,
-        scope: Scope,
-        local: &Name,
-        global: &Name,
-        expected: &Expression,
-        value: &Expression,
-    ) -> Result<(), AllocError>
-        requires { HasRoom self.old (spec.compared (plain_scope scope) (length self.old.draft) self.old.free local.now global.now expected.now value.now).instrs }
-        ensures { OnOk result (IsAdded self.old self.new (spec.compared (plain_scope scope.entry) (length self.old.draft) self.old.free local.now global.now
-            expected.now value.now)) }
-    {
-        let expected = self.evaluate(alloc, scope, expected)?;
-        let value = self.evaluate(alloc, scope, value)?;
-        let slot = self.take_slot();
-        match (thing_of(scope, local), thing_of(scope, global)) {
-            (Some(Thing::Slot(local)), Some(Thing::Cell(cell))) => {
-                self.draft.push(Instr::Cas {
-                    slot,
-                    cell,
-                    expected,
-                    value,
-                })?;
+        match (
+            thing_of(scope, local),
+            cell_of(thing_of(scope, target), index),
+        ) {
+            (Some(Thing::Slot(local)), Some(cell)) => {
+                self.draft.push(Instr::Modify { slot, cell, update })?;
                 self.draft.push(Instr::Set {
                     slot: local,
                     value: Expr::slot(slot),
@@ -189,8 +165,54 @@ impl Writer {
             }
             _ => self.draft.push(Instr::Set {
                 slot,
-                value: expected,
+                value: Expr::number(0),
             }),
+        }
+    }
+
+    /// The value of an update's index, if it has one, and the test that it is inside its array.
+    #[tactic(auto, using(crate::proofs::Lists::rows))]
+    fn evaluate_index(
+        &mut self,
+        alloc: Global,
+        scope: Scope,
+        array: &Name,
+        index: &Option<Expression>,
+    ) -> Result<Option<Expr>, AllocError>
+        requires { HasRoom self.old (indexed_by scope self.old array.now index.now).instrs }
+        ensures value { IfOk result (λ value. value ≡ (indexed_by scope.entry self.old array.now index.now).index) }
+        ensures added { OnOk result (let given = indexed_by scope.entry self.old array.now index.now in
+            IsAdded self.old self.new (record { instrs = given.instrs; free = given.free })) }
+    {
+        let Some(index) = index else {
+            return Ok(None);
+        };
+        let index = self.evaluate(alloc, scope, index)?;
+        self.test_index(alloc, thing_of(scope, array), &index)?;
+        Ok(Some(index))
+    }
+
+    /// An update over the values of its operands, from left to right.
+    #[tactic(auto, using(crate::proofs::Lists::rows))]
+    fn evaluate_update(
+        &mut self,
+        alloc: Global,
+        scope: Scope,
+        update: &Update<Expression>,
+    ) -> Result<Update<Expr>, AllocError>
+        requires { HasRoom self.old (updating_by scope self.old update.now).instrs }
+        ensures value { IfOk result (λ value. value ≡ (updating_by scope.entry self.old update.now).update) }
+        ensures added { OnOk result (let given = updating_by scope.entry self.old update.now in
+            IsAdded self.old self.new (record { instrs = given.instrs; free = given.free })) }
+    {
+        match update {
+            Update::Swap(value) => Ok(Update::Swap(self.evaluate(alloc, scope, value)?)),
+            Update::Cas(expected, value) => {
+                let expected = self.evaluate(alloc, scope, expected)?;
+                let value = self.evaluate(alloc, scope, value)?;
+                Ok(Update::Cas(expected, value))
+            }
+            Update::Add(value) => Ok(Update::Add(self.evaluate(alloc, scope, value)?)),
         }
     }
 
@@ -265,5 +287,20 @@ impl Writer {
     {
         let condition = self.evaluate(alloc, scope, condition)?;
         self.draft.push(Instr::Assert(condition))
+    }
+}
+
+/// The cell that an update changes: a global's, or an element of an array.
+fn cell_of(thing: Option<Thing>, index: Option<Expr>) -> Option<Cell<Expr>>
+    ensures { result ≡ spec.cell_of thing index }
+{
+    match (thing, index) {
+        (Some(Thing::Cell(cell)), None) => Some(Cell::Fixed(cell)),
+        (Some(Thing::Array(first, length)), Some(index)) => Some(Cell::Element {
+            first,
+            length,
+            index,
+        }),
+        _ => None,
     }
 }

@@ -127,12 +127,9 @@ impl Body {
                     .create(alloc, scope, handle, thread, arguments.as_slice())?;
                 self.mark(handle.place.line)
             }
-            Statement::Swap(local, global, value) => {
-                self.code.swap(alloc, scope, local, global, value)?;
-                self.mark(local.place.line)
-            }
-            Statement::Cas(local, global, expected, value) => {
-                self.code.cas(alloc, scope, local, global, expected, value)?;
+            Statement::Modify(local, target, index, update) => {
+                self.code
+                    .modify(alloc, scope, local, target, index, update)?;
                 self.mark(local.place.line)
             }
             Statement::Act(place, action, name) => {

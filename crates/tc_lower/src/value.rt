@@ -10,7 +10,7 @@ use crate::draft::Draft;
 use crate::things::{Scope, Thing, thing_of};
 use int_ops::{BinOp, UnOp};
 use std::alloc::{AllocError, Global};
-use tc_code::{Expr, Instr, Node as Part};
+use tc_code::{Cell, Expr, Instr, Node as Part};
 use tc_tree::{Expression, Node, Operator};
 
 /// The instructions of a function so far, and the next free slot.
@@ -104,6 +104,7 @@ impl Writer {
             Some(Thing::Slot(slot)) => Ok(Expr::slot(slot)),
             Some(Thing::Cell(cell)) => {
                 let slot = self.take_slot();
+                let cell = Cell::Fixed(cell);
                 self.draft.push(Instr::Load { slot, cell })?;
                 Ok(Expr::slot(slot))
             }
@@ -132,12 +133,12 @@ impl Writer {
             index: tested,
         })?;
         let slot = self.take_slot();
-        self.draft.push(Instr::LoadAt {
-            slot,
+        let cell = Cell::Element {
             first,
             length,
             index,
-        })?;
+        };
+        self.draft.push(Instr::Load { slot, cell })?;
         Ok(Expr::slot(slot))
     }
 

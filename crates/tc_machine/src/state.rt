@@ -13,6 +13,7 @@ ghost use Rattle.tc_machine.specs.helpers.CanDo.{AsksIn, CanPerform};
 ghost use Rattle.tc_machine.specs.Why.{why_let, why_taken};
 
 use crate::why::Why;
+use int_ops::updated;
 use std::alloc::{AllocError, Global};
 use std::collections::btree_map;
 use std::marker::Model;
@@ -239,15 +240,10 @@ impl<M: MemoryModel> State<M> {
             }
             Request::Write(cell, value) => self.store(name, instr, cell, value)?,
             Request::Bar => self.threads.advance(name, instr, Effect::Bars)?,
-            Request::Exchange(cell, value) => {
+            Request::Exchange(cell, update) => {
                 let taken = self.memory[cell as usize];
                 self.threads.advance(name, instr, Effect::Takes(taken))?;
-                self.memory[cell as usize] = value;
-            }
-            Request::CompareExchange(cell, expected, value) => {
-                let taken = self.memory[cell as usize];
-                self.threads.advance(name, instr, Effect::Takes(taken))?;
-                self.memory[cell as usize] = if taken == expected { value } else { taken };
+                self.memory[cell as usize] = updated(update, taken);
             }
             Request::Acquire(mutex) | Request::EndWait(_, mutex) => self.take(name, instr, mutex)?,
             Request::Release(mutex) => {

@@ -6,6 +6,7 @@ use Rattle.tc_names.specs.declared.fault.NameFault.TheVariants.{Unknown, Twice, 
 use Rattle.tc_names.specs.declared.scope.Declaration.{Declaration}
 use Rattle.tc_names.specs.declared.scope.Meaning.{Meaning}
 use Rattle.tc_names.specs.declared.scope.Meaning.TheVariants as meaning
+use Rattle.int_ops.specs.Updates.{operands_of}
 use Rattle.tc_tree.specs.declared.expression.Name.{Name}
 use Rattle.tc_tree.specs.declared.program.Global.{Global}
 use Rattle.tc_tree.specs.declared.program.Global.TheVariants.{Int, Array, Mutex, Condition}
@@ -21,8 +22,7 @@ use Rattle.tc_tree.specs.Grammar.{
   Assign,
   Store,
   Create,
-  Swap,
-  Cas,
+  Modify,
   Act,
   Wait,
   Order,
@@ -51,6 +51,7 @@ use Rattle.tc_names.specs.Names.{
   thread_fault,
   expression_fault,
   expressions_fault,
+  target_fault,
   action_fits,
   statement_fault,
   statements_fault,
@@ -118,6 +119,10 @@ named fits scope x b h = both (name_fault fits scope x) b (name_real fits scope 
 valued : (scope : Name → Option Meaning) (e : Expression) (b : Option NameFault) → IsReal b → IsReal (expression_fault scope e then b)
 valued scope e b h = both (expression_fault scope e) b (expression_real scope e) h
 
+target_real : (scope : Name → Option Meaning) (x : Name) (i : Option Expression) → IsReal (target_fault scope x i)
+target_real scope x None = name_real (is_meaning meaning.Global) scope x
+target_real scope a (Some i) = named (is_meaning meaning.Array) scope a (expression_fault scope i) (expression_real scope i)
+
 mutual
   statement_real : (scope : Name → Option Meaning) (a : Statement) → IsReal (statement_fault scope a)
   statement_real scope (Assign x e) = named is_int scope x (expression_fault scope e) (expression_real scope e)
@@ -125,12 +130,8 @@ mutual
       (valued scope i (expression_fault scope e) (expression_real scope e))
   statement_real scope (Create h f es) = named (is_meaning meaning.Handle) scope h (thread_fault scope f (length es) then expressions_fault scope es)
       (both (thread_fault scope f (length es)) (expressions_fault scope es) (thread_use_real (scope f) (length es) f.place) (expressions_real scope es))
-  statement_real scope (Swap r x e) = named (is_meaning meaning.Local) scope r (name_fault (is_meaning meaning.Global) scope x then expression_fault scope e)
-      (named (is_meaning meaning.Global) scope x (expression_fault scope e) (expression_real scope e))
-  statement_real scope (Cas r x e f) = named (is_meaning meaning.Local) scope r
-      (name_fault (is_meaning meaning.Global) scope x then expression_fault scope e then expression_fault scope f)
-      (named (is_meaning meaning.Global) scope x (expression_fault scope e then expression_fault scope f)
-      (valued scope e (expression_fault scope f) (expression_real scope f)))
+  statement_real scope (Modify r x i u) = named (is_meaning meaning.Local) scope r (target_fault scope x i then expressions_fault scope (operands_of u))
+      (both (target_fault scope x i) (expressions_fault scope (operands_of u)) (target_real scope x i) (expressions_real scope (operands_of u)))
   statement_real scope (Act p a x) = name_real (action_fits a) scope x
   statement_real scope (Wait p c m) = named (is_meaning meaning.Condition) scope c (name_fault (is_meaning meaning.Mutex) scope m)
       (name_real (is_meaning meaning.Mutex) scope m)

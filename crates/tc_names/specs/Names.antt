@@ -13,6 +13,7 @@ use Rattle.tc_tree.specs.declared.program.Global.{Global}
 use Rattle.tc_tree.specs.declared.program.Global.TheVariants.{Int, Array, Mutex, Condition}
 use Rattle.tc_tree.specs.declared.program.Local.{Local}
 use Rattle.tc_tree.specs.declared.program.Local.TheVariants.{Int as LocalInt, Handle}
+use Rattle.int_ops.specs.Updates.{operands_of}
 use Rattle.tc_tree.specs.Grammar.{
   Expression,
   Number,
@@ -25,8 +26,7 @@ use Rattle.tc_tree.specs.Grammar.{
   Assign,
   Store,
   Create,
-  Swap,
-  Cas,
+  Modify,
   Act,
   Wait,
   Order,
@@ -113,6 +113,12 @@ abbrev pub expressions_fault : (Name → Option Meaning) → List Expression →
 expressions_fault scope [] = None
 expressions_fault scope (e ∷ es) = expression_fault scope e then expressions_fault scope es
 
+-- what an update changes: a global, or an element of an array
+abbrev pub target_fault : (Name → Option Meaning) → Name → Option Expression → Option NameFault
+target_fault scope x None = name_fault (is_meaning meaning.Global) scope x
+target_fault scope a (Some i) =
+    name_fault (is_meaning meaning.Array) scope a then expression_fault scope i
+
 abbrev pub action_fits : Action → Meaning → Bool
 action_fits Join = is_meaning meaning.Handle
 action_fits Lock = is_meaning meaning.Mutex
@@ -129,14 +135,9 @@ abbrev mutual
   statement_fault scope (Create h f es) =
       name_fault (is_meaning meaning.Handle) scope h then thread_fault scope f (length es)
       then expressions_fault scope es
-  statement_fault scope (Swap r x e) =
-      name_fault (is_meaning meaning.Local) scope r
-      then name_fault (is_meaning meaning.Global) scope x
-      then expression_fault scope e
-  statement_fault scope (Cas r x e f) =
-      name_fault (is_meaning meaning.Local) scope r
-      then name_fault (is_meaning meaning.Global) scope x
-      then expression_fault scope e then expression_fault scope f
+  statement_fault scope (Modify r x i u) =
+      name_fault (is_meaning meaning.Local) scope r then target_fault scope x i
+      then expressions_fault scope (operands_of u)
   statement_fault scope (Act p a x) = name_fault (action_fits a) scope x
   statement_fault scope (Wait p c m) =
       name_fault (is_meaning meaning.Condition) scope c

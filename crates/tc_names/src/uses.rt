@@ -1,5 +1,6 @@
 //! Uses of names in statements and expressions.
 ghost use Rattle.std.specs.Prelude.{◌≡◌, length, map};
+ghost use Rattle.int_ops.specs.Updates.{operands_of};
 ghost use Rattle.tc_tree.specs.Seen.{statement_of, branch_of};
 ghost use Rattle.tc_names.specs.Names.{
   name_fault,
@@ -9,6 +10,7 @@ ghost use Rattle.tc_names.specs.Names.{
   expression_fault,
   expressions_fault,
   action_fits,
+  target_fault,
   statement_fault,
   statements_fault,
 };
@@ -17,6 +19,7 @@ ghost use Rattle.tc_names.specs.helpers.Answers.{Tells, plain_scope, branch_faul
 
 use crate::fault::NameFault;
 use crate::scope::{Meaning, Scope, meaning_of};
+use int_ops::Update;
 use tc_tree::{Action, Block, Branch, Expression, Name, Node, Statement};
 
 /// Rejects a name with another meaning.
@@ -79,6 +82,32 @@ fn check_expressions(scope: Scope, expressions: &[Expression]) -> Result<(), Nam
     Ok(())
 }
 
+/// What an update changes: a global, or an element of an array.
+fn check_target(scope: Scope, name: &Name, index: &Option<Expression>) -> Result<(), NameFault>
+    ensures { Tells result (target_fault (plain_scope scope.entry) name.now index.now) }
+{
+    match index {
+        None => check_meaning(scope, name, Meaning::Global),
+        Some(index) => {
+            check_meaning(scope, name, Meaning::Array)?;
+            check_expression(scope, index)
+        }
+    }
+}
+
+fn check_operands(scope: Scope, update: &Update<Expression>) -> Result<(), NameFault>
+    ensures { Tells result (expressions_fault (plain_scope scope.entry) (operands_of update.now)) }
+{
+    match update {
+        Update::Swap(value) | Update::Add(value) => check_expression(scope, value)?,
+        Update::Cas(expected, value) => {
+            check_expression(scope, expected)?;
+            check_expression(scope, value)?;
+        }
+    }
+    Ok(())
+}
+
 fn check_action(scope: Scope, action: Action, name: &Name) -> Result<(), NameFault>
     ensures { Tells result (name_fault (action_fits action) (plain_scope scope.entry) name.now) }
 {
@@ -119,16 +148,10 @@ fn check_statement(scope: Scope, statement: &Statement) -> Result<(), NameFault>
             check_thread(scope, thread, arguments.len())?;
             check_expressions(scope, arguments.as_slice())
         }
-        Statement::Swap(local, global, value) => {
+        Statement::Modify(local, target, index, update) => {
             check_meaning(scope, local, Meaning::Local)?;
-            check_meaning(scope, global, Meaning::Global)?;
-            check_expression(scope, value)
-        }
-        Statement::Cas(local, global, old, new) => {
-            check_meaning(scope, local, Meaning::Local)?;
-            check_meaning(scope, global, Meaning::Global)?;
-            check_expression(scope, old)?;
-            check_expression(scope, new)
+            check_target(scope, target, index)?;
+            check_operands(scope, update)
         }
         Statement::Act(_, action, name) => check_action(scope, *action, name),
         Statement::Wait(_, condition, mutex) => {

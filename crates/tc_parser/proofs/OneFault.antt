@@ -93,13 +93,13 @@ record IsBroken (language : ℕ) (text : List ℕ) (tokens : List Token) (fault 
   nested : IsNested tokens
   parted : long_stretch tokens ≡ None
   place : ℕ
-  is : IsSyntaxFault language (words_of tokens) place
+  is : IsSyntaxFault language (words_of language text tokens) place
   fault_is : fault ≡ Syntax (place_at text tokens place)
 
 -- the words are a program, which has a fault
 record IsLate (language : ℕ) (text : List ℕ) (tokens : List Token) (fault : ParseFault) : Type 0 where
   program : Program
-  are_of : AreOfProgram language tokens program
+  are_of : AreOfProgram language text tokens program
   fault_is : tree_fault text program ≡ Some fault
 
 abbrev Cause : ℕ → List ℕ → List Token → ParseFault → Type 0
@@ -172,7 +172,7 @@ deep_or_nested tokens d n = omega (arith, d.1, n d.0)
 
 one_late : (language : ℕ) (text : List ℕ) (tokens : List Token) (f g : ParseFault) → IsLate language text tokens f → IsLate language text tokens g → f ≡ g
 one_late language text tokens f g x y =
-    let same = one_program language (words_of tokens) x.program y.program x.are_of.spelled y.are_of.spelled in
+    let same = one_program language (words_of language text tokens) x.program y.program x.are_of.spelled y.are_of.spelled in
     let both : Some f ≡ Some g = sym x.fault_is ∙ ap (tree_fault text) same ∙ y.fault_is in
     cc
 
@@ -189,7 +189,7 @@ one_cause language text tokens f g (inr (inl x)) (inr (inr (inr y))) = absurd (n
 one_cause language text tokens f g (inr (inr (inl x))) (inl y) = absurd (deep_or_nested tokens y.0 x.nested)
 one_cause language text tokens f g (inr (inr (inl x))) (inr (inl y)) = absurd (none-some y.1.0 (sym x.parted ∙ y.1.1))
 one_cause language text tokens f g (inr (inr (inl x))) (inr (inr (inl y))) =
-    x.fault_is ∙ ap (λ (k : ℕ). Syntax (place_at text tokens k)) (one_syntax_fault language (words_of tokens) x.place y.place x.is y.is) ∙ sym y.fault_is
+    x.fault_is ∙ ap (λ (k : ℕ). Syntax (place_at text tokens k)) (one_syntax_fault language (words_of language text tokens) x.place y.place x.is y.is) ∙ sym y.fault_is
 one_cause language text tokens f g (inr (inr (inl x))) (inr (inr (inr y))) = absurd (x.is.none y.program y.are_of.spelled)
 one_cause language text tokens f g (inr (inr (inr x))) (inl y) = absurd (deep_or_nested tokens y.0 x.are_of.nested)
 one_cause language text tokens f g (inr (inr (inr x))) (inr (inl y)) = absurd (none-some y.1.0 (sym x.are_of.parted ∙ y.1.1))
@@ -213,7 +213,7 @@ one_text_fault language text (Parse f) (Parse g) x y = ap Parse (one_parse_fault
 pub one_text_program : (language : ℕ) (text : List ℕ) (p q : Program) → IsProgram language text p → IsProgram language text q → p ≡ q
 one_text_program language text p q x y =
     let same = one_tokens language text x.tokens y.tokens x.read y.read in
-    one_program language (words_of y.tokens) p q (subst (λ (ts : List Token). IsSpelled language (words_of ts) p) same x.are_of.spelled) y.are_of.spelled
+    one_program language (words_of language text y.tokens) p q (subst (λ (ts : List Token). IsSpelled language (words_of language text ts) p) same x.are_of.spelled) y.are_of.spelled
 
 -- ---- no program has a fault
 
@@ -222,13 +222,13 @@ unfolding tree_fault after_names
 no_tree_fault language text p x =
     ap (λ (o : Option NameFault). after_names o p.globals) x.names ∙ few p.globals x.cells x.mutexes x.conditions
 
-no_cause : (language : ℕ) (text : List ℕ) (tokens : List Token) (p : Program) (f : ParseFault) → AreOfProgram language tokens p → tree_fault text p ≡ None
+no_cause : (language : ℕ) (text : List ℕ) (tokens : List Token) (p : Program) (f : ParseFault) → AreOfProgram language text tokens p → tree_fault text p ≡ None
     → Cause language text tokens f → ⊥
 no_cause language text tokens p f x none (inl y) = deep_or_nested tokens y.0 x.nested
 no_cause language text tokens p f x none (inr (inl y)) = none-some y.1.0 (sym x.parted ∙ y.1.1)
 no_cause language text tokens p f x none (inr (inr (inl y))) = y.is.none p x.spelled
 no_cause language text tokens p f x none (inr (inr (inr y))) =
-    let same = one_program language (words_of tokens) p y.program x.spelled y.are_of.spelled in
+    let same = one_program language (words_of language text tokens) p y.program x.spelled y.are_of.spelled in
     let both : None ≡ Some f = sym none ∙ ap (tree_fault text) same ∙ y.fault_is in
     cc
 
@@ -265,7 +265,7 @@ counted language text tokens p read named = elim (cases_lt CELLS (count.cells p.
 ]
 
 by_names : (language : ℕ) (text : List ℕ) (tokens : List Token) (p : Program) (o : Option NameFault) → AreTokens language text tokens
-    → AreOfProgram language tokens p → names_fault text p ≡ o → IsReal o → Answer language text
+    → AreOfProgram language text tokens p → names_fault text p ≡ o → IsReal o → Answer language text
 by_names language text tokens p None read are is real = counted language text tokens p read (record { are_of = are; names = is })
 by_names language text tokens p (Some (name.Unknown place)) read are is real =
     faulty language text tokens (Unknown place) read (record { program = p; are_of = are; is = is })
@@ -302,7 +302,7 @@ nested_or_deep tokens (t ∷ ts) i m n is =
 
 module _ (language : ℕ) (least : 1 ≤ language) where
   by_words : (text : List ℕ) (tokens : List Token) → AreTokens language text tokens → IsNested tokens → long_stretch tokens ≡ None → Answer language text
-  by_words text tokens read nested parted = elim (program_or_fault language least (words_of tokens) (are_of_language language text tokens least read)) [
+  by_words text tokens read nested parted = elim (program_or_fault language least (words_of language text tokens) (are_of_language language text tokens least read)) [
     | inl tree ↦ by_names language text tokens tree.0 (names_fault text tree.0) read (record { nested = nested; parted = parted; spelled = tree.1 }) refl
         (names_real text tree.0)
     | inr fault ↦ faulty language text tokens (Syntax (place_at text tokens fault.0)) read (nested, parted, (fault.0, fault.1, refl))

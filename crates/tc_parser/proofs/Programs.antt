@@ -1,7 +1,6 @@
 -- The composition of the parts' results.
 use Rattle.std.proofs.Common.{◌≡◌, ◌≢◌, ℕ, zero, suc, ◌-◌, ◌<◌, ◌≤◌, List, [], ◌∷◌, ◌++◌, length, refl, sym, ap, ◌∙◌, subst, arith, get_or}
 use Rattle.std.proofs.Common.{Err}
-use Rattle.std.proofs.lemmas.List.{length-map}
 use Rattle.tc_lexer.specs.declared.token.Token.{Token}
 use Rattle.tc_lexer.specs.Tokens.{spelling}
 use Rattle.tc_lexer.specs.Pieces.{Piece, Space, LineComment, BlockComment, written, ArePieces}
@@ -16,7 +15,8 @@ use Rattle.tc_tree.specs.declared.word.Word.{Word}
 use Rattle.tc_lexer.specs.declared.token.Keyword.TheVariants as keyword
 use Rattle.tc_tree.specs.declared.word.Word.TheVariants.{Keyword as AKeyword}
 use Rattle.tc_tree.specs.Grammar.{Program, global_then, globals_then, threads_then, body_then, program_words, IsSpelled, IsSyntaxFault}
-use Rattle.tc_tree.specs.Words.{word_of, words_of}
+use Rattle.tc_tree.specs.Words.{words_of}
+use Rattle.tc_parser.proofs.Words.{length-words}
 use Rattle.tc_syntax.specs.Faults.{IsStop}
 use Rattle.tc_syntax.specs.declared.reader.Stop.TheVariants.{Left}
 use Rattle.tc_lexer.specs.declared.place.Place.{Place}
@@ -60,15 +60,15 @@ globals_within (g ∷ gs) rest = omega (arith, some_words g (globals_then gs res
 
 -- a program has at most as many words as its text has bytes
 pub few_words : (language : ℕ) (text : List ℕ) (tokens : List Token) (p : Program) → AreTokens language text tokens
-    → IsSpelled language (words_of tokens) p → length (program_words p) ≤ length text
+    → IsSpelled language (words_of language text tokens) p → length (program_words p) ≤ length text
 few_words language text tokens p read spelled =
-    let words : length tokens ≡ length (program_words p) = sym (length-map tokens word_of) ∙ ap length spelled.spelled in
+    let words : length tokens ≡ length (program_words p) = sym (length-words language text tokens) ∙ ap length spelled.spelled in
     let within : length tokens ≤ length text = subst (λ (ts : List Token). length ts ≤ length text) (sym read.tokens_are)
     (tokens_within language [] text read.pieces read.whole) in
     omega (arith, words, within)
 
 pub few_globals : (language : ℕ) (text : List ℕ) (tokens : List Token) (p : Program) → AreTokens language text tokens
-    → IsSpelled language (words_of tokens) p → length p.globals ≤ length text
+    → IsSpelled language (words_of language text tokens) p → length p.globals ≤ length text
 few_globals language text tokens p read spelled = omega (
   arith,
   few_words language text tokens p read spelled,
@@ -77,8 +77,8 @@ few_globals language text tokens p read spelled = omega (
 
 -- ---- faults of the parts
 
-pub name_fault : (text : List ℕ) (tokens : List Token) (p : Program) (fault : NameFault) → AreTokens 3 text tokens → AreOfProgram 3 tokens p
-    → TellsUnlessMemory {A = Unit {0}} (Err fault) (names_fault text p) → fault_of fault ≢ Memory → IsProgramFault 3 text (fault_of fault)
+pub name_fault : (text : List ℕ) (tokens : List Token) (p : Program) (fault : NameFault) → AreTokens 4 text tokens → AreOfProgram 4 text tokens p
+    → TellsUnlessMemory {A = Unit {0}} (Err fault) (names_fault text p) → fault_of fault ≢ Memory → IsProgramFault 4 text (fault_of fault)
 name_fault text tokens p (name.Unknown place) read are is h = record { tokens = tokens; read = read; is = record { program = p; are_of = are; is = is } }
 name_fault text tokens p (name.Twice place) read are is h = record { tokens = tokens; read = read; is = record { program = p; are_of = are; is = is } }
 name_fault text tokens p (name.Kind place) read are is h = record { tokens = tokens; read = read; is = record { program = p; are_of = are; is = is } }
@@ -98,17 +98,17 @@ place_past text (u ∷ us) zero h = absurd (omega arith)
 place_past text (u ∷ us) (suc k) h = place_past text us k (omega arith)
 
 -- the token at which the reader stopped
-pub stop_place : (text : List ℕ) (tokens : List Token) (ws : List Word) (left : ℕ) (place : Place) → ws ≡ words_of tokens → IsStop 3 ws (Left left)
+pub stop_place : (text : List ℕ) (tokens : List Token) (ws : List Word) (left : ℕ) (place : Place) → ws ≡ words_of 4 text tokens → IsStop 4 ws (Left left)
     → place ≡ place_at text tokens (length tokens - left)
-    → (k : ℕ) × IsSyntaxFault 3 (words_of tokens) k × (place ≡ place_at text tokens k)
+    → (k : ℕ) × IsSyntaxFault 4 (words_of 4 text tokens) k × (place ≡ place_at text tokens k)
 stop_place text tokens ws left place words stop is =
-    let len : length ws ≡ length tokens = ap length words ∙ length-map tokens word_of in (
+    let len : length ws ≡ length tokens = ap length words ∙ length-words 4 text tokens in (
       length tokens - left,
-      subst (λ (n : ℕ). IsSyntaxFault 3 (words_of tokens) (n - left)) len (subst (λ (us : List Word). IsSyntaxFault 3 us (length ws - left)) words stop.1),
+      subst (λ (n : ℕ). IsSyntaxFault 4 (words_of 4 text tokens) (n - left)) len (subst (λ (us : List Word). IsSyntaxFault 4 us (length ws - left)) words stop.1),
       is,
     )
 
 -- a fault of the tokens
-pub text_fault : (text : List ℕ) (tokens : List Token) (fault : ParseFault) → AreTokens 3 text tokens → IsTokensFault 3 text tokens fault
-    → IsProgramFault 3 text fault
+pub text_fault : (text : List ℕ) (tokens : List Token) (fault : ParseFault) → AreTokens 4 text tokens → IsTokensFault 4 text tokens fault
+    → IsProgramFault 4 text fault
 text_fault text tokens fault read is = record { tokens = tokens; read = read; is = is }

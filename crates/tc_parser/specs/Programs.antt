@@ -65,16 +65,17 @@ long_stretch tokens =
 -- ---- programs
 
 -- the tokens spell the program, and keep the limits of nesting and of stretches
-pub record AreOfProgram (language : ℕ) (tokens : List Token) (p : Program) : Type 0 where
+pub record AreOfProgram (language : ℕ) (text : List ℕ) (tokens : List Token)
+    (p : Program) : Type 0 where
   pub nested : IsNested tokens
   pub parted : long_stretch tokens ≡ None
-  pub spelled : IsSpelled language (words_of tokens) p
+  pub spelled : IsSpelled language (words_of language text tokens) p
 
 -- the text is this program: its tokens spell it, and it keeps the rules for names and the limits
 pub record IsProgram (language : ℕ) (text : List ℕ) (p : Program) : Type 0 where
   pub tokens : List Token
   pub read : AreTokens language text tokens
-  pub are_of : AreOfProgram language tokens p
+  pub are_of : AreOfProgram language text tokens p
   pub names : names_fault text p ≡ None
   pub cells : count.cells p.globals ≤ limit_of Cells
   pub mutexes : count.mutexes p.globals ≤ limit_of Mutexes
@@ -92,13 +93,13 @@ place_at text (t ∷ ts) (suc k) = place_at text ts k
 pub record HasNameFault (language : ℕ) (text : List ℕ) (tokens : List Token)
     (fault : NameFault) : Type 0 where
   pub program : Program
-  pub are_of : AreOfProgram language tokens program
+  pub are_of : AreOfProgram language text tokens program
   pub is : names_fault text program ≡ Some fault
 
 -- the tokens spell the program, and no name has a fault
 pub record AreNamed (language : ℕ) (text : List ℕ) (tokens : List Token)
     (p : Program) : Type 0 where
-  pub are_of : AreOfProgram language tokens p
+  pub are_of : AreOfProgram language text tokens p
   pub names : names_fault text p ≡ None
 
 -- the fault of the tokens of this text; each kind occurs only if none before it does
@@ -108,7 +109,7 @@ IsTokensFault language text tokens (Count Brackets n) =
 IsTokensFault language text tokens (Count Stretch n) =
     IsNested tokens × (long_stretch tokens ≡ Some n)
 IsTokensFault language text tokens (Syntax place) = IsNested tokens × (long_stretch tokens ≡ None)
-    × ((k : ℕ) × IsSyntaxFault language (words_of tokens) k × (place ≡ place_at text tokens k))
+    × ((k : ℕ) × IsSyntaxFault language (words_of language text tokens) k × (place ≡ place_at text tokens k))
 IsTokensFault language text tokens (Unknown place) =
     HasNameFault language text tokens (name.Unknown place)
 IsTokensFault language text tokens (Twice place) =

@@ -18,7 +18,7 @@ use tc_tree::Global;
 pub(crate) fn check_tokens(tokens: &[Token]) -> Result<(), ParseFault>
     ensures { MatchResult result
         (λ _. IsNested tokens.now × (long_stretch tokens.now ≡ None))
-        (λ fault. (text : List ℕ) → IsTokensFault 3 text tokens.now fault) }
+        (λ fault. (text : List ℕ) → IsTokensFault 4 text tokens.now fault) }
 {
     if is_too_deep(tokens) {
         return Err(ParseFault::Count(What::Brackets, BRACKETS as u64 + 1));

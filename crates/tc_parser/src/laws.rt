@@ -1,12 +1,13 @@
 //! Laws of the definitions of a program's text. They do nothing when they run.
-ghost use Rattle.std.specs.Prelude.{◌≡◌, ◌≤◌, ◌⊎◌, ℕ, List};
+ghost use Rattle.std.specs.Prelude.{◌≡◌, ◌≤◌, ◌⊎◌, ◌↔◌, ℕ, List};
 ghost use Rattle.tc_lexer.specs.declared.token.Token.{Token as OneToken};
 ghost use Rattle.tc_lexer.specs.Tokens.{plain_tokens};
 ghost use Rattle.tc_lexer.specs.Text.{AreTokens};
 ghost use Rattle.tc_lexer.specs.Languages.{HaveNoKeywordOf};
-ghost use Rattle.tc_tree.specs.Grammar.{Program as OneProgram};
+ghost use Rattle.tc_tree.specs.Grammar.{Program as OneProgram, AreOf, program_words};
 ghost use Rattle.tc_tree.specs.Numbers.{HasInts};
 ghost use Rattle.tc_parser.specs.declared.fault.TextFault.{TextFault as OneFault};
+ghost use Rattle.tc_parser.specs.Languages.{IsPastUpdate};
 ghost use Rattle.tc_parser.specs.Programs.{IsProgram, IsTextFault};
 
 /// A text is at most one program.
@@ -41,4 +42,14 @@ pub fn language_3_has_the_programs_of_2()
     ensures { (text : List ℕ) (tokens : List OneToken) (program : OneProgram)
         → AreTokens 2 text tokens → HaveNoKeywordOf 3 (plain_tokens text tokens)
         → IsProgram 2 text program → IsProgram 3 text program }
+{}
+
+/// A text is a program in language 3 if and only if it is the same program in language 4, and
+/// language 3 has all its words: no `add`, and no update of an element. The fault of any other text
+/// is the same in both, except perhaps behind such a word.
+pub fn language_4_has_the_programs_of_3()
+    ensures programs { (text : List ℕ) (program : OneProgram)
+        → IsProgram 3 text program ↔ (IsProgram 4 text program × AreOf 3 (program_words program)) }
+    ensures faults { (text : List ℕ) (fault : OneFault)
+        → IsTextFault 3 text fault → IsTextFault 4 text fault ⊎ IsPastUpdate text fault }
 {}

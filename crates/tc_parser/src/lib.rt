@@ -11,6 +11,6 @@ mod stretches;
 pub use fault::{ParseFault, TextFault, What};
 pub use laws::{
     faults_are_one, language_2_has_the_programs_of_1, language_3_has_the_programs_of_2,
-    numbers_are_ints, programs_are_one,
+    language_4_has_the_programs_of_3, numbers_are_ints, programs_are_one,
 };
 pub use parser::{parse, read};

@@ -13,11 +13,11 @@ ghost use Rattle.tc_parser.specs.helpers.Parts.{IsReadFault};
 
 use crate::counts::{check_globals, check_tokens};
 use crate::fault::{ParseFault, TextFault};
-use std::alloc::{AllocError, Global};
+use std::alloc::Global;
 use tc_lexer::{Place, Token, Tokens, lex, place_after};
 use tc_names::check_names;
 use tc_syntax::{Stop, read_program};
-use tc_tree::{Program, Tree, Word};
+use tc_tree::{Program, Tree, words_of};
 
 /// The program that the tokens of a text spell.
 ///
@@ -26,9 +26,9 @@ use tc_tree::{Program, Tree, Word};
 /// are counted before the tree is read, which bounds how deep the reader's calls nest.
 pub fn parse<'a>(alloc: Global, text: &'a [u8], tokens: &Tokens) -> Result<Tree<'a>, ParseFault>
     requires size { length text.now ≤ PROGRAM_BYTES }
-    requires tokens { AreTokens 3 text.now tokens.now }
-    ensures found { IfOk result (λ tree. (tree.text.now ≡ text.now) × IsProgram 3 text.now (program_of tree.program)) }
-    ensures refused { IfErr result (λ fault. fault ≢ parse_fault.Memory → IsProgramFault 3 text.now fault) }
+    requires tokens { AreTokens 4 text.now tokens.now }
+    ensures found { IfOk result (λ tree. (tree.text.now ≡ text.now) × IsProgram 4 text.now (program_of tree.program)) }
+    ensures refused { IfErr result (λ fault. fault ≢ parse_fault.Memory → IsProgramFault 4 text.now fault) }
 {
     let tokens = tokens.as_slice();
     check_tokens(tokens)?;
@@ -43,10 +43,10 @@ pub fn parse<'a>(alloc: Global, text: &'a [u8], tokens: &Tokens) -> Result<Tree<
 fn read_tree(alloc: Global, text: &[u8], tokens: &[Token]) -> Result<Program, ParseFault>
     requires { length text.now ≤ PROGRAM_BYTES }
     ensures { MatchResult result
-        (λ program. IsSpelled 3 (words_of tokens.now) (program_of program))
+        (λ program. IsSpelled 4 (words_of 4 text.now tokens.now) (program_of program))
         (IsReadFault text.now tokens.now) }
 {
-    let words = words_of(alloc, tokens)?;
+    let words = words_of(alloc, text, tokens)?;
     match read_program(alloc, words.as_slice()) {
         Ok(program) => Ok(program),
         Err(Stop::Memory) => Err(ParseFault::Memory),
@@ -55,13 +55,6 @@ fn read_tree(alloc: Global, text: &[u8], tokens: &[Token]) -> Result<Program, Pa
             Err(ParseFault::Syntax(place))
         }
     }
-}
-
-/// The tokens as the grammar sees them.
-fn words_of(alloc: Global, tokens: &[Token]) -> Result<Vec<Word>, AllocError>
-    ensures { IfOk result (λ words. words.items ≡ words_of tokens.now) }
-{
-    tokens.iter().map(Word::new).collect(alloc)
 }
 
 /// The place of the k-th token, or of the end of the text.
@@ -81,9 +74,9 @@ fn place_at(text: &[u8], tokens: &[Token], k: usize) -> Place
 /// may run out.
 pub fn read<'a>(alloc: Global, text: &'a [u8]) -> Result<Tree<'a>, TextFault>
     requires { length text.now ≤ PROGRAM_BYTES }
-    ensures found { IfOk result (λ tree. (tree.text.now ≡ text.now) × IsProgram 3 text.now (program_of tree.program)) }
+    ensures found { IfOk result (λ tree. (tree.text.now ≡ text.now) × IsProgram 4 text.now (program_of tree.program)) }
     ensures refused { IfErr result (λ fault.
-        fault ≢ text_fault.Lex lex_fault.Memory → fault ≢ text_fault.Parse parse_fault.Memory → IsTextFault 3 text.now fault) }
+        fault ≢ text_fault.Lex lex_fault.Memory → fault ≢ text_fault.Parse parse_fault.Memory → IsTextFault 4 text.now fault) }
 {
     let tokens = lex(alloc, text).map_err(TextFault::Lex)?;
     parse(alloc, text, &tokens).map_err(TextFault::Parse)

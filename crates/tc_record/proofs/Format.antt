@@ -13,7 +13,7 @@ use Rattle.tc_base.specs.Buffers.{BufferOps}
 use Rattle.tc_base.specs.States.{Local, Thread, State}
 use Rattle.tc_base.specs.Paths.{Path, ThreadPath}
 use Rattle.tc_base.specs.declared.request.Request.{Request}
-use Rattle.tc_base.specs.declared.request.Request.TheVariants.{Read, Exchange, CompareExchange, Fail}
+use Rattle.tc_base.specs.declared.request.Request.TheVariants.{Read, Exchange, Fail}
 use Rattle.tc_code.specs.declared.instr.Instr.{Instr}
 use Rattle.tc_code.specs.declared.instr.Instr.TheVariants.{Branch}
 use Rattle.tc_code.specs.Code.{Code}
@@ -45,7 +45,6 @@ after_outcomes t _ v = omega arith
 request_outcomes : (t : Local) (i : Instr) (vs : List ℤ) (r : Request) → length (after_request t i vs r).local.outcomes ≤ length t.outcomes + 1
 request_outcomes t i (v ∷ vs) (Read c) = after_outcomes t i v
 request_outcomes t i (v ∷ vs) (Exchange c w) = after_outcomes t i v
-request_outcomes t i (v ∷ vs) (CompareExchange c e w) = after_outcomes t i v
 request_outcomes t i (v ∷ vs) Fail = omega arith
 request_outcomes t i (v ∷ vs) _ = after_outcomes t i (pos 0)
 request_outcomes t i [] Fail = omega arith

@@ -8,7 +8,9 @@ use Rattle.tc_tree.specs.declared.expression.Operator.{Operator}
 use Rattle.tc_tree.specs.declared.program.Global.{Global}
 use Rattle.tc_tree.specs.declared.program.Local.{Local}
 use Rattle.tc_tree.specs.declared.word.Word.{Word}
-use Rattle.tc_tree.specs.declared.word.Word.TheVariants.{Name as AName, If as AnIf, Keyword as AKeyword, Sign as ASign}
+use Rattle.tc_tree.specs.declared.statement.Target.{Target}
+use Rattle.tc_tree.specs.declared.statement.UpdateKind.{UpdateKind}
+use Rattle.tc_tree.specs.declared.word.Word.TheVariants.{Name as AName, If as AnIf, Keyword as AKeyword, Sign as ASign, Update as AnUpdate}
 use Rattle.tc_tree.specs.Grammar.{
   Expression,
   Binary,
@@ -204,23 +206,22 @@ one_more_statement ws ss rest a after c r = record {
 
 -- an assigned value is an expression if it is nothing else
 pub value_goes : (ws : List Word) → ((us : List Word) → ws ≡ AKeyword keyword.Create ∷ us → ⊥)
-    → ((us : List Word) → ws ≡ AKeyword keyword.Swap ∷ us → ⊥) → ((us : List Word) → ws ≡ AKeyword keyword.Cas ∷ us → ⊥) → (s : List Expected)
+    → ((k : UpdateKind) (t : Target) (us : List Word) → ws ≡ AnUpdate k t ∷ us → ⊥) → (s : List Expected)
     → fault (Some (AfterAssign ∷ s)) ws ≡ fault (Some (Operand ∷ Operators ∷ Just sign.Semicolon ∷ s)) ws
-value_goes [] a b c s = refl
-value_goes (AKeyword keyword.Create ∷ us) a b c s = absurd (a us refl)
-value_goes (AKeyword keyword.Swap ∷ us) a b c s = absurd (b us refl)
-value_goes (AKeyword keyword.Cas ∷ us) a b c s = absurd (c us refl)
-value_goes (ASign sign.OpenParen ∷ us) a b c s = refl
-value_goes (_ ∷ us) a b c s = refl
+value_goes [] a b s = refl
+value_goes (AKeyword keyword.Create ∷ us) a b s = absurd (a us refl)
+value_goes (AnUpdate k t ∷ us) a b s = absurd (b k t us refl)
+value_goes (ASign sign.OpenParen ∷ us) a b s = refl
+value_goes (_ ∷ us) a b s = refl
 
 pub value_read : (x : Name) (ws : List Word) (e : Expression) (end rest : List Word) → ((us : List Word) → ws ≡ AKeyword keyword.Create ∷ us → ⊥)
-    → ((us : List Word) → ws ≡ AKeyword keyword.Swap ∷ us → ⊥) → ((us : List Word) → ws ≡ AKeyword keyword.Cas ∷ us → ⊥)
+    → ((k : UpdateKind) (t : Target) (us : List Word) → ws ≡ AnUpdate k t ∷ us → ⊥)
     → IsRead expression_then IsGrouped [] (Operand ∷ Operators ∷ []) ws e end → end ≡ ASign sign.Semicolon ∷ rest
     → IsRead statement_then IsWell (AName x ∷ ASign sign.Assign ∷ []) (AfterAssign ∷ []) ws (Assign x e) rest
-value_read x ws e end rest a b c r is = record {
+value_read x ws e end rest a b r is = record {
   spelled = ap (λ (us : List Word). AName x ∷ ASign sign.Assign ∷ us) (r.spelled ∙ ap (λ (us : List Word). expression_then e us) is);
   good = r.good;
-  moves = λ s. value_goes ws a b c s ∙ r.moves (Just sign.Semicolon ∷ s) ∙ ap (λ (us : List Word). fault (Some (Just sign.Semicolon ∷ s)) us) is;
+  moves = λ s. value_goes ws a b s ∙ r.moves (Just sign.Semicolon ∷ s) ∙ ap (λ (us : List Word). fault (Some (Just sign.Semicolon ∷ s)) us) is;
   shorter = omega (arith, r.shorter, ap length is);
 }
 

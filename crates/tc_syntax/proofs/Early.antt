@@ -10,6 +10,8 @@ use Rattle.tc_lexer.specs.declared.token.Keyword.TheVariants as keyword
 use Rattle.tc_lexer.specs.declared.token.Sign.{Sign}
 use Rattle.tc_lexer.specs.declared.token.Sign.TheVariants as sign
 use Rattle.tc_tree.specs.declared.expression.Operator.{Operator}
+use Rattle.tc_tree.specs.declared.statement.Target.TheVariants as target
+use Rattle.tc_tree.specs.declared.statement.UpdateKind.TheVariants as kind
 use Rattle.tc_tree.specs.declared.word.Word.{Word}
 use Rattle.tc_tree.specs.declared.word.Word.TheVariants.{
   Name as AName,
@@ -20,6 +22,7 @@ use Rattle.tc_tree.specs.declared.word.Word.TheVariants.{
   Wait as AWait,
   Barrier as ABarrier,
   Assert as AnAssert,
+  Update as AnUpdate,
   Keyword as AKeyword,
   Sign as ASign,
   End as AnEnd,
@@ -137,8 +140,12 @@ first_early AfterName (ASign sign.Assign) = refl
 first_early AfterName (ASign sign.OpenBracket) = refl
 first_early AfterName _ = refl
 first_early AfterAssign (AKeyword keyword.Create) = refl
-first_early AfterAssign (AKeyword keyword.Swap) = refl
-first_early AfterAssign (AKeyword keyword.Cas) = refl
+first_early AfterAssign (AnUpdate kind.Swap target.Cell) = refl
+first_early AfterAssign (AnUpdate kind.Swap target.Element) = refl
+first_early AfterAssign (AnUpdate kind.Cas target.Cell) = refl
+first_early AfterAssign (AnUpdate kind.Cas target.Element) = refl
+first_early AfterAssign (AnUpdate kind.Add target.Cell) = refl
+first_early AfterAssign (AnUpdate kind.Add target.Element) = refl
 first_early AfterAssign (AKeyword _) = refl
 first_early AfterAssign (ASign s) = followed_early (operand (ASign s)) (Operators ∷ Just sign.Semicolon ∷ []) (sign_early s) refl
 first_early AfterAssign _ = refl

@@ -6,3 +6,4 @@ pub mod Stands
 pub mod Early
 pub mod Places
 pub mod Chains
+pub mod Updates

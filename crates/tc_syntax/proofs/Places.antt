@@ -36,12 +36,14 @@ use Rattle.std.proofs.Common.{
 use Rattle.std.proofs.lemmas.List.{append-nil}
 use Rattle.std.proofs.Math.Seq.{take-append_seam, take-append-add}
 use Rattle.tc_lexer.specs.declared.place.Place.{Place}
-use Rattle.tc_lexer.specs.Tokens.{keyword_since, sign_since}
-use Rattle.tc_lexer.specs.declared.token.Keyword.{Keyword}
+use Rattle.tc_lexer.proofs.LaterLanguages.{keyword_small, sign_small}
 use Rattle.tc_lexer.specs.declared.token.Keyword.TheVariants as keyword
-use Rattle.tc_lexer.specs.declared.token.Sign.{Sign}
 use Rattle.tc_lexer.specs.declared.token.Sign.TheVariants as sign
 use Rattle.tc_tree.specs.declared.statement.Barrier.TheVariants.{Fence, Stores}
+use Rattle.tc_tree.specs.declared.statement.Target.{Target}
+use Rattle.tc_tree.specs.declared.statement.Target.TheVariants as target
+use Rattle.tc_tree.specs.declared.statement.UpdateKind.{UpdateKind}
+use Rattle.tc_tree.specs.declared.statement.UpdateKind.TheVariants as kind
 use Rattle.tc_tree.specs.declared.expression.Name.{Name}
 use Rattle.tc_tree.specs.declared.expression.Number.{Number as TreeNumber}
 use Rattle.tc_tree.specs.declared.word.Word.{Word}
@@ -49,11 +51,12 @@ use Rattle.tc_tree.specs.declared.word.Word.TheVariants.{
   Name as AName,
   Number as ANumber,
   Barrier as ABarrier,
+  Update as AnUpdate,
   Keyword as AKeyword,
   Sign as ASign,
   End as AnEnd,
 }
-use Rattle.tc_tree.specs.Words.{word_since}
+use Rattle.tc_tree.specs.Words.{word_since, update_since}
 use Rattle.tc_tree.specs.Grammar.{
   Program,
   program_words,
@@ -169,27 +172,22 @@ finish (OtherParameters ∷ s) = let f = finish s in (f.0, skip_more OtherParame
 
 -- ---- every word is one of the last language
 
-keyword_small : (k : Keyword) → keyword_since k ≤ 3
-keyword_small keyword.Swap = omega arith
-keyword_small keyword.Cas = omega arith
-keyword_small keyword.Stbar = omega arith
-keyword_small _ = omega arith
+pub update_small : (k : UpdateKind) (t : Target) → update_since k t ≤ 4
+update_small kind.Add t = omega arith
+update_small kind.Swap target.Cell = omega arith
+update_small kind.Swap target.Element = omega arith
+update_small kind.Cas target.Cell = omega arith
+update_small kind.Cas target.Element = omega arith
 
-sign_small : (k : Sign) → sign_since k ≤ 3
-sign_small sign.Slash = omega arith
-sign_small sign.Percent = omega arith
-sign_small sign.ShiftLeft = omega arith
-sign_small sign.ShiftRight = omega arith
-sign_small _ = omega arith
-
-word_small : (w : Word) → word_since w ≤ 3
-word_small (AKeyword k) = keyword_small k
-word_small (ASign k) = sign_small k
+word_small : (w : Word) → word_since w ≤ 4
+word_small (AKeyword k) = omega (arith, keyword_small k)
+word_small (ASign k) = omega (arith, sign_small k)
 word_small (ABarrier Fence p) = omega arith
 word_small (ABarrier Stores p) = omega arith
+word_small (AnUpdate k t) = update_small k t
 word_small _ = omega arith
 
-pub are_of : (ws : List Word) → AreOf 3 ws
+pub are_of : (ws : List Word) → AreOf 4 ws
 are_of [] = tt
 are_of (w ∷ ws) = (word_small w, are_of ws)
 
@@ -368,6 +366,6 @@ module _ (language : ℕ) (least : 1 ≤ language) where
             (subst (λ (us : List Word). IsSyntaxFault language us (length c.front)) (sym c.whole) at_front),
       )
 
-pub is_stop : (ws : List Word) (stop : Stop) → Ends ws stop → IsStop 3 ws stop
+pub is_stop : (ws : List Word) (stop : Stop) → Ends ws stop → IsStop 4 ws stop
 is_stop ws Memory h = tt
-is_stop ws (Left n) h = is_syntax_fault 3 (omega arith) ws n (are_of ws) h
+is_stop ws (Left n) h = is_syntax_fault 4 (omega arith) ws n (are_of ws) h

@@ -1,6 +1,9 @@
 -- The words that fit what is expected.
-use Rattle.std.proofs.Common.{◌≡◌, ◌≤◌, nat_eq, List, [], ◌∷◌, ◌++◌, Option, Some, None, Bool, true, false, refl, sym, ap, subst, ◌∙◌, append_assoc, arith}
+use Rattle.std.proofs.Common.{◌≡◌, ◌≤◌, nat_eq, List, [], ◌∷◌, ◌++◌, Option, Some, None, Bool, true, false, refl, sym, ap, ap₂, subst, ◌∙◌, append_assoc, arith}
 use Rattle.tc_lexer.specs.declared.place.Place.{Place}
+use Rattle.int_ops.specs.Updates.{operands_of}
+use Rattle.int_ops.specs.declared.update.Update.{Update}
+use Rattle.int_ops.specs.declared.update.Update.TheVariants as update
 use Rattle.int_ops.specs.declared.arith.UnOp.{UnOp}
 use Rattle.int_ops.specs.declared.arith.UnOp.TheVariants.{Neg, Not, Inv}
 use Rattle.tc_lexer.specs.declared.token.Keyword.TheVariants as keyword
@@ -12,7 +15,11 @@ use Rattle.tc_tree.specs.declared.statement.Action.{Action}
 use Rattle.tc_tree.specs.declared.statement.Barrier.{Barrier}
 use Rattle.tc_tree.specs.declared.program.Initial.{Initial}
 use Rattle.tc_tree.specs.declared.program.Initial.TheVariants.{Zero, Plain, Negated}
-use Rattle.tc_tree.specs.Grammar.{Expression, Number, Variable, Element, Paren, Unary, Statement, Assign, Store, Create, Swap, Cas, Act, Wait, Order, Assert, While, If, Nil, Cons, Otherwise, Nothing, Else, ElseIf, Body, Thread, binary_sign, unary_sign, expression_then, others_then, list_then, tightness, IsGrouped, AreGrouped, in_parens_then, statement_then, statements_then, otherwise_then, IsWell, AreWell, IsWellOtherwise, initial_then, global_then, globals_then, locals_then, body_then, parameters_then, other_parameters_then, thread_then, threads_then, AreWellThreads}
+use Rattle.tc_tree.specs.Grammar.{Expression, Number, Variable, Element, Paren, Unary, Statement, Assign, Store, Create, Modify, Act, Wait, Order, Assert, While, If, Nil, Cons, Otherwise, Nothing, Else, ElseIf, Body, Thread, binary_sign, unary_sign, expression_then, index_then, target_by, kind_of, IsGroupedIndex, others_then, list_then, tightness, IsGrouped, AreGrouped, in_parens_then, statement_then, statements_then, otherwise_then, IsWell, AreWell, IsWellOtherwise, initial_then, global_then, globals_then, locals_then, body_then, parameters_then, other_parameters_then, thread_then, threads_then, AreWellThreads}
+use Rattle.tc_tree.specs.declared.statement.Target.{Target}
+use Rattle.tc_tree.specs.declared.statement.Target.TheVariants as target
+use Rattle.tc_tree.specs.declared.statement.UpdateKind.{UpdateKind}
+use Rattle.tc_tree.specs.declared.statement.UpdateKind.TheVariants as kind
 use Rattle.tc_tree.specs.declared.word.Word.TheVariants.{
   Name as AName,
   Number as ANumber,
@@ -22,6 +29,7 @@ use Rattle.tc_tree.specs.declared.word.Word.TheVariants.{
   Wait as AWait,
   Barrier as ABarrier,
   Assert as AnAssert,
+  Update as AnUpdate,
   Keyword as AKeyword,
   Sign as ASign,
   End as AnEnd,
@@ -57,6 +65,8 @@ use Rattle.tc_syntax.specs.helpers.Reading.{
   Threads,
   AfterGlobal,
   Initial as AnInitial,
+  an_index,
+  operands,
   operand,
   statement,
   followed,
@@ -226,40 +236,85 @@ create_more s ws (f, r, is, (r0, is0, (es, r1, ge, is1, (r2, is2, (rest, is3, d)
   d,
 )
 
-swap_more : (s : List Expected) (ws : List Word) → Stands
-    (Just sign.OpenParen ∷ AnyName ∷ Just sign.Comma ∷ Operand ∷ Operators ∷ Just sign.CloseParen ∷ Just sign.Semicolon ∷ s) ws
-    → Stands (AfterAssign ∷ s) (AKeyword keyword.Swap ∷ ws)
-swap_more s ws (r0, is0, (x, r1, is1, (r2, is2, d))) =
-    let e = ended sign.CloseParen (Just sign.Semicolon ∷ s) r2 d in (
-      e.then.0,
-      (λ r. (
-        Swap r x e.tree,
-        e.grouped,
-        ap (λ (us : List Word). AName r ∷ ASign sign.Assign ∷ AKeyword keyword.Swap ∷ us) (is0
-            ∙ ap (λ (us : List Word). ASign sign.OpenParen ∷ us) (is1
-            ∙ ap (λ (us : List Word). AName x ∷ us) (is2 ∙ ap (λ (us : List Word). ASign sign.Comma ∷ us) (e.spelled
-            ∙ ap (λ (us : List Word). expression_then e.tree (ASign sign.CloseParen ∷ us)) e.then.1)))),
-      )),
-      e.then.2,
-    )
+-- words that fit the index of an update, if it has one
+record Indexed (t : Target) (s : List Expected) (ws : List Word) : Type 0 where
+  index : Option Expression
+  rest : List Word
+  grouped : IsGroupedIndex index
+  target_is : target_by index ≡ t
+  spelled : ws ≡ index_then index rest
+  then : Stands s rest
 
-cas_more : (s : List Expected) (ws : List Word) → Stands
-    (Just sign.OpenParen ∷ AnyName ∷ Just sign.Comma ∷ Operand ∷ Operators ∷ Just sign.Comma ∷ Operand ∷ Operators ∷ Just sign.CloseParen ∷ Just
-    sign.Semicolon ∷ s) ws → Stands (AfterAssign ∷ s) (AKeyword keyword.Cas ∷ ws)
-cas_more s ws (r0, is0, (x, r1, is1, (r2, is2, d))) =
-    let e = ended sign.Comma (Operand ∷ Operators ∷ Just sign.CloseParen ∷ Just sign.Semicolon ∷ s) r2 d in
-    let f = ended sign.CloseParen (Just sign.Semicolon ∷ s) e.rest e.then in (
-      f.then.0,
+indexed : (t : Target) (s : List Expected) (ws : List Word) → Stands (an_index t s) ws → Indexed t s ws
+indexed target.Cell s ws d = record { index = None; rest = ws; grouped = tt; target_is = refl; spelled = refl; then = d }
+indexed target.Element s ws (r, is, d) =
+    let e = ended sign.CloseBracket s r d in record {
+      index = Some e.tree;
+      rest = e.rest;
+      grouped = e.grouped;
+      target_is = refl;
+      spelled = is ∙ ap (λ (us : List Word). ASign sign.OpenBracket ∷ us) e.spelled;
+      then = e.then;
+    }
+
+-- words that fit the operands of an update and a closing parenthesis
+record Operated (k : UpdateKind) (s : List Expected) (ws : List Word) : Type 0 where
+  update : Update Expression
+  rest : List Word
+  grouped : AreGrouped (operands_of update)
+  kind_is : kind_of update ≡ k
+  spelled : ws ≡ others_then (operands_of update) (ASign sign.CloseParen ∷ rest)
+  then : Stands s rest
+
+operated : (k : UpdateKind) (s : List Expected) (ws : List Word) → Stands (operands k (Just sign.CloseParen ∷ s)) ws → Operated k s ws
+operated kind.Swap s ws (r, is, d) =
+    let e = ended sign.CloseParen s r d in record {
+      update = update.Swap e.tree;
+      rest = e.rest;
+      grouped = (e.grouped, tt);
+      kind_is = refl;
+      spelled = is ∙ ap (λ (us : List Word). ASign sign.Comma ∷ us) e.spelled;
+      then = e.then;
+    }
+operated kind.Cas s ws (r, is, d) =
+    let e = ended sign.Comma (Operand ∷ Operators ∷ Just sign.CloseParen ∷ s) r d in
+    let f = ended sign.CloseParen s e.rest e.then in record {
+      update = update.Cas e.tree f.tree;
+      rest = f.rest;
+      grouped = (e.grouped, (f.grouped, tt));
+      kind_is = refl;
+      spelled = is ∙ ap (λ (us : List Word). ASign sign.Comma ∷ us) (e.spelled
+          ∙ ap (λ (us : List Word). expression_then e.tree (ASign sign.Comma ∷ us)) f.spelled);
+      then = f.then;
+    }
+operated kind.Add s ws (r, is, d) =
+    let e = ended sign.CloseParen s r d in record {
+      update = update.Add e.tree;
+      rest = e.rest;
+      grouped = (e.grouped, tt);
+      kind_is = refl;
+      spelled = is ∙ ap (λ (us : List Word). ASign sign.Comma ∷ us) e.spelled;
+      then = e.then;
+    }
+
+update_more : (k : UpdateKind) (t : Target) (s : List Expected) (ws : List Word) → Stands
+    (Just sign.OpenParen ∷ AnyName ∷ an_index t (operands k (Just sign.CloseParen ∷ Just sign.Semicolon ∷ s))) ws
+    → Stands (AfterAssign ∷ s) (AnUpdate k t ∷ ws)
+update_more k t s ws (r0, is0, (x, r1, is1, d)) =
+    let i = indexed t (operands k (Just sign.CloseParen ∷ Just sign.Semicolon ∷ s)) r1 d in
+    let o = operated k (Just sign.Semicolon ∷ s) i.rest i.then in (
+      o.then.0,
       (λ r. (
-        Cas r x e.tree f.tree,
-        (e.grouped, f.grouped),
-        ap (λ (us : List Word). AName r ∷ ASign sign.Assign ∷ AKeyword keyword.Cas ∷ us) (is0
+        Modify r x i.index o.update,
+        (i.grouped, o.grouped),
+        ap (λ (us : List Word). AName r ∷ ASign sign.Assign ∷ AnUpdate k t ∷ us) (is0
             ∙ ap (λ (us : List Word). ASign sign.OpenParen ∷ us) (is1
-            ∙ ap (λ (us : List Word). AName x ∷ us) (is2 ∙ ap (λ (us : List Word). ASign sign.Comma ∷ us) (e.spelled
-            ∙ ap (λ (us : List Word). expression_then e.tree (ASign sign.Comma ∷ us)) (f.spelled
-            ∙ ap (λ (us : List Word). expression_then f.tree (ASign sign.CloseParen ∷ us)) f.then.1))))),
+            ∙ ap (λ (us : List Word). AName x ∷ us) (i.spelled ∙ ap (λ (us : List Word). index_then i.index us) (o.spelled
+            ∙ ap (λ (us : List Word). others_then (operands_of o.update) (ASign sign.CloseParen ∷ us)) o.then.1))))
+            ∙ ap₂ (λ (k' : UpdateKind) (t' : Target). AName r ∷ ASign sign.Assign ∷ AnUpdate k' t' ∷ ASign sign.OpenParen ∷ AName x ∷ index_then i.index
+            (others_then (operands_of o.update) (ASign sign.CloseParen ∷ ASign sign.Semicolon ∷ o.then.0))) (sym o.kind_is) (sym i.target_is),
       )),
-      f.then.2,
+      o.then.2,
     )
 
 -- one more statement before the others
@@ -598,8 +653,12 @@ first_more AfterName (ASign sign.Assign) s ws d = assign_more s ws d
 first_more AfterName (ASign sign.OpenBracket) s ws d = store_more s ws d
 first_more AfterName _ s ws d = absurd d
 first_more AfterAssign (AKeyword keyword.Create) s ws d = create_more s ws d
-first_more AfterAssign (AKeyword keyword.Swap) s ws d = swap_more s ws d
-first_more AfterAssign (AKeyword keyword.Cas) s ws d = cas_more s ws d
+first_more AfterAssign (AnUpdate kind.Swap target.Cell) s ws d = update_more kind.Swap target.Cell s ws d
+first_more AfterAssign (AnUpdate kind.Swap target.Element) s ws d = update_more kind.Swap target.Element s ws d
+first_more AfterAssign (AnUpdate kind.Cas target.Cell) s ws d = update_more kind.Cas target.Cell s ws d
+first_more AfterAssign (AnUpdate kind.Cas target.Element) s ws d = update_more kind.Cas target.Element s ws d
+first_more AfterAssign (AnUpdate kind.Add target.Cell) s ws d = update_more kind.Add target.Cell s ws d
+first_more AfterAssign (AnUpdate kind.Add target.Element) s ws d = update_more kind.Add target.Element s ws d
 first_more AfterAssign w s ws d = assigned_more w s ws d
 first_more Alternative (AKeyword keyword.Else) s ws d = d
 first_more Alternative _ s ws d = absurd d

@@ -1,6 +1,9 @@
 -- The machine passes over the words of a tree.
-use Rattle.std.proofs.Common.{◌≡◌, Bool, true, false, List, [], ◌∷◌, Some, None, refl, ◌∙◌}
+use Rattle.std.proofs.Common.{◌≡◌, Bool, true, false, List, [], ◌∷◌, Option, Some, None, refl, ◌∙◌}
 use Rattle.tc_lexer.specs.declared.place.Place.{Place}
+use Rattle.int_ops.specs.Updates.{operands_of}
+use Rattle.int_ops.specs.declared.update.Update.{Update}
+use Rattle.int_ops.specs.declared.update.Update.TheVariants as update
 use Rattle.int_ops.specs.declared.arith.UnOp.TheVariants.{Neg, Not, Inv}
 use Rattle.tc_lexer.specs.declared.token.Keyword.TheVariants as keyword
 use Rattle.tc_lexer.specs.declared.token.Sign.{Sign}
@@ -8,8 +11,8 @@ use Rattle.tc_lexer.specs.declared.token.Sign.TheVariants as sign
 use Rattle.tc_tree.specs.declared.expression.Operator.{Operator}
 use Rattle.tc_tree.specs.declared.expression.Operator.TheVariants as operator
 use Rattle.tc_tree.specs.declared.program.Initial.TheVariants.{Zero, Plain, Negated}
-use Rattle.tc_tree.specs.Grammar.{Expression, Number, Variable, Element, Paren, Unary, Binary, Statement, Assign, Store, Create, Swap, Cas, Act, Wait, Order, Assert, While, If, Nil, Cons, Otherwise, Nothing, Else, ElseIf, Body, Thread, Program, binary_sign, expression_then, others_then, list_then, statement_then, statements_then, otherwise_then, global_then, globals_then, locals_then, body_then, parameters_then, other_parameters_then, threads_then, program_words}
-use Rattle.tc_tree.specs.declared.word.Word.TheVariants.{Keyword as AKeyword, Sign as ASign, End as AnEnd}
+use Rattle.tc_tree.specs.Grammar.{Expression, Number, Variable, Element, Paren, Unary, Binary, Statement, Assign, Store, Create, Modify, Act, Wait, Order, Assert, While, If, Nil, Cons, Otherwise, Nothing, Else, ElseIf, Body, Thread, Program, binary_sign, expression_then, index_then, target_by, kind_of, others_then, list_then, statement_then, statements_then, otherwise_then, global_then, globals_then, locals_then, body_then, parameters_then, other_parameters_then, threads_then, program_words}
+use Rattle.tc_tree.specs.declared.word.Word.TheVariants.{Name as AName, Keyword as AKeyword, Sign as ASign, End as AnEnd}
 use Rattle.tc_tree.specs.declared.word.Word.{Word}
 use Rattle.tc_tree.specs.declared.expression.Name.{Name}
 use Rattle.tc_tree.specs.declared.program.Global.{Global}
@@ -29,6 +32,8 @@ use Rattle.tc_syntax.specs.helpers.Reading.{
   Others,
   Statements,
   AfterAssign,
+  an_index,
+  operands,
   Alternative,
   Locals,
   Parameters,
@@ -38,6 +43,7 @@ use Rattle.tc_syntax.specs.helpers.Reading.{
   fault,
 }
 use Rattle.tc_syntax.proofs.Signs.{operator_is, sign_read}
+use Rattle.tc_syntax.proofs.Updates.{update_goes}
 
 -- whether `[` follows
 abbrev pub opens : List Word → Bool
@@ -112,6 +118,19 @@ list_read (e ∷ es) s rest =
 
 -- ---- statements
 
+index_read : (i : Option Expression) (s : List Expected) (rest : List Word)
+    → fault (Some (an_index (target_by i) s)) (index_then i rest) ≡ fault (Some s) rest
+index_read None s rest = refl
+index_read (Some i) s rest = expression_read i (Just sign.CloseBracket ∷ s) (ASign sign.CloseBracket ∷ rest) refl
+
+operands_read : (u : Update Expression) (s : List Expected) (rest : List Word)
+    → fault (Some (operands (kind_of u) (Just sign.CloseParen ∷ s))) (others_then (operands_of u) (ASign sign.CloseParen ∷ rest)) ≡ fault (Some s) rest
+operands_read (update.Swap e) s rest = expression_read e (Just sign.CloseParen ∷ s) (ASign sign.CloseParen ∷ rest) refl
+operands_read (update.Cas e f) s rest =
+    expression_read e (Just sign.Comma ∷ Operand ∷ Operators ∷ Just sign.CloseParen ∷ s) (ASign sign.Comma ∷ expression_then f (ASign sign.CloseParen ∷ rest)) refl
+    ∙ expression_read f (Just sign.CloseParen ∷ s) (ASign sign.CloseParen ∷ rest) refl
+operands_read (update.Add e) s rest = expression_read e (Just sign.CloseParen ∷ s) (ASign sign.CloseParen ∷ rest) refl
+
 -- whether `else` follows
 abbrev pub is_else : List Word → Bool
 is_else (AKeyword keyword.Else ∷ ws) = true
@@ -126,8 +145,7 @@ statement_begins : (a : Statement) (rest : List Word) → is_else (statement_the
 statement_begins (Assign x e) rest = refl
 statement_begins (Store a i e) rest = refl
 statement_begins (Create h f es) rest = refl
-statement_begins (Swap r x e) rest = refl
-statement_begins (Cas r x e f) rest = refl
+statement_begins (Modify r x i u) rest = refl
 statement_begins (Act p a x) rest = refl
 statement_begins (Wait p c m) rest = refl
 statement_begins (Order p b) rest = refl
@@ -149,12 +167,12 @@ mutual
       (ASign sign.CloseBracket ∷ ASign sign.Assign ∷ expression_then e (ASign sign.Semicolon ∷ rest)) refl
       ∙ expression_read e (Just sign.Semicolon ∷ Statements ∷ s) (ASign sign.Semicolon ∷ rest) refl
   statement_read (Create h f es) s rest g = list_read es (Just sign.Semicolon ∷ Statements ∷ s) (ASign sign.Semicolon ∷ rest)
-  statement_read (Swap r x e) s rest h = expression_read e (Just sign.CloseParen ∷ Just sign.Semicolon ∷ Statements ∷ s)
-      (ASign sign.CloseParen ∷ ASign sign.Semicolon ∷ rest) refl
-  statement_read (Cas r x e f) s rest h =
-      expression_read e (Just sign.Comma ∷ Operand ∷ Operators ∷ Just sign.CloseParen ∷ Just sign.Semicolon ∷ Statements ∷ s)
-      (ASign sign.Comma ∷ expression_then f (ASign sign.CloseParen ∷ ASign sign.Semicolon ∷ rest)) refl
-      ∙ expression_read f (Just sign.CloseParen ∷ Just sign.Semicolon ∷ Statements ∷ s) (ASign sign.CloseParen ∷ ASign sign.Semicolon ∷ rest) refl
+  statement_read (Modify r x i u) s rest h =
+      update_goes (kind_of u) (target_by i) (Statements ∷ s) (ASign sign.OpenParen ∷ AName x ∷ index_then i
+      (others_then (operands_of u) (ASign sign.CloseParen ∷ ASign sign.Semicolon ∷ rest)))
+      ∙ index_read i (operands (kind_of u) (Just sign.CloseParen ∷ Just sign.Semicolon ∷ Statements ∷ s))
+      (others_then (operands_of u) (ASign sign.CloseParen ∷ ASign sign.Semicolon ∷ rest))
+      ∙ operands_read u (Just sign.Semicolon ∷ Statements ∷ s) (ASign sign.Semicolon ∷ rest)
   statement_read (Act p a x) s rest h = refl
   statement_read (Wait p c m) s rest h = refl
   statement_read (Order p b) s rest h = refl
@@ -200,8 +218,7 @@ no_local Nil p rest s = refl
 no_local (Cons (Assign x e) b) p rest s = refl
 no_local (Cons (Store a i e) b) p rest s = refl
 no_local (Cons (Create h f es) b) p rest s = refl
-no_local (Cons (Swap r x e) b) p rest s = refl
-no_local (Cons (Cas r x e f) b) p rest s = refl
+no_local (Cons (Modify r x i u) b) p rest s = refl
 no_local (Cons (Act p' a x) b) p rest s = refl
 no_local (Cons (Wait p' c m) b) p rest s = refl
 no_local (Cons (Order p' o) b) p rest s = refl

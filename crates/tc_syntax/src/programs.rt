@@ -33,8 +33,8 @@ use tc_tree::{Block, Body, Global, Initial, Local, Name, Program, Thread, Word};
 /// The program that the words spell.
 pub fn read_program(alloc: Heap, words: &[Word]) -> Result<Program, Stop>
     ensures { MatchResult result
-        (λ program. IsSpelled 3 words.now (program_of program))
-        (λ stop. IsStop 3 words.now stop) }
+        (λ program. IsSpelled 4 words.now (program_of program))
+        (λ stop. IsStop 4 words.now stop) }
 {
     match read_all(alloc, words) {
         Ok(program) => Ok(program),

@@ -2,14 +2,16 @@
 ghost use Rattle.std.specs.Prelude.{◌≡◌, List, ◌∷◌, [], MatchOption, MatchResult};
 ghost use Rattle.tc_lexer.specs.declared.place.Place.{Place as PlainPlace};
 ghost use Rattle.tc_lexer.specs.declared.token.Keyword.TheVariants as keyword;
-ghost use Rattle.tc_tree.specs.declared.word.Word.TheVariants.{Sign as ASign, Name as AName, Number as ANumber, If as AnIf, Keyword as AKeyword, End as AnEnd};
+ghost use Rattle.tc_tree.specs.declared.word.Word.TheVariants.{Sign as ASign, Name as AName, Number as ANumber, If as AnIf, Keyword as AKeyword, Update as AnUpdate, End as AnEnd};
+ghost use Rattle.tc_tree.specs.declared.statement.Target.{Target as OneTarget};
+ghost use Rattle.tc_tree.specs.declared.statement.UpdateKind.{UpdateKind as OneKind};
 ghost use Rattle.tc_tree.specs.declared.word.Word.{Word as GrammarWord};
 ghost use Rattle.tc_syntax.specs.helpers.Reading.{Just, AnyName, AnyNumber, AnInt, End};
 ghost use Rattle.tc_syntax.specs.helpers.Read.{Stops, Moves};
 
 use std::alloc::{AllocError, AllocFailed};
 use tc_lexer::{Keyword, Place, Sign};
-use tc_tree::{Name, Number, Word};
+use tc_tree::{Name, Number, Target, UpdateKind, Word};
 
 /// Why a reader stopped.
 #[derive(Clone, Copy, Debug, PartialEq, Eq)]
@@ -63,6 +65,18 @@ pub(crate) fn past_keyword<'w>(words: &'w [Word], wanted: Keyword) -> Option<&'w
 {
     match words {
         [Word::Keyword(keyword), rest @ ..] if *keyword == wanted => Some(rest),
+        _ => None,
+    }
+}
+
+/// An update and what it changes, and the words after it, if one is next.
+pub(crate) fn past_update<'w>(words: &'w [Word]) -> Option<((UpdateKind, Target), &'w [Word])>
+    ensures { MatchOption result
+        ((k : OneKind) (t : OneTarget) (rest : List GrammarWord) → words.now ≡ AnUpdate k t ∷ rest → ⊥)
+        (λ x. words.now ≡ AnUpdate x.0.0 x.0.1 ∷ x.1.now) }
+{
+    match words {
+        [Word::Update(kind, target), rest @ ..] => Some(((*kind, *target), rest)),
         _ => None,
     }
 }

@@ -1,8 +1,9 @@
 //! Reads statements.
 ghost use Rattle.std.specs.Prelude.{◌≡◌, ◌<◌, ◌≤◌, ◌∷◌, ◌++◌, [], true, MatchResult};
+ghost use Rattle.int_ops.specs.Updates.{operands_of};
 ghost use Rattle.tc_lexer.specs.declared.token.Keyword.TheVariants as keyword;
 ghost use Rattle.tc_lexer.specs.declared.token.Sign.TheVariants as sign;
-ghost use Rattle.tc_tree.specs.Grammar.{statement_then, statements_then, otherwise_then, IsWell, AreWell, IsWellOtherwise};
+ghost use Rattle.tc_tree.specs.Grammar.{expression_then, index_then, others_then, IsGrouped, target_by, kind_of, IsGroupedIndex, AreGrouped, statement_then, statements_then, otherwise_then, IsWell, AreWell, IsWellOtherwise};
 ghost use Rattle.tc_tree.specs.declared.word.Word.TheVariants.{
   Sign as ASign,
   Name as AName,
@@ -13,18 +14,22 @@ ghost use Rattle.tc_tree.specs.declared.word.Word.TheVariants.{
   Wait as AWait,
   Barrier as ABarrier,
   Assert as AnAssert,
+  Update as AnUpdate,
 };
 ghost use Rattle.tc_tree.specs.Seen.{statement_of, block_of, branch_of};
-ghost use Rattle.tc_syntax.specs.helpers.Reading.{Just, AnyName, Operand, Operators, Arguments, Statements, AfterName, AfterAssign, Alternative, End, guarded};
+ghost use Rattle.tc_syntax.specs.helpers.Reading.{Just, AnyName, Operand, Operators, Arguments, Statements, AfterName, AfterAssign, Alternative, End, guarded, an_index, operands, an_update};
 ghost use Rattle.tc_tree.specs.helpers.Parts.{statements_seen, otherwise_seen};
 ghost use Rattle.tc_syntax.specs.helpers.Read.{Stops, IsRead, IsStatement, block_then, branch_then, IsWellBlock, IsWellBranch};
 ghost use Rattle.tc_syntax.specs.helpers.Read as reads;
 
 use crate::expressions::{read_arguments, read_expression};
-use crate::reader::{Read, Stop, past, past_end, past_if, past_keyword, past_name};
+use crate::reader::{Read, Stop, past, past_end, past_if, past_keyword, past_name, past_update};
+use int_ops::Update;
 use std::alloc::Global;
 use tc_lexer::{Keyword, Place, Sign};
-use tc_tree::{Action, Barrier, Block, Branch, Name, Statement, Word};
+use tc_tree::{
+    Action, Barrier, Block, Branch, Expression, Name, Statement, Target, UpdateKind, Word,
+};
 
 /// What follows the first branch of an `if`.
 type Otherwise = (Vec<Branch>, Option<Block>);
@@ -123,10 +128,8 @@ fn read_assigned<'w>(alloc: Global, name: Name, words: &'w [Word]) -> Read<'w, S
 {
     if let Some(start) = past_keyword(words, Keyword::Create) {
         read_create(alloc, name, start)
-    } else if let Some(start) = past_keyword(words, Keyword::Swap) {
-        read_swap(alloc, name, start)
-    } else if let Some(start) = past_keyword(words, Keyword::Cas) {
-        read_cas(alloc, name, start)
+    } else if let Some(((kind, target), start)) = past_update(words) {
+        read_update(alloc, name, kind, target, start)
     } else {
         let (value, end) = read_expression(alloc, words)?;
         let rest = past(end, Sign::Semicolon)?;
@@ -148,42 +151,75 @@ fn read_create<'w>(alloc: Global, handle: Name, words: &'w [Word]) -> Read<'w, S
     Ok((Statement::Create(handle, thread, arguments), rest))
 }
 
-/// The parts of a `swap`, and the words after them.
-fn read_swap<'w>(alloc: Global, local: Name, words: &'w [Word]) -> Read<'w, Statement>
+/// The parts of an update, and the words after them.
+fn read_update<'w>(
+    alloc: Global,
+    local: Name,
+    kind: UpdateKind,
+    target: Target,
+    words: &'w [Word],
+) -> Read<'w, Statement>
     ensures { MatchResult result
-        (λ x. IsRead statement_then IsWell (AName local ∷ ASign sign.Assign ∷ AKeyword keyword.Swap ∷ [])
-        (Just sign.OpenParen ∷ AnyName ∷ Just sign.Comma ∷ Operand ∷ Operators ∷ Just sign.CloseParen ∷ Just sign.Semicolon ∷ []) words.now
+        (λ x. IsRead statement_then IsWell (AName local ∷ ASign sign.Assign ∷ AnUpdate kind target ∷ []) (an_update kind target) words.now
         (statement_of x.0) x.1.now)
-        (λ stop. Stops (Just sign.OpenParen ∷ AnyName ∷ Just sign.Comma ∷ Operand ∷ Operators ∷ Just sign.CloseParen ∷ Just sign.Semicolon ∷ [])
-        words.now stop) }
+        (λ stop. Stops (an_update kind target) words.now stop) }
 {
     let start = past(words, Sign::OpenParen)?;
     let (global, after) = past_name(start)?;
-    let start = past(after, Sign::Comma)?;
-    let (value, end) = read_expression(alloc, start)?;
+    let (index, after) = read_index(alloc, target, after)?;
+    let (update, end) = read_operands(alloc, kind, after)?;
     let end = past(end, Sign::CloseParen)?;
     let rest = past(end, Sign::Semicolon)?;
-    Ok((Statement::Swap(local, global, value), rest))
+    Ok((Statement::Modify(local, global, index, update), rest))
 }
 
-/// The parts of a `cas`, and the words after them.
-fn read_cas<'w>(alloc: Global, local: Name, words: &'w [Word]) -> Read<'w, Statement>
+/// The index of an update, if it is of an element, and the words after it.
+fn read_index<'w>(alloc: Global, target: Target, words: &'w [Word]) -> Read<'w, Option<Expression>>
     ensures { MatchResult result
-        (λ x. IsRead statement_then IsWell (AName local ∷ ASign sign.Assign ∷ AKeyword keyword.Cas ∷ [])
-        (Just sign.OpenParen ∷ AnyName ∷ Just sign.Comma ∷ Operand ∷ Operators ∷ Just sign.Comma ∷ Operand ∷ Operators ∷ Just sign.CloseParen ∷
-        Just sign.Semicolon ∷ []) words.now (statement_of x.0) x.1.now)
-        (λ stop. Stops (Just sign.OpenParen ∷ AnyName ∷ Just sign.Comma ∷ Operand ∷ Operators ∷ Just sign.Comma ∷ Operand ∷ Operators ∷ Just
-        sign.CloseParen ∷ Just sign.Semicolon ∷ []) words.now stop) }
+        (λ x. IsRead index_then (λ i. IsGroupedIndex i × (target_by i ≡ target)) [] (an_index target []) words.now x.0 x.1.now)
+        (λ stop. Stops (an_index target []) words.now stop) }
 {
-    let start = past(words, Sign::OpenParen)?;
-    let (global, after) = past_name(start)?;
-    let start = past(after, Sign::Comma)?;
-    let (old, end) = read_expression(alloc, start)?;
-    let start = past(end, Sign::Comma)?;
-    let (new, end) = read_expression(alloc, start)?;
-    let end = past(end, Sign::CloseParen)?;
-    let rest = past(end, Sign::Semicolon)?;
-    Ok((Statement::Cas(local, global, old, new), rest))
+    match target {
+        Target::Cell => Ok((None, words)),
+        Target::Element => {
+            let start = past(words, Sign::OpenBracket)?;
+            let (index, end) = read_expression(alloc, start)?;
+            let rest = past(end, Sign::CloseBracket)?;
+            Ok((Some(index), rest))
+        }
+    }
+}
+
+/// The operands of an update, and the words after them.
+fn read_operands<'w>(
+    alloc: Global,
+    kind: UpdateKind,
+    words: &'w [Word],
+) -> Read<'w, Update<Expression>>
+    ensures { MatchResult result
+        (λ x. IsRead (λ u rest. others_then (operands_of u) rest) (λ u. AreGrouped (operands_of u) × (kind_of u ≡ kind)) [] (operands kind [])
+        words.now x.0 x.1.now)
+        (λ stop. Stops (operands kind []) words.now stop) }
+{
+    let (first, rest) = read_operand(alloc, words)?;
+    match kind {
+        UpdateKind::Swap => Ok((Update::Swap(first), rest)),
+        UpdateKind::Add => Ok((Update::Add(first), rest)),
+        UpdateKind::Cas => {
+            let (second, rest) = read_operand(alloc, rest)?;
+            Ok((Update::Cas(first, second), rest))
+        }
+    }
+}
+
+/// A comma and an expression, and the words after them.
+fn read_operand<'w>(alloc: Global, words: &'w [Word]) -> Read<'w, Expression>
+    ensures { MatchResult result
+        (λ x. IsRead (λ e rest. ASign sign.Comma ∷ expression_then e rest) IsGrouped [] (Just sign.Comma ∷ Operand ∷ Operators ∷ []) words.now x.0 x.1.now)
+        (λ stop. Stops (Just sign.Comma ∷ Operand ∷ Operators ∷ []) words.now stop) }
+{
+    let start = past(words, Sign::Comma)?;
+    read_expression(alloc, start)
 }
 
 /// The one name of a statement, and the words after it.

@@ -3,17 +3,19 @@ use Rattle.std.specs.Prelude.{◌≡◌, ◌+◌, ◌<◌, ◌≤◌, ◌^◌, l
 use Rattle.std.specs.FinMap as fin
 use Rattle.tc_base.specs.Names.{Name, ByName}
 use Rattle.tc_base.specs.States.{Local, Thread}
+use Rattle.tc_code.specs.Expr.{Expr}
+use Rattle.tc_code.specs.declared.cell.Cell.{Cell}
 use Rattle.tc_code.specs.declared.instr.Instr.{Instr}
 use Rattle.tc_code.specs.declared.instr.Instr.TheVariants.{Branch}
 use Rattle.tc_code.specs.tc_limits.declared.limits.TheConstants.{CELLS}
 use Rattle.tc_code.specs.Code.{Code}
-use Rattle.tc_code.specs.Lawful.{names_what_is}
+use Rattle.tc_code.specs.Lawful.{has_cell, names_what_is}
 use Rattle.tc_code.specs.declared.code.Func.{Func}
 use Rattle.tc_base.specs.declared.request.Request.{Request}
 use Rattle.tc_base.specs.declared.request.Request.TheVariants.{Start}
 use Rattle.tc_code.specs.Step.{ints_of, arguments_of}
 use Rattle.run_laws.specs.Counters.{IsBelowLast}
-use Rattle.run_laws.specs.Whole.{IndexIsWithin}
+use Rattle.run_laws.specs.Whole.{CellIsWithin, IndexIsWithin}
 
 -- the function, resized to the thread's slots and handles
 abbrev pub sized : Func → Local → Func
@@ -26,6 +28,14 @@ pub record CanAsk (code : Code) (t : Local) (i : Instr) : Type 0 where
   pub held : length t.held ≡ code.mutexes
   pub cells : length code.memory ≤ CELLS
   pub index : IndexIsWithin t i
+
+-- the cell exists, and an element is inside its array
+pub record CanReach (t : Local) (c : Cell Expr) : Type 0 where
+  pub code : Code
+  pub function : Func
+  pub there : IsTrue (has_cell code (sized function t) c)
+  pub cells : length code.memory ≤ CELLS
+  pub index : CellIsWithin t c
 
 -- the thread's next place, next step count and next child number fit
 pub record HasRoom (t : Local) : Type 0 where

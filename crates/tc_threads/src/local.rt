@@ -2,20 +2,22 @@
 //! there.
 ghost use Rattle.std.specs.Prelude.{◌≡◌, ℕ, ◌+◌, ◌<◌, ◌≤◌, ◌^◌, length, slice_set, map, true, IsTrue, IfOk, OnOk, OnErr, OnSome, option_map};
 ghost use Rattle.std.specs.List.{list_all};
+ghost use Rattle.int_ops.specs.Updates.{operands_of};
 ghost use Rattle.store_buffers.specs.Buffers.{no_buffer};
 ghost use Rattle.tc_base.specs.declared.handle.Handle.{Handle};
 ghost use Rattle.tc_code.specs.Code as flat;
 ghost use Rattle.tc_code.specs.Lawful.{IsLawful};
 ghost use Rattle.tc_code.specs.Expr.{value_of, names_slots};
 ghost use Rattle.tc_code.specs.Step as plain;
-ghost use Rattle.tc_threads.specs.CanDo.{CanAsk, CanDo, HasRoom, is_branch};
+ghost use Rattle.tc_threads.specs.CanDo.{CanAsk, CanReach, CanDo, HasRoom, is_branch};
 
 use crate::outcomes::Outcomes;
 use crate::request::{can_be_joined, cell_at, child_number, is_distance, is_within, site};
+use int_ops::Update;
 use std::alloc::{AllocError, Global};
 use std::marker::Model;
 use tc_base::{Handle, Request};
-use tc_code::{Code, Expr, Instr, value};
+use tc_code::{Cell, Code, Expr, Instr, value};
 
 /// The local state of a thread, without its store buffer.
 #[derive(Debug, Drop)]
@@ -135,20 +137,10 @@ impl Local {
     {
         match instr {
             Instr::Set { .. } | Instr::Branch { .. } | Instr::Goto { .. } => Request::Silent,
-            Instr::Load { cell, .. } => Request::Read(*cell),
-            Instr::LoadAt { first, index, .. } => {
-                Request::Read(cell_at(*first, value(index, &self.slots)))
+            Instr::Load { cell, .. } => Request::Read(self.cell(cell)),
+            Instr::Store { cell, value: e } => {
+                Request::Write(self.cell(cell), value(e, &self.slots))
             }
-            Instr::Store { cell, value: e } => Request::Write(*cell, value(e, &self.slots)),
-            Instr::StoreAt {
-                first,
-                index,
-                value: e,
-                ..
-            } => Request::Write(
-                cell_at(*first, value(index, &self.slots)),
-                value(e, &self.slots),
-            ),
             Instr::Inside { length, index } => {
                 site(is_within(*length, value(index, &self.slots)))
             }
@@ -165,20 +157,37 @@ impl Local {
             Instr::Assert(condition) => site(value(condition, &self.slots) != 0),
             Instr::Nonzero(e) => site(value(e, &self.slots) != 0),
             Instr::InRange(e) => site(is_distance(value(e, &self.slots))),
-            Instr::Swap { cell, value: e, .. } => Request::Exchange(*cell, value(e, &self.slots)),
-            Instr::Cas {
-                cell,
-                expected,
-                value: e,
-                ..
-            } => Request::CompareExchange(
-                *cell,
-                value(expected, &self.slots),
-                value(e, &self.slots),
-            ),
+            Instr::Modify { cell, update, .. } => {
+                Request::Exchange(self.cell(cell), self.update(update))
+            }
             Instr::Fence => Request::OrderStores,
             Instr::Stbar => Request::Bar,
             Instr::Exit => Request::Finish,
+        }
+    }
+
+    /// The cell that an instruction accesses.
+    fn cell(&self, cell: &Cell<Expr>) -> u32
+        requires { CanReach self.now cell.now }
+        ensures { result ≡ plain.cell_in self.now cell.now }
+    {
+        match cell {
+            Cell::Fixed(cell) => *cell,
+            Cell::Element { first, index, .. } => cell_at(*first, value(index, &self.slots)),
+        }
+    }
+
+    /// An update over the values of its expressions.
+    fn update(&self, update: &Update<Expr>) -> Update<i32>
+        requires { IsTrue (list_all (names_slots (length self.now.slots)) (operands_of update.now)) }
+        ensures { result ≡ plain.update_in self.now update.now }
+    {
+        match update {
+            Update::Swap(e) => Update::Swap(value(e, &self.slots)),
+            Update::Cas(expected, e) => {
+                Update::Cas(value(expected, &self.slots), value(e, &self.slots))
+            }
+            Update::Add(e) => Update::Add(value(e, &self.slots)),
         }
     }
 
@@ -206,10 +215,7 @@ impl Local {
                 let value = value(e, &self.slots);
                 self.set(*slot, value);
             }
-            Instr::Load { slot, .. }
-            | Instr::LoadAt { slot, .. }
-            | Instr::Swap { slot, .. }
-            | Instr::Cas { slot, .. } => self.set(*slot, taken),
+            Instr::Load { slot, .. } | Instr::Modify { slot, .. } => self.set(*slot, taken),
             Instr::Branch { condition, target } => {
                 let outcome = value(condition, &self.slots) != 0;
                 self.branch(outcome, *target)?;
@@ -221,7 +227,6 @@ impl Local {
             Instr::Join { handle } => self.join(*handle),
             Instr::Exit => self.exit(),
             Instr::Store { .. }
-            | Instr::StoreAt { .. }
             | Instr::Inside { .. }
             | Instr::Holds { .. }
             | Instr::Signal { .. }

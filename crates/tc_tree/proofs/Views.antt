@@ -1,5 +1,6 @@
 -- Statements of the tree as statements of the grammar.
 use Rattle.std.proofs.Common.{◌≡◌, Vec, Global, map, option_map, Option, Some, None, sym, ap, ◌∙◌}
+use Rattle.int_ops.specs.declared.update.Update.{Update}
 use Rattle.tc_lexer.specs.declared.place.Place.{Place}
 use Rattle.tc_tree.specs.Grammar.{Expression}
 use Rattle.tc_tree.specs.declared.expression.Name.{Name}
@@ -7,13 +8,12 @@ use Rattle.tc_tree.specs.declared.statement.Action.{Action}
 use Rattle.tc_tree.specs.declared.statement.Barrier.{Barrier}
 use Rattle.tc_tree.specs.declared.statement.Block.{Block, fold_out-Block}
 use Rattle.tc_tree.specs.declared.statement.Branch.{Branch as TreeBranch, fold_out-Branch}
-use Rattle.tc_tree.specs.declared.statement.Statement.{Assign, Store, Create, Swap, Cas, Act, Wait, Order, Assert, If, fold-roll-Statement}
+use Rattle.tc_tree.specs.declared.statement.Statement.{Assign, Store, Create, Modify, Act, Wait, Order, Assert, If, fold-roll-Statement}
 use Rattle.tc_tree.specs.declared.statement.Statement.TheVariants.{
   rolls-Assign,
   rolls-Store,
   rolls-Create,
-  rolls-Swap,
-  rolls-Cas,
+  rolls-Modify,
   rolls-Act,
   rolls-Wait,
   rolls-Order,
@@ -42,15 +42,10 @@ create_seen h f es =
     ap statement_of (sym (rolls-Create h f es))
     ∙ fold-roll-Statement grammar.Statement SeenBlock SeenBranch view_statement view_block view_branch (Statement-F.Create h f es)
 
-pub swap_seen : (r x : Name) (e : Expression) → statement_of (Swap r x e) ≡ grammar.Swap r x e
-swap_seen r x e =
-    ap statement_of (sym (rolls-Swap r x e))
-    ∙ fold-roll-Statement grammar.Statement SeenBlock SeenBranch view_statement view_block view_branch (Statement-F.Swap r x e)
-
-pub cas_seen : (r x : Name) (e f : Expression) → statement_of (Cas r x e f) ≡ grammar.Cas r x e f
-cas_seen r x e f =
-    ap statement_of (sym (rolls-Cas r x e f))
-    ∙ fold-roll-Statement grammar.Statement SeenBlock SeenBranch view_statement view_block view_branch (Statement-F.Cas r x e f)
+pub modify_seen : (r x : Name) (i : Option Expression) (u : Update Expression) → statement_of (Modify r x i u) ≡ grammar.Modify r x i u
+modify_seen r x i u =
+    ap statement_of (sym (rolls-Modify r x i u))
+    ∙ fold-roll-Statement grammar.Statement SeenBlock SeenBranch view_statement view_block view_branch (Statement-F.Modify r x i u)
 
 pub act_seen : (p : Place) (a : Action) (x : Name) → statement_of (Act p a x) ≡ grammar.Act p a x
 act_seen p a x =

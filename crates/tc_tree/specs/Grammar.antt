@@ -1,8 +1,11 @@
 -- Programs as plain trees, and the tokens that spell them, followed by given tokens.
-use Rattle.std.specs.Prelude.{◌≡◌, ℕ, ◌+◌, ◌<◌, ◌≤◌, List, [], ◌∷◌, ◌++◌, length, take}
+use Rattle.std.specs.Prelude.{◌≡◌, ℕ, ◌+◌, ◌<◌, ◌≤◌, List, [], ◌∷◌, ◌++◌, length, take, Option, Some, None}
 use Rattle.tc_lexer.specs.declared.place.Place.{Place}
+use Rattle.int_ops.specs.Updates.{operands_of}
 use Rattle.int_ops.specs.declared.arith.UnOp.{UnOp}
 use Rattle.int_ops.specs.declared.arith.UnOp.TheVariants.{Neg, Not, Inv}
+use Rattle.int_ops.specs.declared.update.Update.{Update}
+use Rattle.int_ops.specs.declared.update.Update.TheVariants as update
 use Rattle.tc_lexer.specs.declared.token.Keyword.TheVariants as keyword
 use Rattle.tc_lexer.specs.declared.token.Sign.{Sign as AnySign}
 use Rattle.tc_lexer.specs.declared.token.Sign.TheVariants as sign
@@ -31,6 +34,10 @@ use Rattle.tc_tree.specs.declared.expression.Operator.TheVariants.{
 }
 use Rattle.tc_tree.specs.declared.statement.Action.{Action}
 use Rattle.tc_tree.specs.declared.statement.Barrier.{Barrier}
+use Rattle.tc_tree.specs.declared.statement.UpdateKind.{UpdateKind}
+use Rattle.tc_tree.specs.declared.statement.UpdateKind.TheVariants as kind
+use Rattle.tc_tree.specs.declared.statement.Target.{Target}
+use Rattle.tc_tree.specs.declared.statement.Target.TheVariants as target
 use Rattle.tc_tree.specs.declared.program.Initial.{Initial}
 use Rattle.tc_tree.specs.declared.program.Initial.TheVariants.{Zero, Plain, Negated}
 use Rattle.tc_tree.specs.declared.program.Global.{Global}
@@ -47,6 +54,7 @@ use Rattle.tc_tree.specs.declared.word.Word.TheVariants.{
   Wait as AWait,
   Barrier as ABarrier,
   Assert as AnAssert,
+  Update as AnUpdate,
   Keyword as AKeyword,
   Sign as ASign,
   End as AnEnd,
@@ -141,6 +149,10 @@ abbrev pub AreGrouped : List Expression → Type 0
 AreGrouped [] = Unit {0}
 AreGrouped (e ∷ es) = IsGrouped e × AreGrouped es
 
+abbrev pub IsGroupedIndex : Option Expression → Type 0
+IsGroupedIndex None = Unit {0}
+IsGroupedIndex (Some i) = IsGrouped i
+
 -- the expressions, each after a comma
 abbrev pub others_then : List Expression → List Word → List Word
 others_then [] rest = rest
@@ -157,8 +169,8 @@ mutual
     Assign : (name : Name) (value : Expression) → Statement
     Store : (array : Name) (index value : Expression) → Statement
     Create : (handle thread : Name) (arguments : List Expression) → Statement
-    Swap : (local global : Name) (value : Expression) → Statement
-    Cas : (local global : Name) (old new : Expression) → Statement
+    Modify : (local global : Name) (index : Option Expression) (update : Update Expression)
+        → Statement
     Act : (place : Place) (action : Action) (name : Name) → Statement
     Wait : (place : Place) (condition mutex : Name) → Statement
     Order : (place : Place) (barrier : Barrier) → Statement
@@ -181,6 +193,21 @@ mutual
 abbrev pub in_parens_then : Expression → List Word → List Word
 in_parens_then e rest = ASign sign.OpenParen ∷ expression_then e (ASign sign.CloseParen ∷ rest)
 
+-- what an update changes, by the index that it has or hasn't
+abbrev pub target_by : Option Expression → Target
+target_by None = target.Cell
+target_by (Some i) = target.Element
+
+abbrev pub kind_of : Update Expression → UpdateKind
+kind_of (update.Swap e) = kind.Swap
+kind_of (update.Cas e f) = kind.Cas
+kind_of (update.Add e) = kind.Add
+
+abbrev pub index_then : Option Expression → List Word → List Word
+index_then None rest = rest
+index_then (Some i) rest =
+    ASign sign.OpenBracket ∷ expression_then i (ASign sign.CloseBracket ∷ rest)
+
 abbrev mutual
   pub statement_then : Statement → List Word → List Word
   statement_then (Assign x e) rest =
@@ -192,16 +219,10 @@ abbrev mutual
       AName h ∷ ASign sign.Assign ∷ AKeyword keyword.Create ∷ AName f ∷ ASign sign.OpenParen
       ∷ list_then es
       (ASign sign.CloseParen ∷ ASign sign.Semicolon ∷ rest)
-  statement_then (Swap r x e) rest =
-      AName r ∷ ASign sign.Assign ∷ AKeyword keyword.Swap ∷ ASign sign.OpenParen ∷ AName x
-      ∷ ASign sign.Comma ∷
-      expression_then e (ASign sign.CloseParen ∷ ASign sign.Semicolon ∷ rest)
-  statement_then (Cas r x e f) rest =
-      AName r ∷ ASign sign.Assign ∷ AKeyword keyword.Cas ∷ ASign sign.OpenParen ∷ AName x
-      ∷ ASign sign.Comma ∷
-      expression_then e
-      (ASign sign.Comma
-      ∷ expression_then f (ASign sign.CloseParen ∷ ASign sign.Semicolon ∷ rest))
+  statement_then (Modify r x i u) rest =
+      AName r ∷ ASign sign.Assign ∷ AnUpdate (kind_of u) (target_by i) ∷ ASign sign.OpenParen
+      ∷ AName x ∷ index_then i
+      (others_then (operands_of u) (ASign sign.CloseParen ∷ ASign sign.Semicolon ∷ rest))
   statement_then (Act p a x) rest =
       AnAction a p ∷ ASign sign.OpenParen ∷ AName x ∷ ASign sign.CloseParen ∷ ASign sign.Semicolon
       ∷ rest
@@ -235,8 +256,7 @@ abbrev mutual
   IsWell (Assign x e) = IsGrouped e
   IsWell (Store a i e) = IsGrouped i × IsGrouped e
   IsWell (Create h f es) = AreGrouped es
-  IsWell (Swap r x e) = IsGrouped e
-  IsWell (Cas r x e f) = IsGrouped e × IsGrouped f
+  IsWell (Modify r x i u) = IsGroupedIndex i × AreGrouped (operands_of u)
   IsWell (Act p a x) = Unit {0}
   IsWell (Wait p c m) = Unit {0}
   IsWell (Order p b) = Unit {0}

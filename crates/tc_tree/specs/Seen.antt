@@ -36,8 +36,7 @@ abbrev pub view_statement : Statement-F Statement SeenBlock SeenBranch → State
 view_statement (Statement-F.Assign x e) = grammar.Assign x e
 view_statement (Statement-F.Store a i e) = grammar.Store a i e
 view_statement (Statement-F.Create h f es) = grammar.Create h f es.items
-view_statement (Statement-F.Swap r x e) = grammar.Swap r x e
-view_statement (Statement-F.Cas r x e f) = grammar.Cas r x e f
+view_statement (Statement-F.Modify r x i u) = grammar.Modify r x i u
 view_statement (Statement-F.Act p a x) = grammar.Act p a x
 view_statement (Statement-F.Wait p c m) = grammar.Wait p c m
 view_statement (Statement-F.Order p b) = grammar.Order p b

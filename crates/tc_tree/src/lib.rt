@@ -10,5 +10,5 @@ mod word;
 
 pub use expression::{Expression, Name, Node, Number, Operator};
 pub use program::{Body, Global, Initial, Local, Program, Thread, Tree};
-pub use statement::{Action, Barrier, Block, Branch, Statement};
-pub use word::Word;
+pub use statement::{Action, Barrier, Block, Branch, Statement, Target, UpdateKind};
+pub use word::{Word, words_of};

@@ -1,6 +1,7 @@
 //! Statements.
 
 use crate::expression::{Expression, Name};
+use int_ops::Update;
 use tc_lexer::Place;
 
 /// What a statement with one name does.
@@ -27,6 +28,26 @@ pub enum Barrier {
     Stores,
 }
 
+/// The kinds of updates.
+#[derive(Clone, Copy, Debug, PartialEq, Eq)]
+pub enum UpdateKind {
+    /// `swap`
+    Swap,
+    /// `cas`
+    Cas,
+    /// `add`
+    Add,
+}
+
+/// What is updated.
+#[derive(Clone, Copy, Debug, PartialEq, Eq)]
+pub enum Target {
+    /// A global variable.
+    Cell,
+    /// An element of an array.
+    Element,
+}
+
 /// A statement. Its place is that of its first token.
 #[derive(Debug, Drop)]
 #[cycle(tree)]
@@ -37,10 +58,9 @@ pub enum Statement {
     Store(Name, Expression, Expression),
     /// `h = create f(e, ..);`
     Create(Name, Name, Vec<Expression>),
-    /// `r = swap(x, e);`
-    Swap(Name, Name, Expression),
-    /// `r = cas(x, e, f);`
-    Cas(Name, Name, Expression, Expression),
+    /// `r = swap(x, e);`, `r = cas(x, e, f);` or `r = add(x, e);`, with a global `x` or an array and
+    /// its index.
+    Modify(Name, Name, Option<Expression>, Update<Expression>),
     /// `lock(m);` and the like.
     Act(Place, Action, Name),
     /// `wait(c, m);`

@@ -160,10 +160,12 @@ fn row(rt: &(impl Print + AllocGlobal), name: &str, pairs: &[(u32, u32)]) -> Res
 }
 
 /// Variables 1 to 25 always exist, with one clause. A comparison of two positions has 31 gates,
-/// each with three clauses. A second literal makes all three events compared, with two clauses of
-/// transitivity; each literal after the first adds a gate, and the conjunct adds a clause.
+/// each with three clauses. A second literal, even the same one, makes all three events compared,
+/// with two clauses of transitivity; each other literal after the first adds a gate, and the conjunct
+/// adds a clause.
 pub fn run(rt: &(impl Print + AllocGlobal)) -> Result<()> {
     row(rt, "one pair", &[(0, 1)])?;
+    row(rt, "a pair twice", &[(0, 1), (0, 1)])?;
     row(rt, "a chain", &[(0, 1), (1, 2)])?;
     row(rt, "a circle", &[(0, 1), (1, 2), (2, 0)])?;
     let none = Blasted::impossible(rt.alloc())?;

@@ -4,41 +4,50 @@ use int_ops::arith::{binary, unary};
 use int_ops::{BinOp, UnOp};
 use rand_core::{Rng, SeedableRng};
 use rand_xoshiro::SplitMix64;
-use std::alloc::Global;
-use std::fmt::Write;
+use std::alloc::{AllocError, Global};
 use tc_base::ThreadName;
+
+/// The unary operators, by their signs.
+static UNARY: [(&str, UnOp); 3] = [("-", UnOp::Neg), ("!", UnOp::Not), ("~", UnOp::Inv)];
+
+/// The binary operators, by their signs.
+static BINARY: [(&str, BinOp); 16] = [
+    ("+", BinOp::Add),
+    ("-", BinOp::Sub),
+    ("*", BinOp::Mul),
+    ("/", BinOp::Div),
+    ("%", BinOp::Rem),
+    ("&", BinOp::And),
+    ("|", BinOp::Or),
+    ("^", BinOp::Xor),
+    ("<<", BinOp::Shl),
+    (">>", BinOp::Shr),
+    ("==", BinOp::Eq),
+    ("!=", BinOp::Ne),
+    ("<", BinOp::Lt),
+    ("<=", BinOp::Le),
+    (">", BinOp::Gt),
+    (">=", BinOp::Ge),
+];
 
 /// The unary operator with this sign.
 pub(crate) fn unary_of(sign: &str) -> Result<UnOp> {
-    Ok(match sign {
-        "-" => UnOp::Neg,
-        "!" => UnOp::Not,
-        "~" => UnOp::Inv,
-        _ => bail!("no operator over one value"),
-    })
+    for row in UNARY.iter() {
+        if row.0 == sign {
+            return Ok(row.1);
+        }
+    }
+    bail!("no operator over one value")
 }
 
 /// The binary operator with this sign.
 pub(crate) fn binary_of(sign: &str) -> Result<BinOp> {
-    Ok(match sign {
-        "+" => BinOp::Add,
-        "-" => BinOp::Sub,
-        "*" => BinOp::Mul,
-        "/" => BinOp::Div,
-        "%" => BinOp::Rem,
-        "&" => BinOp::And,
-        "|" => BinOp::Or,
-        "^" => BinOp::Xor,
-        "<<" => BinOp::Shl,
-        ">>" => BinOp::Shr,
-        "==" => BinOp::Eq,
-        "!=" => BinOp::Ne,
-        "<" => BinOp::Lt,
-        "<=" => BinOp::Le,
-        ">" => BinOp::Gt,
-        ">=" => BinOp::Ge,
-        _ => bail!("no operator over two values"),
-    })
+    for row in BINARY.iter() {
+        if row.0 == sign {
+            return Ok(row.1);
+        }
+    }
+    bail!("no operator over two values")
 }
 
 /// The value of an operator over numbers.
@@ -68,14 +77,19 @@ fn name_of(alloc: Global, children: &str) -> Result<ThreadName> {
 /// The text of a copy of a name.
 pub(crate) fn name(alloc: Global, given: &str) -> Result<String> {
     let copy = name_of(alloc, given)?.clone()?;
-    let mut children = String::new(alloc);
-    for child in copy.children() {
-        write!(children, " {child}")?;
-    }
-    if children.trim() != given {
+    if children_text(alloc, &copy)?.trim() != given {
         bail!("other children");
     }
     Ok(format!(in alloc; "{copy}")?)
+}
+
+/// The numbers of children that a name has, a blank before each.
+fn children_text(alloc: Global, name: &ThreadName) -> Result<String, AllocError> {
+    let mut children = String::new(alloc);
+    for child in name.children() {
+        write!(children, " {child}")?;
+    }
+    Ok(children)
 }
 
 /// The order of two names.
@@ -91,10 +105,16 @@ pub(crate) fn order(alloc: Global, given: &str) -> Result<String> {
 
 /// The first words of the generator.
 pub(crate) fn seeded(alloc: Global, given: &str) -> Result<String> {
-    let mut rng = SplitMix64::seed_from_u64(given.parse()?);
-    let mut words = String::new(alloc);
-    for _ in 0..5 {
-        write!(words, "{:016x} ", rng.next_u64())?;
+    let words = words_text(alloc, given.parse()?);
+    Ok(words?)
+}
+
+/// The first words of the generator with a seed.
+fn words_text(alloc: Global, seed: u64) -> Result<String, AllocError> {
+    let mut rng = SplitMix64::seed_from_u64(seed);
+    let mut words = format!(in alloc; "{:016x}", rng.next_u64())?;
+    for _ in 1..5 {
+        write!(words, " {:016x}", rng.next_u64())?;
     }
-    Ok(String::from_str(alloc, words.trim_end())?)
+    Ok(words)
 }

@@ -19,28 +19,6 @@ fn store_and_load<M: MemoryModel>(
     Ok(M::forward(buffer, cell))
 }
 
-/// The text of a form of drains.
-fn form_text(alloc: Global, form: Option<u32>) -> Result<String, AllocError> {
-    match form {
-        Some(cell) => format!(in alloc; " {cell}"),
-        None => String::from_str(alloc, " -"),
-    }
-}
-
-/// A drain in a form, if it may be done.
-fn drained<M: MemoryModel>(
-    alloc: Global,
-    buffer: &mut M::Buffer,
-    form: Option<u32>,
-) -> Result<String> {
-    let may = M::may_drain(buffer, form);
-    match M::drain(buffer, form) {
-        Some((cell, value)) if may => Ok(format!(in alloc; " {cell}={value};")?),
-        None if !may => Ok(String::from_str(alloc, " none;")?),
-        _ => bail!("a drain that may not be, or isn't"),
-    }
-}
-
 /// An act on a buffer.
 #[derive(Clone, Copy)]
 enum Act {
@@ -63,101 +41,104 @@ fn act_of(text: &str) -> Result<Act> {
         "empty" => Act::Empty,
         "bound" => Act::Bound,
         "load" => Act::Load(rest.parse()?),
-        "drain" => Act::Drain(form_of(rest)?),
-        "issue" => {
-            let (cell, value) = store_of(rest)?;
-            Act::Issue(cell, value)
-        }
-        "own" => {
-            let (cell, value) = store_of(rest)?;
-            Act::Own(cell, value)
-        }
-        _ => bail!("no act"),
+        "drain" if rest.is_empty() => Act::Drain(None),
+        "drain" => Act::Drain(Some(rest.parse()?)),
+        _ => store_of(word, rest)?,
     })
 }
 
-/// The form of a drain, which may have no cell.
-fn form_of(cell: &str) -> Result<Option<u32>> {
-    if cell.is_empty() {
-        return Ok(None);
+/// The act that issues a store, with this word, cell and value.
+fn store_of(word: &str, rest: &str) -> Result<Act> {
+    let (cell, value) = rest.split_once(' ').context("no value")?;
+    let (cell, value) = (cell.parse()?, value.parse()?);
+    match word {
+        "issue" => Ok(Act::Issue(cell, value)),
+        "own" => Ok(Act::Own(cell, value)),
+        _ => bail!("no act"),
     }
-    Ok(Some(cell.parse()?))
 }
 
-/// The cell and the value of a store.
-fn store_of(words: &str) -> Result<(u32, i32)> {
-    let (cell, value) = words.split_once(' ').context("no value")?;
-    Ok((cell.parse()?, value.parse()?))
-}
-
-/// The answer of an act.
-fn acted<M: MemoryModel>(alloc: Global, buffer: &mut M::Buffer, act: Act) -> Result<String> {
+/// Does an act, and adds its answer.
+fn act_on<M: MemoryModel>(
+    text: &mut String,
+    buffer: &mut M::Buffer,
+    act: Act,
+) -> Result<(), AllocError> {
     match act {
-        Act::Issue(cell, value) => issued::<M>(alloc, buffer, cell, value),
-        Act::Bar => {
-            M::bar(buffer)?;
-            Ok(String::new(alloc))
-        }
-        Act::Load(cell) => loaded::<M>(alloc, buffer, cell),
-        Act::Drain(form) => drained::<M>(alloc, buffer, form),
-        Act::Forms => forms_text::<M>(alloc, buffer),
-        Act::Empty => {
-            let is_empty = if M::is_empty(buffer) { " yes;" } else { " no;" };
-            Ok(String::from_str(alloc, is_empty)?)
-        }
-        Act::Own(cell, value) => own::<M>(alloc, buffer, cell, value),
-        Act::Bound => bound::<M>(alloc),
+        Act::Issue(cell, value) => issue::<M>(buffer, cell, value),
+        Act::Bar => M::bar(buffer),
+        Act::Load(cell) => push_load::<M>(text, buffer, cell),
+        Act::Drain(form) => push_drain::<M>(text, buffer, form),
+        Act::Forms => push_forms::<M>(text, buffer),
+        Act::Empty => text.push_str(if M::is_empty(buffer) { " yes;" } else { " no;" }),
+        Act::Own(cell, value) => push_own::<M>(text, buffer, cell, value),
+        Act::Bound => push_bound::<M>(text),
     }
 }
 
 /// Issues a store, if the model has buffers.
-fn issued<M: MemoryModel>(
-    alloc: Global,
-    buffer: &mut M::Buffer,
-    cell: u32,
-    value: i32,
-) -> Result<String> {
+fn issue<M: MemoryModel>(buffer: &mut M::Buffer, cell: u32, value: i32) -> Result<(), AllocError> {
     if M::BUFFERED {
-        M::issue(buffer, cell, value)?;
+        M::issue(buffer, cell, value)
+    } else {
+        Ok(())
     }
-    Ok(String::new(alloc))
 }
 
-/// The value that a load takes from the buffer.
-fn loaded<M: MemoryModel>(alloc: Global, buffer: &M::Buffer, cell: u32) -> Result<String> {
+/// Adds the value that a load takes from the buffer.
+fn push_load<M: MemoryModel>(
+    text: &mut String,
+    buffer: &M::Buffer,
+    cell: u32,
+) -> Result<(), AllocError> {
     match M::forward(buffer, cell) {
-        Some(value) => Ok(format!(in alloc; " {value};")?),
-        None => Ok(String::from_str(alloc, " none;")?),
+        Some(value) => write!(text, " {value};"),
+        None => text.push_str(" none;"),
     }
 }
 
-/// The forms of the drains that may be done.
-fn forms_text<M: MemoryModel>(alloc: Global, buffer: &M::Buffer) -> Result<String> {
-    let mut text = String::new(alloc);
-    for form in &M::forms(alloc, buffer)? {
-        text.push_str(form_text(alloc, *form)?.as_str())?;
+/// Does a drain in a form, if it may be done, and adds the store.
+fn push_drain<M: MemoryModel>(
+    text: &mut String,
+    buffer: &mut M::Buffer,
+    form: Option<u32>,
+) -> Result<(), AllocError> {
+    let may = M::may_drain(buffer, form);
+    match M::drain(buffer, form) {
+        Some((cell, value)) if may => write!(text, " {cell}={value};"),
+        None if !may => text.push_str(" none;"),
+        _ => text.push_str(" a drain that may not be, or isn't;"),
     }
-    text.push(';')?;
-    Ok(text)
 }
 
-/// The value that a load takes right after a store, if the model has buffers.
-fn own<M: MemoryModel>(
-    alloc: Global,
+/// Adds the forms of the drains that may be done.
+fn push_forms<M: MemoryModel>(text: &mut String, buffer: &M::Buffer) -> Result<(), AllocError> {
+    for form in &M::forms(*text.allocator(), buffer)? {
+        match form {
+            Some(cell) => write!(text, " {cell}")?,
+            None => text.push_str(" -")?,
+        }
+    }
+    text.push(';')
+}
+
+/// Adds the value that a load takes right after a store, if the model has buffers.
+fn push_own<M: MemoryModel>(
+    text: &mut String,
     buffer: &mut M::Buffer,
     cell: u32,
     value: i32,
-) -> Result<String> {
+) -> Result<(), AllocError> {
     if !M::BUFFERED {
-        return Ok(String::new(alloc));
+        return Ok(());
     }
     let taken = store_and_load::<M>(buffer, cell, value)?;
-    Ok(format!(in alloc; " {taken:?};")?)
+    write!(text, " {taken:?};")
 }
 
-/// The model's name, and the stores that it binds.
-fn bound<M: MemoryModel>(alloc: Global) -> Result<String> {
-    let mut text = format!(in alloc; " {}", M::MODEL)?;
+/// Adds the model's name, and the stores that it binds.
+fn push_bound<M: MemoryModel>(text: &mut String) -> Result<(), AllocError> {
+    write!(text, " {}", M::MODEL)?;
     for (same, barred) in [(false, false), (true, false), (false, true), (true, true)] {
         text.push_str(if M::bound(same, barred) {
             " yes"
@@ -165,8 +146,7 @@ fn bound<M: MemoryModel>(alloc: Global) -> Result<String> {
             " no"
         })?;
     }
-    text.push(';')?;
-    Ok(text)
+    text.push(';')
 }
 
 /// The answers of acts on an empty buffer.
@@ -174,7 +154,7 @@ fn all_acted<M: MemoryModel>(alloc: Global, acts: &str) -> Result<String> {
     let mut buffer = M::empty(alloc);
     let mut text = String::new(alloc);
     for act in acts.split(", ") {
-        text.push_str(acted::<M>(alloc, &mut buffer, act_of(act)?)?.as_str())?;
+        act_on::<M>(&mut text, &mut buffer, act_of(act)?)?;
     }
     Ok(String::from_str(alloc, text.trim_start())?)
 }

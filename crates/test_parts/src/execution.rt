@@ -1,5 +1,4 @@
 //! What symbolic execution finds, as text.
-use anyhow::{Result, bail};
 use std::alloc::{AllocError, Global};
 use sym_exec::{Access, Cell, Course, Handed, Symbolic, Test};
 use sym_terms::{Id, Node, Terms, Values, value};
@@ -12,94 +11,106 @@ pub(crate) struct Told<'a> {
     pub(crate) loads: &'a [i32],
 }
 
-impl<'a> Told<'a> {
+impl Told<'_> {
     /// The number of loads, the findings for each thread, a line for each, and the terms.
-    pub(crate) fn all(&self, symbolic: &Symbolic) -> Result<String> {
+    pub(crate) fn all(&self, symbolic: &Symbolic) -> Result<String, AllocError> {
         let mut text = format!(in self.alloc; "{} loads", symbolic.loads())?;
-        for course in symbolic.threads() {
-            text.push_str(self.thread(course)?.as_str())?;
-        }
-        let nodes = self.terms.nodes();
-        for place in 0..nodes.len() {
-            write!(text, "\n%{place} = ")?;
-            text.push_str(node(self.alloc, nodes[place])?.as_str())?;
-        }
+        self.push_threads(&mut text, symbolic)?;
         Ok(text)
     }
 
-    fn thread(&self, course: &Course) -> Result<String> {
-        let mut text = format!(in self.alloc; "\nthread {}", course.name())?;
+    fn push_threads(&self, text: &mut String, symbolic: &Symbolic) -> Result<(), AllocError> {
+        for course in symbolic.threads() {
+            self.push_thread(text, course)?;
+        }
+        push_nodes(text, self.terms.nodes())
+    }
+
+    fn push_thread(&self, text: &mut String, course: &Course) -> Result<(), AllocError> {
+        write!(text, "\nthread {}", course.name())?;
         for test in course.tests() {
-            text.push_str(self.test(test)?.as_str())?;
+            self.push_test(text, test)?;
         }
         for access in course.accesses() {
-            text.push_str(self.access(access)?.as_str())?;
+            self.push_access(text, access)?;
         }
         for handed in course.creates() {
-            text.push_str(self.create(handed)?.as_str())?;
+            self.push_create(text, handed)?;
         }
-        Ok(text)
+        Ok(())
     }
 
-    fn test(&self, test: &Test) -> Result<String> {
-        let term = self.term(test.term)?;
+    fn push_test(&self, text: &mut String, test: &Test) -> Result<(), AllocError> {
         let wanted = if test.wanted { "other than 0" } else { "0" };
-        Ok(format!(in self.alloc;
-            "\n  test: step {}, line {}, {term} is wanted {wanted}",
-            test.step, test.line
-        )?)
+        write!(text, "\n  test: step {}, line {}, ", test.step, test.line)?;
+        self.push_term(text, test.term)?;
+        write!(text, " is wanted {wanted}")
     }
 
-    fn access(&self, access: &Access) -> Result<String> {
-        let cell = self.cell(access.cell)?;
-        let mut text = format!(in self.alloc; "\n  access: step {}, {cell}", access.step)?;
+    fn push_access(&self, text: &mut String, access: &Access) -> Result<(), AllocError> {
+        write!(text, "\n  access: step {}, ", access.step)?;
+        self.push_cell(text, access.cell)?;
         if let Some(load) = access.takes {
             write!(text, ", takes load {load}")?;
         }
-        if let Some(term) = access.writes {
-            write!(text, ", writes {}", self.term(term)?)?;
+        match access.writes {
+            Some(term) => {
+                text.push_str(", writes ")?;
+                self.push_term(text, term)
+            }
+            None => Ok(()),
         }
-        Ok(text)
     }
 
-    fn cell(&self, cell: Cell) -> Result<String> {
+    fn push_cell(&self, text: &mut String, cell: Cell) -> Result<(), AllocError> {
         match cell {
-            Cell::Fixed(cell) => Ok(format!(in self.alloc; "cell {cell}")?),
+            Cell::Fixed(cell) => write!(text, "cell {cell}"),
             Cell::Element {
                 first,
                 length,
                 index,
             } => {
-                let index = self.term(index)?;
-                Ok(format!(in self.alloc; "element {index} of {length} from cell {first}")?)
+                text.push_str("element ")?;
+                self.push_term(text, index)?;
+                write!(text, " of {length} from cell {first}")
             }
         }
     }
 
-    fn create(&self, handed: &Handed) -> Result<String> {
-        let mut text = format!(in self.alloc; "\n  create: step {}, hands over", handed.step())?;
+    fn push_create(&self, text: &mut String, handed: &Handed) -> Result<(), AllocError> {
+        write!(text, "\n  create: step {}, hands over", handed.step())?;
         for term in handed.terms() {
-            write!(text, " {}", self.term(*term)?)?;
+            text.push(' ')?;
+            self.push_term(text, *term)?;
         }
-        Ok(text)
+        Ok(())
     }
 
-    /// A term's name, and its value.
-    fn term(&self, id: Id) -> Result<String> {
+    /// Adds a term's name, and its value.
+    fn push_term(&self, text: &mut String, id: Id) -> Result<(), AllocError> {
         if id.place() >= self.terms.len() {
-            bail!("a term that isn't there");
+            return text.push_str("a term that isn't there");
         }
         let mut values = Values::new(self.alloc, self.terms, self.loads)?;
         let value = value(self.terms, id, &mut values);
-        Ok(format!(in self.alloc; "%{} ({value})", id.place())?)
+        write!(text, "%{} ({value})", id.place())
     }
 }
 
-fn node(alloc: Global, node: Node) -> Result<String, AllocError> {
+/// Adds terms, a line for each.
+fn push_nodes(text: &mut String, nodes: &[Node]) -> Result<(), AllocError> {
+    for place in 0..nodes.len() {
+        write!(text, "\n%{place} = ")?;
+        push_node(text, nodes[place])?;
+    }
+    Ok(())
+}
+
+fn push_node(text: &mut String, node: Node) -> Result<(), AllocError> {
     match node {
-        Node::Constant(number) => format!(in alloc; "{number}"),
-        Node::Symbol(load) => format!(in alloc; "load {load}"),
-        Node::Unary(op, a) => format!(in alloc; "{op:?} %{}", a.place()),
-        Node::Binary(op, a, b) => format!(in alloc; "{op:?} %{} %{}", a.place(), b.place()),
+        Node::Constant(number) => write!(text, "{number}"),
+        Node::Symbol(load) => write!(text, "load {load}"),
+        Node::Unary(op, a) => write!(text, "{op:?} %{}", a.place()),
+        Node::Binary(op, a, b) => write!(text, "{op:?} %{} %{}", a.place(), b.place()),
     }
 }

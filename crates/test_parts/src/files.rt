@@ -1,20 +1,19 @@
 //! Schedules and logs.
 use anyhow::{Context, Result, bail};
 use path_log::{LogFault, program_digest, read_log, write_log};
-use run_log::{Log, ThreadPath};
+use run_log::Log;
 use schedule_file::{Schedule, ScheduleFault, read_schedule, write_schedule};
 use std::alloc::{AllocError, Global};
-use std::fmt::Write;
 use tc_base::Move;
 use test_table::answers::Answers;
 
-/// A move as a schedule writes it.
-pub(crate) fn move_text(alloc: Global, m: &Move) -> Result<String, AllocError> {
+/// Adds a move as a schedule writes it.
+pub(crate) fn push_move(text: &mut String, m: &Move) -> Result<(), AllocError> {
     match m {
-        Move::Run(name) => format!(in alloc; "r {name}"),
-        Move::Wake(name, waiter) => format!(in alloc; "w {name} {waiter}"),
-        Move::Drain(name, None) => format!(in alloc; "d {name}"),
-        Move::Drain(name, Some(cell)) => format!(in alloc; "d {name} {cell}"),
+        Move::Run(name) => write!(text, "r {name}"),
+        Move::Wake(name, waiter) => write!(text, "w {name} {waiter}"),
+        Move::Drain(name, None) => write!(text, "d {name}"),
+        Move::Drain(name, Some(cell)) => write!(text, "d {name} {cell}"),
     }
 }
 
@@ -27,11 +26,18 @@ pub(crate) fn schedule(alloc: Global, text: &[u8]) -> Result<String> {
     if write_schedule(alloc, &schedule)?.as_slice() != text {
         bail!("another text was written");
     }
-    let mut told = format!(in alloc; "{}", schedule.model)?;
+    let text = schedule_text(alloc, &schedule);
+    Ok(text?)
+}
+
+/// The model and the moves of a schedule.
+fn schedule_text(alloc: Global, schedule: &Schedule) -> Result<String, AllocError> {
+    let mut text = format!(in alloc; "{}", schedule.model)?;
     for m in &schedule.moves {
-        write!(told, ", {}", move_text(alloc, m)?)?;
+        text.push_str(", ")?;
+        push_move(&mut text, m)?;
     }
-    Ok(told)
+    Ok(text)
 }
 
 /// The answers to each beginning of a text.
@@ -40,7 +46,7 @@ pub(crate) fn cut_schedule(alloc: Global, text: &[u8]) -> Result<String> {
     for len in 0..text.len() {
         answers.push(schedule(alloc, &text[..len])?)?;
     }
-    answers.told(alloc)
+    Ok(answers.told(alloc)?)
 }
 
 /// The bytes that hex digits write; blanks between them are skipped.
@@ -75,7 +81,13 @@ pub(crate) fn log(alloc: Global, hex: &str) -> Result<String> {
 /// The parts of a log.
 pub(crate) fn paths(alloc: Global, hex: &str) -> Result<String> {
     let log = log_of(alloc, hex_bytes(alloc, hex)?.as_slice())??;
-    let mut text = format!(in alloc; "{}", log.model())?;
+    let mut text = String::new(alloc);
+    push_log(&mut text, &log)?;
+    Ok(text)
+}
+
+fn push_log(text: &mut String, log: &Log) -> Result<(), AllocError> {
+    write!(text, "{}", log.model())?;
     if let Some(digest) = log.digest() {
         write!(text, " {:02x}..{:02x}", digest[0], digest[31])?;
     }
@@ -84,18 +96,18 @@ pub(crate) fn paths(alloc: Global, hex: &str) -> Result<String> {
         None => text.push_str(", deadlock")?,
     }
     for path in log.threads() {
-        text.push_str(path_text(alloc, path)?.as_str())?;
+        write!(text, "; {} after {}", path.name(), path.steps())?;
+        push_outcomes(text, path.outcomes())?;
     }
-    Ok(text)
+    Ok(())
 }
 
-/// The steps of a thread and its outcomes.
-fn path_text(alloc: Global, path: &ThreadPath) -> Result<String, AllocError> {
-    let mut text = format!(in alloc; "; {} after {}", path.name(), path.steps())?;
-    for outcome in path.outcomes() {
+/// Adds the outcomes of a thread.
+pub(crate) fn push_outcomes(text: &mut String, outcomes: &[bool]) -> Result<(), AllocError> {
+    for outcome in outcomes {
         text.push_str(if *outcome { " 1" } else { " 0" })?;
     }
-    Ok(text)
+    Ok(())
 }
 
 /// The digest of a text.

@@ -2,12 +2,11 @@
 ghost use Rattle.std.specs.Prelude.{◌<◌, length, IfOk};
 ghost use Rattle.tc_code.specs.Run.{IsReached};
 
-use crate::files::move_text;
+use crate::files::{push_move, push_outcomes};
 use crate::text::code_of;
 use anyhow::{Context, Result, bail};
 use schedule_file::read_schedule;
 use std::alloc::{AllocError, Global};
-use std::fmt::Write;
 use store_buffers::{MemoryModel, PsoModel, Sc, TsoModel};
 use tc_base::{Move, ThreadName};
 use tc_code::Code;
@@ -50,17 +49,36 @@ fn played<M: MemoryModel>(alloc: Global, code: &Code, made: &[Move]) -> Result<S
         bail!("too many moves");
     }
     let End { state, stop } = play::<M>(alloc, code, made)?;
-    if let Some((number, why)) = stop {
-        return Ok(format!(in alloc; "stops at move {number}: {why}")?);
-    }
+    let text = match stop {
+        Some((number, why)) => format!(in alloc; "stops at move {number}: {why}"),
+        None => state_text::<M>(alloc, code, &state),
+    };
+    Ok(text?)
+}
+
+/// The moves that are enabled in a state, and its threads.
+fn state_text<M: MemoryModel>(
+    alloc: Global,
+    code: &Code,
+    state: &State<M>,
+) -> Result<String, AllocError>
+    requires { IsReached M.ops code.now state.now }
+{
     let mut text = String::new(alloc);
-    for m in &moves(alloc, code, &state)? {
-        write!(text, "{}; ", move_text(alloc, m)?)?;
-    }
+    push_moves(&mut text, &moves(alloc, code, state)?)?;
     for name in state.threads().as_slice() {
-        text.push_str(thread_text(alloc, &state, name)?.as_str())?;
+        push_thread(&mut text, state, name)?;
     }
-    Ok(String::from_str(alloc, text.trim_end())?)
+    String::from_str(alloc, text.trim_end())
+}
+
+/// Adds moves.
+fn push_moves(text: &mut String, moves: &[Move]) -> Result<(), AllocError> {
+    for m in moves {
+        push_move(text, m)?;
+        text.push_str("; ")?;
+    }
+    Ok(())
 }
 
 /// Makes these moves in turn, up to the first that isn't enabled.
@@ -82,20 +100,17 @@ fn play<M: MemoryModel>(alloc: Global, code: &Code, made: &[Move]) -> Result<End
     Ok(End { state, stop: None })
 }
 
-/// The name of a thread, its function and the instruction there, its steps and its outcomes.
-fn thread_text<M: MemoryModel>(
-    alloc: Global,
+/// Adds the name of a thread, its function and the instruction there, its steps and its outcomes.
+fn push_thread<M: MemoryModel>(
+    text: &mut String,
     state: &State<M>,
     name: &ThreadName,
-) -> Result<String, AllocError> {
+) -> Result<(), AllocError> {
     let (function, place) = state.place_of(name).unwrap_or((0, 0));
     let steps = state.steps_of(name).unwrap_or(0);
-    let mut text = format!(in alloc; "{name} at {function}.{place} after {steps}")?;
+    write!(text, "{name} at {function}.{place} after {steps}")?;
     if let Some(outcomes) = state.outcomes_of(name) {
-        for outcome in outcomes.as_slice() {
-            text.push_str(if *outcome { " 1" } else { " 0" })?;
-        }
+        push_outcomes(text, outcomes.as_slice())?;
     }
-    text.push_str(" ")?;
-    Ok(text)
+    text.push(' ')
 }

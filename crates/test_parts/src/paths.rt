@@ -42,9 +42,16 @@ fn numbers_of(alloc: Global, text: &str) -> Result<Vec<i32>> {
 /// log.
 pub(crate) fn walked(alloc: Global, given: &str) -> Result<String> {
     let (log, code) = parts_of(alloc, given)?;
-    match walk(alloc, &code, &log) {
-        Ok(paths) => Ok(told(alloc, &paths)?),
-        Err(fault) => Ok(format!(in alloc; "{fault}")?),
+    let text = walk_text(alloc, &log, &code);
+    Ok(text?)
+}
+
+fn walk_text(alloc: Global, log: &Log, code: &Code) -> Result<String, AllocError>
+    requires { length log.now.log.threads ≤ THREADS }
+{
+    match walk(alloc, code, log) {
+        Ok(paths) => told(alloc, &paths),
+        Err(fault) => format!(in alloc; "{fault}"),
     }
 }
 
@@ -60,30 +67,35 @@ fn told(alloc: Global, paths: &Paths) -> Result<String, AllocError> {
 /// The same, with everything that each path determines.
 pub(crate) fn ways(alloc: Global, given: &str) -> Result<String> {
     let (log, code) = parts_of(alloc, given)?;
-    all_ways(alloc, &walk(alloc, &code, &log)?)
+    let paths = walk(alloc, &code, &log)?;
+    let text = all_ways(alloc, &paths);
+    Ok(text?)
 }
 
-fn all_ways(alloc: Global, paths: &Paths) -> Result<String> {
+fn all_ways(alloc: Global, paths: &Paths) -> Result<String, AllocError> {
     let mut text = told(alloc, paths)?;
     for (index, walk) in paths.threads().iter().enumerate() {
-        text.push_str(places_text(
-            alloc,
-            walk,
-            paths.failing() == Failing::Thread(index),
-        )?.as_str())?;
-        text.push_str(events_text(alloc, walk.events())?.as_str())?;
-        text.push_str(regions_text(alloc, walk.regions())?.as_str())?;
-        text.push_str(sleeps_text(alloc, walk.sleeps())?.as_str())?;
-        text.push_str(links_text(alloc, "create", walk.creates())?.as_str())?;
-        text.push_str(links_text(alloc, "join", walk.joins())?.as_str())?;
-        text.push_str(blocked_text(alloc, walk.blocked())?.as_str())?;
+        let fails = paths.failing() == Failing::Thread(index);
+        push_way(&mut text, walk, fails)?;
     }
     Ok(text)
 }
 
-fn places_text(alloc: Global, walk: &Walk, fails: bool) -> Result<String, AllocError> {
+/// Adds everything that the path of a thread determines.
+fn push_way(text: &mut String, walk: &Walk, fails: bool) -> Result<(), AllocError> {
+    push_places(text, walk, fails)?;
+    push_events(text, walk.events())?;
+    push_regions(text, walk.regions())?;
+    push_sleeps(text, walk.sleeps())?;
+    push_links(text, "create", walk.creates())?;
+    push_links(text, "join", walk.joins())?;
+    push_blocked(text, walk.blocked())
+}
+
+fn push_places(text: &mut String, walk: &Walk, fails: bool) -> Result<(), AllocError> {
     let fails = if fails { ", fails" } else { "" };
-    let mut text = format!(in alloc;
+    write!(
+        text,
         "\nthread {} in function {}{fails}, at",
         walk.name(),
         walk.function()
@@ -91,19 +103,18 @@ fn places_text(alloc: Global, walk: &Walk, fails: bool) -> Result<String, AllocE
     for place in walk.places() {
         write!(text, " {place}")?;
     }
-    Ok(text)
+    Ok(())
 }
 
-/// What blocks a thread, if anything.
-fn blocked_text(alloc: Global, blocked: Option<Blocked>) -> Result<String, AllocError> {
+/// Adds what blocks a thread, if anything.
+fn push_blocked(text: &mut String, blocked: Option<Blocked>) -> Result<(), AllocError> {
     match blocked {
-        Some(blocked) => format!(in alloc; "\n  blocked: {blocked:?}"),
-        None => Ok(String::new(alloc)),
+        Some(blocked) => write!(text, "\n  blocked: {blocked:?}"),
+        None => Ok(()),
     }
 }
 
-fn events_text(alloc: Global, events: &[Event]) -> Result<String, AllocError> {
-    let mut text = String::new(alloc);
+fn push_events(text: &mut String, events: &[Event]) -> Result<(), AllocError> {
     for event in events {
         let (step, kind, line) = (event.step, event.kind, event.line);
         write!(
@@ -112,11 +123,10 @@ fn events_text(alloc: Global, events: &[Event]) -> Result<String, AllocError> {
             event.bars
         )?;
     }
-    Ok(text)
+    Ok(())
 }
 
-fn regions_text(alloc: Global, regions: &[Region]) -> Result<String, AllocError> {
-    let mut text = String::new(alloc);
+fn push_regions(text: &mut String, regions: &[Region]) -> Result<(), AllocError> {
     for region in regions {
         write!(
             text,
@@ -124,11 +134,10 @@ fn regions_text(alloc: Global, regions: &[Region]) -> Result<String, AllocError>
             region.mutex, region.from, region.to
         )?;
     }
-    Ok(text)
+    Ok(())
 }
 
-fn sleeps_text(alloc: Global, sleeps: &[Sleep]) -> Result<String, AllocError> {
-    let mut text = String::new(alloc);
+fn push_sleeps(text: &mut String, sleeps: &[Sleep]) -> Result<(), AllocError> {
     for sleep in sleeps {
         let (condition, mutex) = (sleep.condition, sleep.mutex);
         write!(
@@ -137,15 +146,14 @@ fn sleeps_text(alloc: Global, sleeps: &[Sleep]) -> Result<String, AllocError> {
             sleep.step, sleep.wake
         )?;
     }
-    Ok(text)
+    Ok(())
 }
 
-fn links_text(alloc: Global, what: &str, links: &[Link]) -> Result<String, AllocError> {
-    let mut text = String::new(alloc);
+fn push_links(text: &mut String, what: &str, links: &[Link]) -> Result<(), AllocError> {
     for link in links {
         write!(text, "\n  {what} {} at {}", link.child, link.step)?;
     }
-    Ok(text)
+    Ok(())
 }
 
 /// The numbers of loads and terms of the execution.
@@ -161,14 +169,20 @@ pub(crate) fn executed(alloc: Global, given: &str) -> Result<String> {
     let (given, loads) = given.rsplit_once(" :").context("no values of loads")?;
     let loads = numbers_of(alloc, loads)?;
     let (log, code) = parts_of(alloc, given)?;
+    execution_text(alloc, &log, &code, loads.as_slice())
+}
+
+fn execution_text(alloc: Global, log: &Log, code: &Code, loads: &[i32]) -> Result<String>
+    requires { length log.now.log.threads ≤ THREADS }
+{
     let mut terms = Terms::new(alloc);
-    let symbolic = symbolic_of(alloc, &log, &code, &mut terms)?;
+    let symbolic = symbolic_of(alloc, log, code, &mut terms)?;
     let told = Told {
         alloc,
         terms: &terms,
-        loads: loads.as_slice(),
+        loads,
     };
-    told.all(&symbolic)
+    Ok(told.all(&symbolic)?)
 }
 
 /// The execution of a log.

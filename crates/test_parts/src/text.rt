@@ -4,8 +4,7 @@ ghost use Rattle.tc_limits.specs.declared.limits.TheConstants.{PROGRAM_BYTES};
 
 use anyhow::{Result, bail};
 use int_ops::UnOp;
-use std::alloc::Global;
-use std::fmt::Write;
+use std::alloc::{AllocError, Global};
 use std::str;
 use tc_code::Code;
 use tc_compile::compile;
@@ -24,32 +23,39 @@ fn within(source: &[u8]) -> Result<&[u8]>
     Ok(source)
 }
 
-/// The spelling of a token of this kind, given its bytes in the source.
-fn written(alloc: Global, kind: TokenKind, source: &str) -> Result<String> {
+/// Whether a text is the spelling of a token of this kind.
+fn is_spelling(alloc: Global, kind: TokenKind, text: &str) -> Result<bool, AllocError> {
     Ok(match kind {
-        TokenKind::Name => String::from_str(alloc, source)?,
-        TokenKind::Number(n) => format!(in alloc; "{n}")?,
-        TokenKind::Keyword(k) => String::from_str(alloc, str::from_utf8(k.text())?)?,
-        TokenKind::Sign(s) => String::from_str(alloc, str::from_utf8(s.text())?)?,
+        TokenKind::Name => true,
+        TokenKind::Number(number) => format!(in alloc; "{number}")?.as_str() == text,
+        TokenKind::Keyword(keyword) => keyword.text() == text.as_bytes(),
+        TokenKind::Sign(sign) => sign.text() == text.as_bytes(),
     })
 }
 
-/// A token with its place; quotes or backquotes around it show its kind.
-fn seen(alloc: Global, token: &Token, source: &[u8]) -> Result<String> {
+/// What stands around a token to show its kind.
+fn marks_of(kind: TokenKind) -> (&'static str, &'static str) {
+    match kind {
+        TokenKind::Name => ("", ""),
+        TokenKind::Number(_) => ("#", ""),
+        TokenKind::Keyword(_) => ("\"", "\""),
+        TokenKind::Sign(_) => ("`", "`"),
+    }
+}
+
+/// Adds a token with its place; quotes or backquotes around it show its kind.
+fn push_seen(shown: &mut String, token: &Token, source: &[u8]) -> Result<()> {
     let Some(bytes) = source.get(token.start..token.end) else {
         bail!("a token outside of the text");
     };
     let text = str::from_utf8(bytes)?;
-    if written(alloc, token.kind, text)?.as_str() != text {
+    if !is_spelling(*shown.allocator(), token.kind, text)? {
         bail!("a token of another text");
     }
+    let comma = if shown.is_empty() { "" } else { ", " };
+    let (before, after) = marks_of(token.kind);
     let Place { line, col } = token.place;
-    Ok(match token.kind {
-        TokenKind::Name => format!(in alloc; "{text} {line}:{col}")?,
-        TokenKind::Number(_) => format!(in alloc; "#{text} {line}:{col}")?,
-        TokenKind::Keyword(_) => format!(in alloc; "\"{text}\" {line}:{col}")?,
-        TokenKind::Sign(_) => format!(in alloc; "`{text}` {line}:{col}")?,
-    })
+    Ok(write!(shown, "{comma}{before}{text}{after} {line}:{col}")?)
 }
 
 /// The tokens of a text, or its fault.
@@ -72,10 +78,7 @@ fn all_seen(alloc: Global, tokens: &[Token], source: &[u8]) -> Result<String> {
     }
     let mut shown = String::new(alloc);
     for token in tokens {
-        if !shown.is_empty() {
-            shown.push_str(", ")?;
-        }
-        shown.push_str(seen(alloc, token, source)?.as_str())?;
+        push_seen(&mut shown, token, source)?;
     }
     Ok(shown)
 }
@@ -130,44 +133,45 @@ fn unary_text(operator: UnOp) -> &'static str {
     }
 }
 
-/// The tree of an expression, with `[..]` for parentheses of the text.
-fn shown(alloc: Global, source: &[u8], expression: &Expression) -> Result<String> {
-    Ok(match &expression.node {
-        Node::Number(number) => format!(in alloc; "{}", number.value)?,
-        Node::Variable(name) => String::from_str(alloc, str::from_utf8(name.text(source))?)?,
+/// Adds the tree of an expression, with `[..]` for parentheses of the text. Names are ASCII.
+fn push_tree(text: &mut String, source: &[u8], expression: &Expression) -> Result<(), AllocError> {
+    match &expression.node {
+        Node::Number(number) => write!(text, "{}", number.value),
+        Node::Variable(name) => write!(text, "{}", name.text(source).escape_ascii()),
         Node::Element(array, index) => {
-            let inside = shown(alloc, source, index)?;
-            format!(in alloc; "{}[{inside}]", str::from_utf8(array.text(source))?)?
+            write!(text, "{}[", array.text(source).escape_ascii())?;
+            push_tree(text, source, index)?;
+            text.push(']')
         }
         Node::Paren(inside) => {
-            let inside = shown(alloc, source, inside)?;
-            format!(in alloc; "[{inside}]")?
+            text.push('[')?;
+            push_tree(text, source, inside)?;
+            text.push(']')
         }
         Node::Unary(operator, operand) => {
-            let operand = shown(alloc, source, operand)?;
-            format!(in alloc; "({} {operand})", unary_text(*operator))?
+            write!(text, "({} ", unary_text(*operator))?;
+            push_tree(text, source, operand)?;
+            text.push(')')
         }
         Node::Binary(operator, left, right) => {
-            let left = shown(alloc, source, left)?;
-            let right = shown(alloc, source, right)?;
-            format!(in alloc; "({left} {} {right})", operator_text(*operator))?
+            text.push('(')?;
+            push_tree(text, source, left)?;
+            write!(text, " {} ", operator_text(*operator))?;
+            push_tree(text, source, right)?;
+            text.push(')')
         }
-    })
+    }
 }
 
 /// A program that assigns the expression.
-fn assignment(alloc: Global, expression: &str) -> Result<String> {
+fn assignment(alloc: Global, expression: &str) -> Result<String, AllocError> {
     let declared = if expression.contains("a[") {
         "int a[9]; "
     } else {
         "int a; "
     };
-    let mut text = String::from_str(alloc, declared)?;
-    for name in "bcdefghijkx".chars() {
-        write!(text, "int {name}; ")?;
-    }
-    write!(text, "main {{ x = {expression}; }}")?;
-    Ok(text)
+    let ints = "int b; int c; int d; int e; int f; int g; int h; int i; int j; int k; int x; ";
+    format!(in alloc; "{declared}{ints}main {{ x = {expression}; }}")
 }
 
 /// The tree of an expression over ints, and over the array `a` if it has an index.
@@ -175,7 +179,11 @@ pub(crate) fn tree(alloc: Global, expression: &str) -> Result<String> {
     let text = assignment(alloc, expression)?;
     let tree = read(alloc, within(text.as_bytes())?)?;
     match tree.program.main.block.statements.as_slice() {
-        [Statement::Assign(_, value)] => shown(alloc, tree.text, value),
+        [Statement::Assign(_, value)] => {
+            let mut shown = String::new(alloc);
+            push_tree(&mut shown, tree.text, value)?;
+            Ok(shown)
+        }
         _ => bail!("no assignment"),
     }
 }

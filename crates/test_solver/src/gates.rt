@@ -29,11 +29,11 @@ fn gate_of(alloc: Global, gate: Gate, a: Lit, b: Lit) -> Result<Cnf> {
         bail!("no such variable");
     }
     let lit = match gate {
-        Gate::And => cnf.and_gate(a, b)?,
-        Gate::Or => cnf.or_gate(a, b)?,
-        Gate::Xor => cnf.xor_gate(a, b)?,
+        Gate::And => cnf.and_gate(a, b),
+        Gate::Or => cnf.or_gate(a, b),
+        Gate::Xor => cnf.xor_gate(a, b),
     };
-    if lit.number() != 3 {
+    if lit?.number() != 3 {
         bail!("another variable");
     }
     Ok(cnf)
@@ -56,16 +56,28 @@ fn is_right(alloc: Global, gate: Gate, a: Lit, b: Lit) -> Result<bool> {
     let cnf = gate_of(alloc, gate, a, b)?;
     for (first, second, third) in VALUES {
         let values = Assignment::new(vec![in alloc; first, second, third]?);
-        let vars = values.vars();
-        if cnf.vars() as usize > vars || a.var() as usize > vars || b.var() as usize > vars {
-            bail!("too few values");
-        }
-        let want = value(gate, values.is_true(a), values.is_true(b));
-        if satisfies(&cnf, &values) != (want == third) {
+        if satisfied(&cnf, &values)? != (wanted(&values, gate, a, b)? == third) {
             return Ok(false);
         }
     }
     Ok(true)
+}
+
+/// Whether values satisfy a list.
+fn satisfied(cnf: &Cnf, values: &Assignment) -> Result<bool> {
+    if cnf.vars() as usize > values.vars() {
+        bail!("too few values");
+    }
+    Ok(satisfies(cnf, values))
+}
+
+/// The value of a gate over two literals with these values.
+fn wanted(values: &Assignment, gate: Gate, a: Lit, b: Lit) -> Result<bool> {
+    let vars = values.vars();
+    if a.var() as usize > vars || b.var() as usize > vars {
+        bail!("too few values");
+    }
+    Ok(value(gate, values.is_true(a), values.is_true(b)))
 }
 
 /// The number of pairs of literals for which a gate's clauses leave only its values.

@@ -7,7 +7,7 @@ use refute_check::{
     read_refutation, write_refutation,
 };
 use std::alloc::{AllocError, Global};
-use std::fmt::Write;
+use std::mem::drop;
 use test_table::answers::Answers;
 
 /// The answer to a text that is read line by line, from pieces of this size.
@@ -20,10 +20,11 @@ fn answer(alloc: Global, cnf: &Cnf, text: &[u8], piece: usize) -> Result<String>
     for part in text.chunks(piece) {
         take(&mut reader, &mut checker, part)?;
     }
-    match reader.finish() {
-        Err(line) => Ok(format!(in alloc; "form {line}")?),
-        Ok(()) => Ok(verdict(alloc, checker.verdict())?),
-    }
+    let text = match reader.finish() {
+        Err(line) => format!(in alloc; "form {line}"),
+        Ok(()) => verdict(alloc, checker.verdict()),
+    };
+    Ok(text?)
 }
 
 /// Reads a piece of a text.
@@ -35,12 +36,18 @@ fn take(reader: &mut RefutationText, checker: &mut Checker, part: &[u8]) -> Resu
             break;
         }
         rest = &rest[count..];
-        if let Taken::Line(line) = taken {
-            if checker.line() > LINES {
-                bail!("too many lines");
-            }
-            let _ = checker.add(&line);
+        add(checker, &taken)?;
+    }
+    Ok(())
+}
+
+/// Has the checker look at a line, if one was taken.
+fn add(checker: &mut Checker, taken: &Taken) -> Result<()> {
+    if let Taken::Line(line) = taken {
+        if checker.line() > LINES {
+            bail!("too many lines");
         }
+        let _ = checker.add(line);
     }
     Ok(())
 }
@@ -58,10 +65,13 @@ fn whole(alloc: Global, cnf: &Cnf, text: &[u8]) -> Result<String> {
         Err(RefutationFault::Form(line)) => Ok(format!(in alloc; "form {line}")?),
         Err(RefutationFault::Memory) => bail!("no memory"),
         Ok((head, derivation)) => {
-            if write_refutation(alloc, head, &derivation)?.as_slice() != text {
+            let written = write_refutation(alloc, head, &derivation);
+            let answer = verdict(alloc, check(alloc, cnf, &derivation));
+            drop(derivation);
+            if written?.as_slice() != text {
                 bail!("another text was written");
             }
-            Ok(verdict(alloc, check(alloc, cnf, &derivation))?)
+            Ok(answer?)
         }
     }
 }
@@ -75,12 +85,21 @@ fn same(alloc: Global, cnf: &Cnf, text: &[u8]) -> Result<String> {
         [1000, 4096, 65_536]
     };
     for piece in sizes {
-        let got = answer(alloc, cnf, text, piece)?;
-        if got != want {
-            bail!("{got} in pieces of {piece}, and {want}");
-        }
+        compare(
+            answer(alloc, cnf, text, piece)?.as_str(),
+            want.as_str(),
+            piece,
+        )?;
     }
     Ok(want)
+}
+
+/// Refuses an answer in pieces of this size that isn't the one to the whole.
+fn compare(got: &str, want: &str, piece: usize) -> Result<()> {
+    if got != want {
+        bail!("{got} in pieces of {piece}, and {want}");
+    }
+    Ok(())
 }
 
 /// The clauses of a row, and the text.
@@ -103,7 +122,7 @@ pub(crate) fn cut_check(alloc: Global, given: &str) -> Result<String> {
     for len in 0..text.len() {
         answers.push(same(alloc, &cnf, &text[..len])?)?;
     }
-    answers.told(alloc)
+    Ok(answers.told(alloc)?)
 }
 
 fn taken_text(taken: &Taken) -> &'static str {
@@ -130,8 +149,8 @@ pub(crate) fn takes(alloc: Global, text: &[u8]) -> Result<String> {
         rest = &rest[count..];
     }
     match reader.finish() {
-        Ok(()) => told.push_str("whole")?,
-        Err(line) => write!(told, "form {line}")?,
-    }
+        Ok(()) => told.push_str("whole"),
+        Err(line) => write!(told, "form {line}"),
+    }?;
     Ok(told)
 }

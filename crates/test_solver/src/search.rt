@@ -5,7 +5,7 @@ use cdcl_core::{Answer, Progress, Search, solve_cnf};
 use cnf_core::{Assignment, Cnf, satisfies};
 use refute_check::{Checked, Derivation, Line, check};
 use std::alloc::{AllocError, Global};
-use std::fmt::Write;
+use std::mem::drop;
 
 /// The result of a run of a search.
 #[derive(Clone, Copy, PartialEq, Eq)]
@@ -23,20 +23,24 @@ fn run(alloc: Global, cnf: &Cnf, search: &mut Search, conflicts: u32) -> Result<
     if conflicts == 0 || conflicts > MOST - search.added() {
         bail!("so many clauses can't be learnt");
     }
-    let progress = search.run(alloc, conflicts)?;
+    let came = came_of(cnf, &search.run(alloc, conflicts)?, search.added())?;
     let Ok(checked) = check(alloc, cnf, search.derivation()) else {
         bail!("a line doesn't pass");
-    };
-    let came = match &progress {
-        Progress::Sat(values) if is_satisfied(cnf, values) => Came::Satisfied,
-        Progress::Sat(_) => bail!("a wrong assignment"),
-        Progress::Closed => Came::Closed,
-        Progress::Paused => Came::Paused(search.added()),
     };
     if (came == Came::Closed) != (checked == Checked::Closed) {
         bail!("closed by one, and open by the other");
     }
     Ok(came)
+}
+
+/// The result of a run that has added this many clauses.
+fn came_of(cnf: &Cnf, progress: &Progress, added: u32) -> Result<Came> {
+    Ok(match progress {
+        Progress::Sat(values) if is_satisfied(cnf, values) => Came::Satisfied,
+        Progress::Sat(_) => bail!("a wrong assignment"),
+        Progress::Closed => Came::Closed,
+        Progress::Paused => Came::Paused(added),
+    })
 }
 
 /// Whether an assignment has as many values as the list has variables, and satisfies it.
@@ -66,20 +70,21 @@ fn all_runs(alloc: Global, cnf: &Cnf, runs: &str) -> Result<String> {
     let mut search = Search::new(alloc, cnf, &[])?;
     let mut told = String::new(alloc);
     for word in runs.split_whitespace() {
-        if !told.is_empty() {
-            told.push_str(", ")?;
-        }
-        let came = run(alloc, cnf, &mut search, word.parse::<u32>()?)?;
-        told.push_str(tell(alloc, came)?.as_str())?;
+        push_came(
+            &mut told,
+            run(alloc, cnf, &mut search, word.parse::<u32>()?)?,
+        )?;
     }
     Ok(told)
 }
 
-fn tell(alloc: Global, came: Came) -> Result<String, AllocError> {
+/// Adds the result of a run.
+fn push_came(told: &mut String, came: Came) -> Result<(), AllocError> {
+    let comma = if told.is_empty() { "" } else { ", " };
     match came {
-        Came::Satisfied => String::from_str(alloc, "satisfied"),
-        Came::Closed => String::from_str(alloc, "closed"),
-        Came::Paused(added) => format!(in alloc; "paused at {added}"),
+        Came::Satisfied => write!(told, "{comma}satisfied"),
+        Came::Closed => write!(told, "{comma}closed"),
+        Came::Paused(added) => write!(told, "{comma}paused at {added}"),
     }
 }
 
@@ -101,7 +106,14 @@ pub(crate) fn pigeon_runs(alloc: Global, given: &str) -> Result<String> {
 }
 
 /// The number of clauses of the list that are deleted, and the checker's answer to the lines.
-fn lines_text(alloc: Global, cnf: &Cnf, derivation: &Derivation) -> Result<String> {
+fn lines_text(alloc: Global, cnf: &Cnf, derivation: &Derivation) -> Result<String, AllocError> {
+    let lost = lost(cnf, derivation);
+    let checked = check(alloc, cnf, derivation);
+    format!(in alloc; "{lost} clauses of the list deleted, {checked:?}")
+}
+
+/// The number of clauses of the list that are deleted.
+fn lost(cnf: &Cnf, derivation: &Derivation) -> u32 {
     let mut lost = 0u32;
     for line in derivation.lines() {
         if let Line::Delete(numbers) = line {
@@ -112,8 +124,7 @@ fn lines_text(alloc: Global, cnf: &Cnf, derivation: &Derivation) -> Result<Strin
             }
         }
     }
-    let checked = check(alloc, cnf, derivation);
-    Ok(format!(in alloc; "{lost} clauses of the list deleted, {checked:?}")?)
+    lost
 }
 
 /// The number of lines that add a clause.
@@ -157,30 +168,49 @@ fn values_text(alloc: Global, solved: Answer<Assignment>) -> Result<String> {
     let Answer::Found(values) = solved else {
         bail!("no values");
     };
+    let text = literals_text(alloc, &values.into_values());
+    Ok(text?)
+}
+
+/// The literals that are true under these values.
+fn literals_text(alloc: Global, values: &[bool]) -> Result<String, AllocError> {
     let mut text = String::new(alloc);
-    for (place, value) in values.into_values().iter().enumerate() {
+    for (place, value) in values.iter().enumerate() {
         let sign = if *value { "" } else { "-" };
         write!(text, "{sign}{} ", place + 1)?;
     }
-    Ok(String::from_str(alloc, text.trim_end())?)
+    String::from_str(alloc, text.trim_end())
 }
 
 /// The answer of `solve_cnf`: the number of values, or the lines.
 pub(crate) fn solve(alloc: Global, given: &str) -> Result<String> {
     let (cnf, budget) = parts_of(alloc, given)?;
-    match solved(alloc, &cnf, budget)? {
+    let answer = solved(alloc, &cnf, budget)?;
+    let text = answer_text(alloc, &cnf, &answer);
+    drop(answer);
+    Ok(text?)
+}
+
+/// An answer: the number of values, or the lines.
+fn answer_text(
+    alloc: Global,
+    cnf: &Cnf,
+    answer: &Answer<Assignment>,
+) -> Result<String, AllocError> {
+    match answer {
         Answer::Found(values) => {
-            let right = is_satisfied(&cnf, &values);
-            let count = values.into_values().len();
-            Ok(format!(in alloc; "satisfied {right}, {count} values")?)
+            let right = is_satisfied(cnf, values);
+            let count = values.vars();
+            format!(in alloc; "satisfied {right}, {count} values")
         }
         Answer::Impossible(derivation) => {
-            let lines = lines_text(alloc, &cnf, &derivation)?;
-            Ok(format!(in alloc; "unsatisfiable, {lines}")?)
+            let lines = lines_text(alloc, cnf, derivation)?;
+            format!(in alloc; "unsatisfiable, {lines}")
         }
         Answer::Spent(derivation) => {
-            let lines = lines_text(alloc, &cnf, &derivation)?;
-            Ok(format!(in alloc; "spent, {} lines added, {lines}", added(&derivation))?)
+            let added = added(derivation);
+            let lines = lines_text(alloc, cnf, derivation)?;
+            format!(in alloc; "spent, {added} lines added, {lines}")
         }
     }
 }
@@ -232,7 +262,12 @@ fn is_so_in_steps(alloc: Global, cnf: &Cnf) -> Result<bool> {
 
 /// Whether a list is found satisfiable at once.
 fn is_so_at_once(alloc: Global, cnf: &Cnf) -> Result<bool> {
-    match &solve_cnf(alloc, cnf, &[], 1000)? {
+    is_so_by(cnf, &solve_cnf(alloc, cnf, &[], 1000)?)
+}
+
+/// Whether an answer is that a list is satisfiable.
+fn is_so_by(cnf: &Cnf, answer: &Answer<Assignment>) -> Result<bool> {
+    match answer {
         Answer::Found(values) if is_satisfied(cnf, values) => Ok(true),
         Answer::Found(_) => bail!("a wrong assignment at once"),
         Answer::Impossible(_) => Ok(false),

@@ -21,9 +21,7 @@ is_exit _ = false
 -- whether another thread may use the effect of an instruction
 abbrev pub is_used : Instr → Bool
 is_used (instr.Store c e) = true
-is_used (instr.StoreAt first len i e) = true
-is_used (instr.Swap k c e) = true
-is_used (instr.Cas k c e new) = true
+is_used (instr.Modify k c u) = true
 is_used (instr.Unlock m) = true
 is_used (instr.Sleep c m) = true
 is_used (instr.Signal c) = true

@@ -1,13 +1,15 @@
 -- Rounds of a loop that change nothing, as far as a path shows it.
 use Rattle.std.specs.Prelude.{◌≡◌, ◌≢◌, ◌⊎◌, ℕ, ◌+◌, ◌<◌, ◌≤◌, ℤ, pos, List, length, Bool, true, false, Some, Ok, IsTrue, slice_index_or, if◌then◌else◌}
+use Rattle.tc_code.specs.int_ops.declared.update.Update.TheVariants.{Cas}
 use Rattle.tc_code.specs.tc_base.Paths.{Path}
 use Rattle.tc_code.specs.Code.{Code}
 use Rattle.tc_code.specs.Expr.{Expr, value_of}
 use Rattle.tc_code.specs.Expr.{Expr.Number, Expr.Slot}
 use Rattle.tc_code.specs.Lawful.{written}
 use Rattle.tc_code.specs.Step.{is_nonzero}
+use Rattle.tc_code.specs.declared.cell.Cell.{Cell}
 use Rattle.tc_code.specs.declared.instr.Instr.{Instr}
-use Rattle.tc_code.specs.declared.instr.Instr.TheVariants.{Set, Load, LoadAt, Inside, Branch, Goto, Holds, Ready, Assert, Nonzero, InRange, Cas, Fence}
+use Rattle.tc_code.specs.declared.instr.Instr.TheVariants.{Set, Load, Inside, Branch, Goto, Holds, Ready, Assert, Nonzero, InRange, Modify, Fence}
 use Rattle.thread_marks.specs.path_walk.Steps.{step_at, places_from}
 use Rattle.slot_liveness.specs.pure_turns.Live.{Liveness}
 
@@ -15,7 +17,6 @@ use Rattle.slot_liveness.specs.pure_turns.Live.{Liveness}
 abbrev pub is_idle : Instr → Bool
 is_idle (Set k e) = true
 is_idle (Load k c) = true
-is_idle (LoadAt k first len i) = true
 is_idle (Inside len i) = true
 is_idle (Branch e to) = true
 is_idle (Goto to) = true
@@ -51,10 +52,10 @@ module _ (code : Code) (f : ℕ) (places : List ℕ) where
   -- elsewhere
   pub record HasFailed (j k : ℕ) : Type 0 where
     pub read : ℕ
-    pub cell : ℕ
+    pub cell : Cell Expr
     pub expected : ℤ
     pub new : Expr
-    pub is : instr_of k ≡ Cas read cell (Number expected) new
+    pub is : instr_of k ≡ Modify read cell (Cas (Number expected) new)
     pub copy : ℕ
     pub copied : instr_of (k + 1) ≡ Set copy (Slot read)
     pub branch : ℕ

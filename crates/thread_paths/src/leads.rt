@@ -53,9 +53,7 @@ fn is_used(instr: &Instr) -> bool
     matches!(
         instr,
         Instr::Store { .. }
-            | Instr::StoreAt { .. }
-            | Instr::Swap { .. }
-            | Instr::Cas { .. }
+            | Instr::Modify { .. }
             | Instr::Unlock { .. }
             | Instr::Sleep { .. }
             | Instr::Signal { .. }

@@ -11,6 +11,7 @@ ghost use Rattle.thread_paths.specs.helpers.Rounds.{IsShown, IsPure, ArePure, En
 
 use crate::failed::rules_out;
 use crate::program::Program;
+use int_ops::Update;
 use tc_code::{Instr, Node};
 
 /// The places that a thread comes to in a function, in order. The step at the last one isn't taken
@@ -30,7 +31,6 @@ fn is_idle(instr: &Instr) -> bool
         instr,
         Instr::Set { .. }
             | Instr::Load { .. }
-            | Instr::LoadAt { .. }
             | Instr::Inside { .. }
             | Instr::Branch { .. }
             | Instr::Goto { .. }
@@ -48,11 +48,9 @@ pub fn written(instr: &Instr) -> Option<usize>
     ensures { result ≡ written instr.now }
 {
     match instr {
-        Instr::Set { slot, .. }
-        | Instr::Load { slot, .. }
-        | Instr::LoadAt { slot, .. }
-        | Instr::Swap { slot, .. }
-        | Instr::Cas { slot, .. } => Some(*slot as usize),
+        Instr::Set { slot, .. } | Instr::Load { slot, .. } | Instr::Modify { slot, .. } => Some(
+            *slot as usize,
+        ),
         _ => None,
     }
 }
@@ -131,7 +129,10 @@ impl<'a> Visits<'a> {
         requires step { step < length self.now.places.now - 1 }
         ensures { IsTrue result → HasFailed self.now.program.code.now self.now.function self.now.places.now (length self.now.places.now - 1) step }
     {
-        let Some(Instr::Cas { slot, expected, .. }) = self.instr(step) else {
+        let Some(Instr::Modify { slot, update, .. }) = self.instr(step) else {
+            return false;
+        };
+        let Update::Cas(expected, _) = update else {
             return false;
         };
         let Node::Number(value) = &expected.node else {

@@ -4,7 +4,7 @@ use Rattle.std.specs.Option.{IfSome}
 use Rattle.path_walk.specs.declared.event.Event.{Event}
 use Rattle.sym_terms.specs.declared.node.Node.{Node}
 use Rattle.sym_exec.specs.Alone.{cell_by}
-use Rattle.sym_exec.specs.declared.symbolic.Cell.{Cell}
+use Rattle.sym_exec.specs.tc_code.declared.cell.Cell.{Cell}
 use Rattle.path_execution.specs.declared.execution.Execution.{Execution}
 use Rattle.order_formula.specs.Worlds.{World}
 use Rattle.order_cells.specs.Terms.{CellIsOf}
@@ -13,7 +13,7 @@ use Rattle.order_cells.specs.lawful_order.Memory.{cell_of, is_store}
 use Rattle.world_moves.specs.Moves.{event_here, last_place}
 
 -- a cell's terms exist, and its number fits in 32 bits
-pub record IsNumbered (nodes : List Node) (w : World) (c : Cell) : Type 0 where
+pub record IsNumbered (nodes : List Node) (w : World) (c : Cell ℕ) : Type 0 where
   pub terms : CellIsOf (length nodes) c
   pub number : cell_by nodes w.loads c < 2 ^ 32
 

@@ -9,7 +9,7 @@ use Rattle.condition_order.specs.store_buffers.Buffers.{newest}
 use Rattle.condition_order.specs.list_laws.Lists.{is_nil}
 use Rattle.condition_order.specs.tc_base.Names.{Name}
 use Rattle.condition_order.specs.tc_base.declared.request.Request.{Request}
-use Rattle.condition_order.specs.tc_base.declared.request.Request.TheVariants.{Silent, Read, Write, Exchange, CompareExchange}
+use Rattle.condition_order.specs.tc_base.declared.request.Request.TheVariants.{Silent, Read, Write, Exchange}
 use Rattle.condition_order.specs.tc_code.Code.{Code}
 use Rattle.condition_order.specs.store_buffers.Pending.{stores}
 use Rattle.sym_steps.specs.run_history.History.{Deed, pending}
@@ -76,8 +76,6 @@ module _ (b : Bool) (code : Code) (h : List Deed) (n : Name) (c : ℕ) (k : Even
       let to : d ≡ y.cell = ap (λ (z : Asked). z.cell) (head_is _ y one) in ap (seen_in b code h n) (to ∙ cell)
   takes_seen (Write d v) y one cell event other empty = absurd (other (sym (same_Some kind.Store k (event refl))))
   takes_seen (Exchange d v) y one cell event other empty = exchange_takes d (ap (λ (z : Asked). z.cell) (head_is _ y one) ∙ cell) (event refl) empty
-  takes_seen (CompareExchange d e v) y one cell event other empty =
-      exchange_takes d (ap (λ (z : Asked). z.cell) (head_is _ y one) ∙ cell) (event refl) empty
   takes_seen Silent y one cell event other empty = absurd cc
   takes_seen r y one cell event other empty = absurd cc
 

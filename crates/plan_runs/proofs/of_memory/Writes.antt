@@ -7,8 +7,8 @@ use Rattle.std.proofs.lemmas.Option.{none-some, same_Some, cond_some}
 use Rattle.condition_order.specs.tc_base.Buffers.{Entry}
 use Rattle.condition_order.specs.tc_base.Names.{Name}
 use Rattle.condition_order.specs.tc_base.declared.request.Request.{Request}
-use Rattle.condition_order.specs.tc_base.declared.request.Request.TheVariants.{Silent, Read, Write, Exchange, CompareExchange}
-use Rattle.condition_order.specs.tc_code.Step.{replaced}
+use Rattle.condition_order.specs.tc_base.declared.request.Request.TheVariants.{Silent, Read, Write, Exchange}
+use Rattle.condition_order.specs.tc_code.int_ops.Updates.{updated}
 use Rattle.condition_order.proofs.run_laws.Names.{is_same, same_self}
 use Rattle.sym_steps.specs.run_history.History.{Deed, Did, Drained, has_drained, same}
 use Rattle.sym_steps.specs.run_history.Last.{brings}
@@ -55,9 +55,7 @@ goes_to true n k (Write c u) took other y v asks writes =
     let one : the_asked (record { cell = c; takes = None; writes = Some u }) ≡ y = cc in
     inl (refl, ap₂ Write (ap (λ (z : Asked). z.cell) one) (same_Some u v (ap (λ (z : Asked). z.writes) one ∙ writes)))
 goes_to false n k (Write c u) took other y v asks writes = inr (exchanged c u _ y v asks refl refl writes, refl)
-goes_to b n k (Exchange c u) took other y v asks writes = inr (exchanged c u _ y v asks refl refl writes, at_once b _)
-goes_to b n k (CompareExchange c e u) took other y v asks writes =
-    inr (exchanged c (replaced took e u) _ y v asks refl refl writes, at_once b _)
+goes_to b n k (Exchange c u) took other y v asks writes = inr (exchanged c (updated u took) _ y v asks refl refl writes, at_once b _)
 goes_to b n k (Read c) took other y v asks writes =
     let one : the_asked (record { cell = c; takes = Some took; writes = None }) ≡ y = cc in
     absurd (none-some v (ap (λ (z : Asked). z.writes) one ∙ writes))
@@ -119,9 +117,7 @@ who_brings b c (Drained n k x u) v gives =
 who_brings true c (Did n k (Write x u) took other) v gives = absurd (none-some v gives)
 who_brings false c (Did n k (Write x u) took other) v gives = inl (step_brings false n k (Write x u) took other x c u v _ refl refl refl refl gives)
 who_brings b c (Did n k (Exchange x u) took other) v gives =
-    inl (step_brings b n k (Exchange x u) took other x c u v _ refl refl refl (at_once b _) gives)
-who_brings b c (Did n k (CompareExchange x e u) took other) v gives =
-    inl (step_brings b n k (CompareExchange x e u) took other x c (replaced took e u) v _ refl refl refl (at_once b _) gives)
+    inl (step_brings b n k (Exchange x u) took other x c (updated u took) v _ refl refl refl (at_once b _) gives)
 who_brings b c (Did n k Silent took other) v gives = absurd (none-some v gives)
 who_brings b c (Did n k r took other) v gives = absurd (none-some v gives)
 

@@ -3,7 +3,7 @@ use Rattle.std.proofs.Common.{◌≡◌, ℕ, ◌<◌, ℤ, List, ◌∷◌, ◌
 use Rattle.std.proofs.lemmas.Option.{none-some, same_Some}
 use Rattle.run_history.specs.tc_base.Names.{Name}
 use Rattle.run_history.specs.tc_base.declared.request.Request.{Request}
-use Rattle.run_history.specs.tc_base.declared.request.Request.TheVariants.{Silent, Read, Write, Exchange, CompareExchange}
+use Rattle.run_history.specs.tc_base.declared.request.Request.TheVariants.{Silent, Read, Write, Exchange}
 use Rattle.run_history.specs.tc_code.Code.{Code}
 use Rattle.run_history.proofs.run_laws.Asks.{AsksOf, next_asks_within}
 use Rattle.run_history.specs.History.{Deed, Did, Drained}
@@ -19,7 +19,6 @@ cell_asked : (code : Code) (r : Request) (c : ℕ) → AsksOf code r → cell_of
 cell_asked code (Read d) c within is = subst (λ k. k < length code.memory) (same_Some d c is) within
 cell_asked code (Write d v) c within is = subst (λ k. k < length code.memory) (same_Some d c is) within
 cell_asked code (Exchange d v) c within is = subst (λ k. k < length code.memory) (same_Some d c is) within
-cell_asked code (CompareExchange d e v) c within is = subst (λ k. k < length code.memory) (same_Some d c is) within
 cell_asked code Silent c within is = absurd (none-some c is)
 cell_asked code r c within is = absurd (none-some c is)
 

@@ -7,9 +7,9 @@ use Rattle.sym_events.specs.store_buffers.Buffers.{newest}
 use Rattle.sym_events.specs.list_laws.Lists.{is_nil}
 use Rattle.sym_events.specs.tc_base.Names.{Name}
 use Rattle.sym_events.specs.tc_base.declared.request.Request.{Request}
-use Rattle.sym_events.specs.tc_base.declared.request.Request.TheVariants.{Read, Write, Exchange, CompareExchange}
+use Rattle.sym_events.specs.tc_base.declared.request.Request.TheVariants.{Read, Write, Exchange}
 use Rattle.sym_events.specs.tc_code.Code.{Code}
-use Rattle.sym_events.specs.tc_code.Step.{replaced}
+use Rattle.sym_events.specs.tc_code.int_ops.Updates.{updated}
 use Rattle.sym_events.specs.store_buffers.Pending.{stores}
 use Rattle.sym_steps.specs.run_history.History.{Deed, pending}
 use Rattle.sym_steps.specs.run_history.Told.{value_in}
@@ -32,7 +32,6 @@ load_is b (Read c) took other x asks takes = record { asked = kind.Load; asks = 
 load_is b (Write c v) took other x asks takes =
     let same : asking c None (Some v) ≡ x = cc in absurd (false≢true (ap (λ (y : Asked). is_some y.takes) same ∙ takes))
 load_is b (Exchange c v) took other x asks takes = record { asked = kind.Exchange; asks = refl; kept = never_waits b }
-load_is b (CompareExchange c e v) took other x asks takes = record { asked = kind.Exchange; asks = refl; kept = never_waits b }
 load_is b r took other x asks takes = absurd cc
 
 -- an exchange finds its buffer empty, so it too takes the value that its thread sees
@@ -47,13 +46,8 @@ load_takes b code h n k (Read c) took other x next asks takes =
     sym (ap (λ (y : Asked). y.takes) same) ∙ ap (λ v. Some v) next.takes ∙ ap (λ (y : Asked). Some (seen_in b code h n y.cell)) same
 load_takes b code h n k (Write c v) took other x next asks takes =
     let same : asking c None (Some v) ≡ x = cc in absurd (false≢true (ap (λ (y : Asked). is_some y.takes) same ∙ takes))
-load_takes b code h n k (Exchange c v) took other x next asks takes =
-    let same : asking c (Some took) (Some v) ≡ x = cc in
-    let empty = (and_parts (is_nil (stores (pending b h n))) true next.may).0 in
-    let seen : seen_in b code h n c ≡ value_in b code h c = none_newer (stores (pending b h n)) c (value_in b code h c) empty in
-    sym (ap (λ (y : Asked). y.takes) same) ∙ ap (λ v. Some v) (next.takes ∙ sym seen) ∙ ap (λ (y : Asked). Some (seen_in b code h n y.cell)) same
-load_takes b code h n k (CompareExchange c e v) took other x next asks takes =
-    let same : asking c (Some took) (Some (replaced took e v)) ≡ x = cc in
+load_takes b code h n k (Exchange c u) took other x next asks takes =
+    let same : asking c (Some took) (Some (updated u took)) ≡ x = cc in
     let empty = (and_parts (is_nil (stores (pending b h n))) true next.may).0 in
     let seen : seen_in b code h n c ≡ value_in b code h c = none_newer (stores (pending b h n)) c (value_in b code h c) empty in
     sym (ap (λ (y : Asked). y.takes) same) ∙ ap (λ v. Some v) (next.takes ∙ sym seen) ∙ ap (λ (y : Asked). Some (seen_in b code h n y.cell)) same

@@ -7,8 +7,8 @@ use Rattle.std.proofs.lemmas.Option.{none-some, same_Some, cond_some}
 use Rattle.sym_events.specs.tc_base.Buffers.{Entry}
 use Rattle.sym_events.specs.tc_base.Names.{Name}
 use Rattle.sym_events.specs.tc_base.declared.request.Request.{Request}
-use Rattle.sym_events.specs.tc_base.declared.request.Request.TheVariants.{Read, Write, Exchange, CompareExchange}
-use Rattle.sym_events.specs.tc_code.Step.{replaced}
+use Rattle.sym_events.specs.tc_base.declared.request.Request.TheVariants.{Read, Write, Exchange}
+use Rattle.sym_events.specs.tc_code.int_ops.Updates.{updated}
 use Rattle.sym_events.proofs.run_laws.Names.{is_same, same_self}
 use Rattle.sym_steps.specs.run_history.History.{Deed, Did, Drained, same, drains, has_drained}
 use Rattle.sym_steps.specs.run_history.Last.{IsLast, brings}
@@ -100,7 +100,6 @@ seen_or_waits true n k (Write c v) took other e is =
     inr (refl, ap (λ (x : Entry). Write x.cell x.value) same)
 seen_or_waits false n k (Write c v) took other e is = inl (Done (Write c v) took other kind.Store refl refl refl, is)
 seen_or_waits b n k (Exchange c v) took other e is = inl (Done (Exchange c v) took other kind.Exchange refl refl (never_waits b), is)
-seen_or_waits b n k (CompareExchange c x v) took other e is = inl (Done (CompareExchange c x v) took other kind.Exchange refl refl (never_waits b), is)
 seen_or_waits b n k r took other e is = absurd (none-some e is)
 
 module _ (b : Bool) (h : List Deed) (told : AreTold b h) where
@@ -171,16 +170,6 @@ module _ (b : Bool) (h : List Deed) (told : AreTold b h) where
         writes = is;
         seen = Done (Exchange c v) took other kind.Exchange refl refl (never_waits b);
       }
-      by (CompareExchange c x v) i is = record {
-        thread = n;
-        step = k;
-        request = CompareExchange c x v;
-        took = took;
-        other = other;
-        there = i;
-        writes = is;
-        seen = Done (CompareExchange c x v) took other kind.Exchange refl refl (never_waits b);
-      }
       by r i is = absurd (none-some e is)
   of_step (Drained n k c v) e i is =
       let s = store_of b h told n k c v i in
@@ -205,9 +194,8 @@ pub writes_asked : (n : Name) (k : ℕ) (r : Request) (took : ℤ) (other : Opti
 writes_asked n k (Read c) took other x v asks is =
     let same : asking c (Some took) None ≡ x = cc in absurd (none-some v (ap (λ (y : Asked). y.writes) same ∙ is))
 writes_asked n k (Write c w) took other x v asks is = let same : asking c None (Some w) ≡ x = cc in written c w None x v same is
-writes_asked n k (Exchange c w) took other x v asks is = let same : asking c (Some took) (Some w) ≡ x = cc in written c w (Some took) x v same is
-writes_asked n k (CompareExchange c e w) took other x v asks is =
-    let same : asking c (Some took) (Some (replaced took e w)) ≡ x = cc in written c (replaced took e w) (Some took) x v same is
+writes_asked n k (Exchange c u) took other x v asks is =
+    let same : asking c (Some took) (Some (updated u took)) ≡ x = cc in written c (updated u took) (Some took) x v same is
 writes_asked n k r took other x v asks is = absurd cc
 
 asked_so : (c : ℕ) (v : ℤ) (takes : Option ℤ) (e : Entry) → Some (entry c v) ≡ Some e
@@ -219,8 +207,7 @@ asked_so c v takes e is =
 pub asks_written : (n : Name) (k : ℕ) (r : Request) (took : ℤ) (other : Option Name) (e : Entry) → reaches false (Did n k r took other) ≡ Some e
     → (x : Asked) × (asked_by took r ≡ x ∷ []) × (x.cell ≡ e.cell) × (x.writes ≡ Some e.value)
 asks_written n k (Write c v) took other e is = asked_so c v None e is
-asks_written n k (Exchange c v) took other e is = asked_so c v (Some took) e is
-asks_written n k (CompareExchange c x v) took other e is = asked_so c (replaced took x v) (Some took) e is
+asks_written n k (Exchange c u) took other e is = asked_so c (updated u took) (Some took) e is
 asks_written n k r took other e is = absurd (none-some e is)
 
 -- The pending stores of a thread.

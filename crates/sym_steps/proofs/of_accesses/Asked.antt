@@ -5,7 +5,7 @@ use Rattle.std.specs.List.{Contains, filter, flat_map}
 use Rattle.std.proofs.lemmas.Bool.{lt-ltb}
 use Rattle.order_events.specs.tc_base.Names.{Name}
 use Rattle.order_events.specs.tc_base.declared.request.Request.{Request}
-use Rattle.order_events.specs.tc_base.declared.request.Request.TheVariants.{Silent, Read, Write, Exchange, CompareExchange}
+use Rattle.order_events.specs.tc_base.declared.request.Request.TheVariants.{Silent, Read, Write, Exchange}
 use Rattle.order_events.proofs.run_laws.Names.{is_same, same_self}
 use Rattle.sym_laws.specs.run_history.History.{Deed, Did, Drained, same}
 use Rattle.sym_laws.specs.run_history.Told.{steps_in}
@@ -33,7 +33,6 @@ pub asks_one : (took : ℤ) (r : Request) (y : Asked) → In y (asked_by took r)
 asks_one took (Read c) y i = only_one y _ i
 asks_one took (Write c v) y i = only_one y _ i
 asks_one took (Exchange c v) y i = only_one y _ i
-asks_one took (CompareExchange c e v) y i = only_one y _ i
 asks_one took Silent y i = absurd i
 asks_one took r y i = absurd i
 

@@ -1,9 +1,9 @@
 -- The accesses of a thread's steps name cells as lawful code does.
 use Rattle.std.proofs.Common.{◌≡◌, ◌∙◌, ◌⊎◌, inl, inr, ℕ, suc, ◌+◌, ◌≤◌, ◌<◌, ◌==◌, ℤ, pos, Bool, List, [], ◌∷◌, ◌++◌, length, take, fold}
 use Rattle.std.proofs.Common.{Some, None, refl, ap, sym, subst, arith, append-nil, slice_index_or}
-use Rattle.std.specs.Prelude.{slice_get, nat_lt}
+use Rattle.std.specs.Prelude.{◌&&◌, slice_get, nat_lt}
 use Rattle.std.specs.FinMap as fin
-use Rattle.std.specs.List.{AllByRecursion as Each, flat_map}
+use Rattle.std.specs.List.{AllByRecursion as Each, flat_map, list_all}
 use Rattle.std.specs.Bool.{IsTrue}
 use Rattle.std.proofs.Math.Seq.{take-suc}
 use Rattle.std.proofs.lemmas.Bool.{and_parts}
@@ -12,13 +12,16 @@ use Rattle.std.proofs.lemmas.Option.{same_Some, slice_get_within, get_or_from_sl
 use Rattle.order_events.specs.tc_base.Paths.{ThreadPath}
 use Rattle.order_events.specs.tc_base.States.{Local, Thread}
 use Rattle.order_events.specs.tc_code.Code.{instr_at}
+use Rattle.order_events.specs.int_ops.Updates.{operands_of}
 use Rattle.order_events.specs.tc_code.Expr.{Expr, names_slots, value_of as expr_value_of}
-use Rattle.order_events.specs.tc_code.Lawful.{Array, keeps_apart}
+use Rattle.order_events.specs.tc_code.Lawful.{Array, is_apart, keeps_apart}
 use Rattle.order_events.specs.tc_code.Step.{is_within, value_in, instr_of}
+use Rattle.order_events.specs.tc_code.declared.cell.Cell.{Cell}
+use Rattle.order_events.specs.tc_code.declared.cell.Cell.TheVariants.{Fixed, Element}
 use Rattle.order_events.specs.tc_code.declared.instr.Instr.{Instr}
-use Rattle.order_events.specs.tc_code.declared.instr.Instr.TheVariants.{Set, Load, LoadAt, Store, StoreAt, Swap, Cas}
+use Rattle.order_events.specs.tc_code.declared.instr.Instr.TheVariants.{Set, Load, Store, Modify}
 use Rattle.order_events.proofs.tc_code.Facts.{placed}
-use Rattle.order_events.specs.run_laws.Whole.{IndexIsWithin}
+use Rattle.order_events.specs.run_laws.Whole.{CellIsWithin, IndexIsWithin}
 use Rattle.order_events.proofs.run_laws.Guards.{index_is_within}
 use Rattle.sym_laws.specs.run_history.History.{Did, history}
 use Rattle.sym_laws.specs.run_history.Told.{steps_in, failed_in}
@@ -38,13 +41,13 @@ use Rattle.order_events.specs.sym_terms.Values.{value_of}
 use Rattle.order_events.specs.sym_terms.declared.node.Node.{Node}
 use Rattle.order_events.specs.sym_terms.declared.node.Node.TheVariants.{Symbol}
 use Rattle.sym_laws.specs.sym_exec.Making.{Made, Grows}
-use Rattle.sym_laws.specs.sym_exec.helpers.Threads.{names_within}
-use Rattle.sym_laws.specs.sym_exec.Thread.{Doing, HasTerms, term_in, after_instr, after_step, wanted_of, Route, route_of}
+use Rattle.sym_laws.specs.sym_exec.helpers.Threads.{cell_named, names_within}
+use Rattle.sym_laws.specs.sym_exec.Thread.{Doing, HasTerms, term_in, with_nodes, cell_of, after_instr, after_step, wanted_of, Route, route_of}
 use Rattle.sym_laws.specs.sym_exec.Executed.{Course, fails_at, thread_started, thread_done}
 use Rattle.sym_laws.specs.sym_exec.Alone.{slots_by, cell_by}
 use Rattle.sym_laws.specs.sym_exec.declared.symbolic.Access.{Access}
 use Rattle.sym_laws.proofs.sym_exec.Grown.{grows_both, grows_made, expr_grows}
-use Rattle.sym_laws.proofs.sym_exec.Sound.{instr_named}
+use Rattle.sym_laws.proofs.sym_exec.Sound.{cell_goes, updating_goes, instr_named}
 use Rattle.sym_laws.proofs.sym_exec.Values.{HasValue, value_stays, expr_value}
 use Rattle.sym_laws.specs.Valued.{AgreesWith, found, found_before, execution, asked_of}
 use Rattle.sym_laws.proofs.Executed.{course_of}
@@ -78,31 +81,36 @@ inside loads x len e t d later has slots g within =
     let same = value_stays x.nodes later loads x.term g has.within ∙ has.value ∙ ap (expr_value_of e) (sym slots) in
     subst (λ v. IsTrue (is_within len v)) (sym same) within
 
+-- the cell that an instruction accesses, in all later nodes
+cell_sound : (arrays : List Array) (loads : List ℤ) (d : Doing) (c : Cell Expr) (t : Local) → AreTerms d.nodes → HasTerms d
+    → IsTrue (cell_named (length d.slots) c) → t.slots ≡ slots_by loads d → IsTrue (is_apart arrays c) → CellIsWithin t c
+    → (later : List Node) → Grows (cell_of d c).nodes later → IsSound arrays later loads (cell_of d c).cell
+cell_sound arrays loads d (Fixed c) t are s named is apart within later g = apart
+cell_sound arrays loads d (Element first len i) t are s named is apart within later g =
+    (apart, inside loads (term_in d i) len i t d later (expr_value d.nodes d.slots i loads are s.slots named) is g within)
+
 adds_sound : (arrays : List Array) (loads : List ℤ) (line : ℕ) (wanted : Bool) (d : Doing) (i : Instr) (t : Local) → AreTerms d.nodes → HasTerms d
     → IsTrue (names_within (length d.slots) i) → t.slots ≡ slots_by loads d → IsTrue (keeps_apart arrays i) → IndexIsWithin t i
     → AddsSound arrays loads d (after_instr line wanted d i)
 adds_sound arrays loads line wanted d (Load k c) t are s named is apart within =
-    one_sound arrays loads d (after_instr line wanted d (Load k c)) _ refl (λ later g. apart)
-adds_sound arrays loads line wanted d (LoadAt k first len i) t are s named is apart within =
-    let both = and_parts (nat_lt k (length d.slots)) (names_slots (length d.slots) i) named in
-    let x = term_in d i in
-    let h = expr_value d.nodes d.slots i loads are s.slots both.1 in
-    let e = after_instr line wanted d (LoadAt k first len i) in
-    let up : Grows x.nodes e.nodes = grows_made x.nodes (Symbol d.loads) in
-    one_sound arrays loads d e _ refl (λ later g. (apart, inside loads x len i t d later h is (grows_both x.nodes e.nodes later up g) within))
-adds_sound arrays loads line wanted d (Store c e) t are s named is apart within =
-    one_sound arrays loads d (after_instr line wanted d (Store c e)) _ refl (λ later g. apart)
-adds_sound arrays loads line wanted d (StoreAt first len i v) t are s named is apart within =
-    let both = and_parts (names_slots (length d.slots) i) (names_slots (length d.slots) v) named in
-    let x = term_in d i in
-    let h = expr_value d.nodes d.slots i loads are s.slots both.0 in
-    let e = after_instr line wanted d (StoreAt first len i v) in
-    let up : Grows x.nodes e.nodes = expr_grows x.nodes d.slots v in
-    one_sound arrays loads d e _ refl (λ later g. (apart, inside loads x len i t d later h is (grows_both x.nodes e.nodes later up g) within))
-adds_sound arrays loads line wanted d (Swap k c e) t are s named is apart within =
-    one_sound arrays loads d (after_instr line wanted d (Swap k c e)) _ refl (λ later g. apart)
-adds_sound arrays loads line wanted d (Cas k c e new) t are s named is apart within =
-    one_sound arrays loads d (after_instr line wanted d (Cas k c e new)) _ refl (λ later g. apart)
+    let named = and_parts (nat_lt k (length d.slots)) (cell_named (length d.slots) c) named in
+    let x = cell_of d c in
+    let e = after_instr line wanted d (Load k c) in
+    one_sound arrays loads d e _ refl (λ later g. cell_sound arrays loads d c t are s named.1 is apart within later
+    (grows_both x.nodes e.nodes later (grows_made x.nodes (Symbol d.loads)) g))
+adds_sound arrays loads line wanted d (Store c v) t are s named is apart within =
+    let named = and_parts (cell_named (length d.slots) c) (names_slots (length d.slots) v) named in
+    let x = cell_of d c in
+    let e = after_instr line wanted d (Store c v) in
+    one_sound arrays loads d e _ refl (λ later g. cell_sound arrays loads d c t are s named.0 is apart within later
+    (grows_both x.nodes e.nodes later (expr_grows x.nodes d.slots v) g))
+adds_sound arrays loads line wanted d (Modify k c u) t are s named is apart within =
+    let named = and_parts (nat_lt k (length d.slots) && cell_named (length d.slots) c) (list_all (names_slots (length d.slots)) (operands_of u)) named in
+    let cell = (and_parts (nat_lt k (length d.slots)) (cell_named (length d.slots) c) named.0).1 in
+    let x = cell_of d c in
+    let e = after_instr line wanted d (Modify k c u) in
+    let up = updating_goes (with_nodes d x.nodes) k x.cell u (cell_goes d c s).sound in
+    one_sound arrays loads d e _ refl (λ later g. cell_sound arrays loads d c t are s cell is apart within later (grows_both x.nodes e.nodes later up.grows g))
 adds_sound arrays loads line wanted d (Set k e) t are s named is apart within =
     none_added arrays loads d (after_instr line wanted d (Set k e)) refl
 adds_sound arrays loads line wanted d i t are s named is apart within = none_added arrays loads d (after_instr line wanted d i) refl

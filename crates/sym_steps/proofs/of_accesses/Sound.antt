@@ -15,13 +15,13 @@ use Rattle.order_events.specs.tc_code.Step.{is_within, cell_at}
 use Rattle.order_events.specs.sym_terms.Values.{value_of}
 use Rattle.order_events.specs.sym_terms.declared.node.Node.{Node}
 use Rattle.sym_laws.specs.sym_exec.Alone.{cell_by}
-use Rattle.sym_laws.specs.sym_exec.declared.symbolic.Cell.{Cell}
-use Rattle.sym_laws.specs.sym_exec.declared.symbolic.Cell.TheVariants.{Fixed, Element}
+use Rattle.order_events.specs.tc_code.declared.cell.Cell.{Cell}
+use Rattle.order_events.specs.tc_code.declared.cell.Cell.TheVariants.{Fixed, Element}
 use Rattle.order_events.specs.order_formula.Worlds.{World}
 use Rattle.order_events.specs.lawful_order.Cells.{is_same_cell, value_at_start}
 
 -- a fixed cell is in no array, and an element is inside an array of the code
-abbrev pub IsSound : List Array → List Node → List ℤ → Cell → Type 0
+abbrev pub IsSound : List Array → List Node → List ℤ → Cell ℕ → Type 0
 IsSound arrays nodes loads (Fixed c) = IsTrue (list_all (is_outside c) arrays)
 IsSound arrays nodes loads (Element f m i) = IsTrue (is_array arrays f m) × IsTrue (is_within m (value_of nodes loads i))
 
@@ -116,7 +116,7 @@ module _ (arrays : List Array)
     abbrev value : ℕ → ℤ
     value i = value_of nodes w.loads i
 
-    pub same_cell_is : (a b : Cell) → IsSound arrays nodes w.loads a → IsSound arrays nodes w.loads b
+    pub same_cell_is : (a b : Cell ℕ) → IsSound arrays nodes w.loads a → IsSound arrays nodes w.loads b
         → is_same_cell nodes w a b ≡ (cell_by nodes w.loads a == cell_by nodes w.loads b)
     same_cell_is (Fixed c) (Fixed d) p q = refl
     same_cell_is (Fixed c) (Element f m i) p q =
@@ -133,7 +133,7 @@ module _ (arrays : List Array)
         ∙ sym (ap₂ (λ x y. cell_at f x == cell_at g y) v.1 u.1)
 
 -- the initial value of a cell
-pub begins_so : (code : Code) (has : HasArrays code) (nodes : List Node) (loads : List ℤ) (a : Cell) → IsSound has.arrays nodes loads a
+pub begins_so : (code : Code) (has : HasArrays code) (nodes : List Node) (loads : List ℤ) (a : Cell ℕ) → IsSound has.arrays nodes loads a
     → value_at_start code a ≡ slice_index_or code.memory (cell_by nodes loads a) (pos 0)
 begins_so code has nodes loads (Fixed c) sound = refl
 begins_so code has nodes loads (Element f m i) sound =

@@ -1,4 +1,5 @@
 -- Helpers: the parts of the lowering as plain data.
+use Rattle.int_ops.specs.declared.update.Update.{Update}
 use Rattle.std.specs.Prelude.{◌≡◌, ◌+◌, ◌<◌, ◌≤◌, ◌^◌, ◌++◌, List, Option, length}
 use Rattle.tc_code.specs.tc_limits.declared.limits.TheConstants.{PROGRAM_BYTES}
 use Rattle.tc_code.specs.declared.instr.Instr.{Instr}
@@ -8,7 +9,7 @@ use Rattle.tc_lower.specs.declared.things.Scope.{Scope}
 use Rattle.tc_lower.specs.declared.things.Thing.{Thing}
 use Rattle.tc_lower.specs.declared.value.Writer.{Writer}
 use Rattle.tc_lower.specs.Things.{thing_in_scope}
-use Rattle.tc_lower.specs.Statements.{Written}
+use Rattle.tc_lower.specs.Statements.{Written, Indexed, Updating, indexed, updating}
 use Rattle.tc_lower.specs.Values.{Evaluated, evaluated, Arguments, arguments}
 
 -- the thing that a name denotes
@@ -21,6 +22,12 @@ evaluated_by s w e = evaluated (plain_scope s) (length w.draft) w.free e
 
 abbrev pub arguments_by : Scope → Writer → List Expression → Arguments
 arguments_by s w es = arguments (plain_scope s) (length w.draft) w.free es
+
+abbrev pub indexed_by : Scope → Writer → Name → Option Expression → Indexed
+indexed_by s w a i = indexed (plain_scope s) (length w.draft) w.free a i
+
+abbrev pub updating_by : Scope → Writer → Update Expression → Updating
+updating_by s w u = updating (plain_scope s) (length w.draft) w.free u
 
 -- the writer has room for these instructions
 pub record HasRoom (w : Writer) (is : List Instr) : Type 0 where

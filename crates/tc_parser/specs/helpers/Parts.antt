@@ -32,7 +32,7 @@ IsCountFault globals _ = ⊥
 -- memory ran out, or no program continues at one of the tokens or at the end
 abbrev pub IsReadFault : List ℕ → List Token → ParseFault → Type 0
 IsReadFault text tokens (Syntax place) =
-    (k : ℕ) × IsSyntaxFault 3 (words_of tokens) k × (place ≡ place_at text tokens k)
+    (k : ℕ) × IsSyntaxFault 4 (words_of 4 text tokens) k × (place ≡ place_at text tokens k)
 IsReadFault text tokens Memory = Unit {0}
 IsReadFault text tokens _ = ⊥
 

@@ -45,11 +45,16 @@ use Rattle.tc_tree.specs.declared.word.Word.TheVariants.{
   Wait as AWait,
   Barrier as ABarrier,
   Assert as AnAssert,
+  Update as AnUpdate,
   Keyword as AKeyword,
   Sign as ASign,
   End as AnEnd,
 }
 use Rattle.tc_tree.specs.declared.word.Word.{Word}
+use Rattle.tc_tree.specs.declared.statement.UpdateKind.{UpdateKind}
+use Rattle.tc_tree.specs.declared.statement.UpdateKind.TheVariants as kind
+use Rattle.tc_tree.specs.declared.statement.Target.{Target}
+use Rattle.tc_tree.specs.declared.statement.Target.TheVariants as target
 
 pub data Expected : Type 0 where
   Just : (sign : AnySign) → Expected
@@ -145,6 +150,21 @@ a_thread =
     AnyName ∷ Just OpenParen ∷ Parameters ∷ Just CloseParen ∷ Just OpenBrace ∷ Locals ∷ Statements
     ∷ End ∷ []
 
+-- an index in brackets, if an element is updated
+abbrev pub an_index : Target → List Expected → List Expected
+an_index target.Cell s = s
+an_index target.Element s = Just OpenBracket ∷ Operand ∷ Operators ∷ Just CloseBracket ∷ s
+
+-- the operands of an update, each after a comma
+abbrev pub operands : UpdateKind → List Expected → List Expected
+operands kind.Swap s = Just Comma ∷ Operand ∷ Operators ∷ s
+operands kind.Cas s = Just Comma ∷ Operand ∷ Operators ∷ Just Comma ∷ Operand ∷ Operators ∷ s
+operands kind.Add s = Just Comma ∷ Operand ∷ Operators ∷ s
+
+abbrev pub an_update : UpdateKind → Target → List Expected
+an_update k t =
+    Just OpenParen ∷ AnyName ∷ an_index t (operands k (Just CloseParen ∷ Just Semicolon ∷ []))
+
 -- what is expected after the word that begins an operand
 abbrev pub operand : Word → Option (List Expected)
 operand (AName x) = Some (Subscript ∷ [])
@@ -208,13 +228,7 @@ first AfterName (ASign OpenBracket) =
 first AfterName _ = None
 first AfterAssign (AKeyword keyword.Create) =
     Some (AnyName ∷ Just OpenParen ∷ Arguments ∷ Just CloseParen ∷ Just Semicolon ∷ [])
-first AfterAssign (AKeyword keyword.Swap) =
-    Some (Just OpenParen ∷ AnyName ∷ Just Comma ∷ Operand ∷ Operators ∷ Just CloseParen
-    ∷ Just Semicolon ∷ [])
-first AfterAssign (AKeyword keyword.Cas) =
-    Some (Just OpenParen ∷ AnyName ∷ Just Comma ∷ Operand ∷ Operators ∷ Just Comma ∷ Operand
-    ∷ Operators ∷ Just
-    CloseParen ∷ Just Semicolon ∷ [])
+first AfterAssign (AnUpdate k t) = Some (an_update k t)
 first AfterAssign w = followed (operand w) (Operators ∷ Just Semicolon ∷ [])
 first Alternative (AKeyword keyword.Else) = Some (AfterElse ∷ [])
 first Alternative _ = None

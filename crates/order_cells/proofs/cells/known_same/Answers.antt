@@ -1,5 +1,5 @@
 use Rattle.std.proofs.Common.{◌≡◌}
-use Rattle.sym_exec.specs.declared.symbolic.Cell.TheVariants.{Element}
+use Rattle.sym_exec.specs.tc_code.declared.cell.Cell.TheVariants.{Element}
 use Rattle.order_cells.specs.Same.{known_same}
 use Rattle.order_cells.proofs.cells.known_same.Goals as goal
 

@@ -1,8 +1,8 @@
-use Rattle.tc_grammar.proofs.Faults.{program_or_fault, program_or_fault_3, one_syntax_fault}
+use Rattle.tc_grammar.proofs.Faults.{program_or_fault, program_or_fault_last, one_syntax_fault}
 use Rattle.tc_grammar.proofs.laws.words_have_one_fault.Goals as goal
 
 pub returns-clause-some : goal.returns-clause-some
-returns-clause-some c = program_or_fault_3
+returns-clause-some c = program_or_fault_last
 
 pub returns-clause-earlier : goal.returns-clause-earlier
 returns-clause-earlier c = λ language words least all. program_or_fault language least words all

@@ -16,9 +16,9 @@ returns-in_default-clause-refused c _ =
     let text = c.args.text.now in
     let start = c.loop-start.start in
     let none = none_at text start c.piece_at.result c.piece_at.ensures c.in_default.is in
-    let there = read_fault 3 text c.loop-start.tokens.items start c.loop-start.place c.loop-start.invariant c.loop-start-test.true none in
+    let there = read_fault 4 text c.loop-start.tokens.items start c.loop-start.place c.loop-start.invariant c.loop-start-test.true none in
     let fault = c.fault_at.ensures ∙ ap (fault_at c.loop-start.place) (rest_is text start) in
-    subst (IsFault 3 text) (sym fault) there
+    subst (IsFault 4 text) (sym fault) there
 
 pub overflow_add-end : goal.overflow_add-end
 overflow_add-end c =

@@ -1,7 +1,7 @@
 use Rattle.std.proofs.Common.{refl}
 use Rattle.std.proofs.lemmas.Result.{err_from_is_err_and}
 use Rattle.tc_names.specs.helpers.Answers.{plain_scope}
-use Rattle.tc_tree.proofs.Views.{store_seen, cas_seen, block_seen}
+use Rattle.tc_tree.proofs.Views.{store_seen, modify_seen, block_seen}
 use Rattle.tc_names.proofs.Chains.{if_first, if_others, if_last, create_arguments}
 use Rattle.tc_names.proofs.uses.+statements.Goals as goal
 
@@ -26,28 +26,26 @@ check_statement-returns-in_ok-check_expression-in-Store t c =
       c.in_ok-check_expression-in-Store.ensures,
     ) c.check_expression-in-Store-2.ensures
 
-pub check_statement-returns-in_err-check_expression-in-Cas : goal.check_statement-returns-in_err-check_expression-in-Cas
-check_statement-returns-in_err-check_expression-in-Cas t c =
-    let p = err_from_is_err_and c.from_residual-in_err-check_expression-in-Cas.result c.from_residual-in_err-check_expression-in-Cas.ensures.1 in
+pub check_statement-returns-in_err-check_target-in-Modify : goal.check_statement-returns-in_err-check_target-in-Modify
+check_statement-returns-in_err-check_target-in-Modify t c =
+    let p = err_from_is_err_and c.from_residual-in_err-check_target-in-Modify.result c.from_residual-in_err-check_target-in-Modify.ensures.1 in
     rw (
       p.1,
       p.2,
-      c.in-Cas.is,
-      cas_seen c.in-Cas.local c.in-Cas.global c.in-Cas.old c.in-Cas.new,
-      c.in_ok-check_meaning-in-Cas.ensures,
-      c.in_ok-check_meaning-in-Cas-2.ensures,
-      c.in_err-check_expression-in-Cas.ensures,
+      c.in-Modify.is,
+      modify_seen c.in-Modify.local c.in-Modify.target c.in-Modify.index c.in-Modify.update,
+      c.in_ok-check_meaning-in-Modify.ensures,
+      c.in_err-check_target-in-Modify.ensures,
     ) refl
 
-pub check_statement-returns-in_ok-check_expression-in-Cas : goal.check_statement-returns-in_ok-check_expression-in-Cas
-check_statement-returns-in_ok-check_expression-in-Cas t c =
+pub check_statement-returns-in_ok-check_target-in-Modify : goal.check_statement-returns-in_ok-check_target-in-Modify
+check_statement-returns-in_ok-check_target-in-Modify t c =
     rw (
-      c.in-Cas.is,
-      cas_seen c.in-Cas.local c.in-Cas.global c.in-Cas.old c.in-Cas.new,
-      c.in_ok-check_meaning-in-Cas.ensures,
-      c.in_ok-check_meaning-in-Cas-2.ensures,
-      c.in_ok-check_expression-in-Cas.ensures,
-    ) c.check_expression-in-Cas-2.ensures
+      c.in-Modify.is,
+      modify_seen c.in-Modify.local c.in-Modify.target c.in-Modify.index c.in-Modify.update,
+      c.in_ok-check_meaning-in-Modify.ensures,
+      c.in_ok-check_target-in-Modify.ensures,
+    ) c.check_operands.ensures
 
 pub check_statement-returns-in_err-check_branch-in-If : goal.check_statement-returns-in_err-check_branch-in-If
 check_statement-returns-in_err-check_branch-in-If t c =

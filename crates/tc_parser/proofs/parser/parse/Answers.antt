@@ -13,5 +13,5 @@ returns-in_err-check_tokens-clause-refused c =
 pub check_globals-requires : goal.check_globals-requires
 check_globals-requires c =
     let spelled = rw c.as_slice-tokens.ensures at c.in_ok-program.ensures in
-    let few = few_globals 3 c.args.text.now c.args.tokens.now (program_of c.in_ok-program.program) c.requires.tokens spelled in
+    let few = few_globals 4 c.args.text.now c.args.tokens.now (program_of c.in_ok-program.program) c.requires.tokens spelled in
     rw c.as_slice.ensures.value (omega (arith, few, c.requires.size))

@@ -1,8 +1,8 @@
-use Rattle.std.proofs.Common.{◌≡◌, ◌∙◌, List, option_map, option_to_list, fold, ap, sym, subst}
+use Rattle.std.proofs.Common.{◌≡◌, ◌∙◌, ℕ, List, option_map, option_to_list, fold, ap, sym, subst}
 use Rattle.sym_terms.specs.Terms.{with_node, id_of}
 use Rattle.sym_terms.specs.declared.node.Node.{Node}
 use Rattle.sym_exec.specs.Making.{Grows}
-use Rattle.sym_exec.specs.declared.symbolic.Cell.{Cell}
+use Rattle.sym_exec.specs.tc_code.declared.cell.Cell.{Cell}
 use Rattle.order_cells.proofs.Stay.{made_later}
 use Rattle.order_cells.specs.Same.{same_test}
 use Rattle.std.proofs.lemmas.Result.{on_ok_weaker}
@@ -30,7 +30,7 @@ pub returns-in-Some-clause-test : goal.returns-in-Some-clause-test
 returns-in-Some-clause-test g c =
     let t = c.args.self.now in
     let p = plain c.args.two.now in
-    let both : Cell × Cell = (c.in-Some.one, c.in-Some.other) in
+    let both : Cell ℕ × Cell ℕ = (c.in-Some.one, c.in-Some.other) in
     let cells = sym c.cells_of.ensures ∙ c.in-Some.is in
     let within = cells_within t.symbolic.now c.args.terms.now c.requires t.number p.first p.second both cells in
     let keep = sym c.keeps.ensures ∙ c.if-not-keeps.false in
@@ -48,7 +48,7 @@ pub returns-in-Some-clause-added : goal.returns-in-Some-clause-added
 returns-in-Some-clause-added g c =
     let t = c.args.self.now in
     let p = plain c.args.two.now in
-    let both : Cell × Cell = (c.in-Some.one, c.in-Some.other) in
+    let both : Cell ℕ × Cell ℕ = (c.in-Some.one, c.in-Some.other) in
     let cells = sym c.cells_of.ensures ∙ c.in-Some.is in
     let keep = sym c.keeps.ensures ∙ c.if-not-keeps.false in
     let lost = sym c.keeps-else-not-keeps.ensures ∙ c.if-keeps.false in

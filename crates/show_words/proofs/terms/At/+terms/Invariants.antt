@@ -8,3 +8,6 @@ decreases-push_slot l = l.depth
 
 abbrev pub decreases-push_choice : goal.decreases-push_choice
 decreases-push_choice l = l.depth
+
+abbrev pub decreases-push_pair : goal.decreases-push_pair
+decreases-push_pair l = l.depth

@@ -16,10 +16,3 @@ returns-in-Inside-clause-done c =
     (e ≡ with_test d c.args.line c.args.wanted
     (range_test (term_in d c.in-Inside.index) n))) (to_z-of_z w32 c.last_index.result fits ∙ c.last_index.ensures)
     c.test_range.ensures.tested)
-
-pub returns-in-Cas-clause-done : goal.returns-in-Cas-clause-done
-returns-in-Cas-clause-done c =
-    let d = doing_of c.args.self.now c.args.terms.now in
-    let e = doing_of c.replace.new.self c.replace.new.terms in
-    subst (λ (i : Instr). OnOk c.replace.result (e ≡ after_instr c.args.line c.args.wanted d i)) (sym c.in-Cas.is)
-    c.replace.ensures.replaced

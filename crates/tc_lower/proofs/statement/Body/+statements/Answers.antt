@@ -33,8 +33,7 @@ use Rattle.tc_lower.specs.Statements.{
   assigned,
   stored,
   created,
-  swapped,
-  compared,
+  modified,
   asserted,
   lowered,
   all_lowered,
@@ -65,8 +64,7 @@ use Rattle.tc_tree.proofs.Views.{
   assign_seen,
   store_seen,
   create_seen,
-  swap_seen,
-  cas_seen,
+  modify_seen,
   act_seen,
   wait_seen,
   order_seen,
@@ -114,31 +112,19 @@ write-returns-in_ok-create-in-Create t c =
     c.in-Create.handle c.in-Create.thread c.in-Create.arguments.items) c.in-Create.handle.place.line c.mark-in-Create.result
     c.requires.even refl added c.mark-in-Create.ensures.code c.mark-in-Create.ensures.lines)
 
-pub write-returns-in_ok-swap-in-Swap : goal.write-returns-in_ok-swap-in-Swap
-write-returns-in_ok-swap-in-Swap t c =
+pub write-returns-in_ok-modify-in-Modify : goal.write-returns-in_ok-modify-in-Modify
+write-returns-in_ok-modify-in-Modify t c =
     let old = c.args.self.now in
-    let mid : Body = record { code = c.swap.new.self; lines = old.lines } in
-    let seen = ap statement_of c.in-Swap.is ∙ swap_seen c.in-Swap.local c.in-Swap.global c.in-Swap.value in
-    let added : IsAdded old.code mid.code (swapped (plain_scope c.args.scope) (length c.args.self.now.code.draft) c.args.self.now.code.free c.in-Swap.local
-    c.in-Swap.global c.in-Swap.value) = c.in_ok-swap-in-Swap.ensures in
-    subst (λ s. OnOk c.mark-in-Swap.result (IsWritten old c.mark-in-Swap.new.self (lowered (plain_scope c.args.scope) (length c.args.self.now.code.draft)
+    let mid : Body = record { code = c.modify.new.self; lines = old.lines } in
+    let seen = ap statement_of c.in-Modify.is ∙ modify_seen c.in-Modify.local c.in-Modify.target c.in-Modify.index c.in-Modify.update in
+    let made = modified (plain_scope c.args.scope) (length c.args.self.now.code.draft) c.args.self.now.code.free c.in-Modify.local c.in-Modify.target
+    c.in-Modify.index c.in-Modify.update in
+    let added : IsAdded old.code mid.code made = c.in_ok-modify-in-Modify.ensures in
+    subst (λ s. OnOk c.mark-in-Modify.result (IsWritten old c.mark-in-Modify.new.self (lowered (plain_scope c.args.scope) (length c.args.self.now.code.draft)
     c.args.self.now.code.free s))) (sym seen)
-    (marked old mid c.mark-in-Swap.new.self (swapped (plain_scope c.args.scope) (length c.args.self.now.code.draft) c.args.self.now.code.free c.in-Swap.local
-    c.in-Swap.global c.in-Swap.value) c.in-Swap.local.place.line c.mark-in-Swap.result c.requires.even refl added
-    c.mark-in-Swap.ensures.code c.mark-in-Swap.ensures.lines)
-
-pub write-returns-in_ok-cas-in-Cas : goal.write-returns-in_ok-cas-in-Cas
-write-returns-in_ok-cas-in-Cas t c =
-    let old = c.args.self.now in
-    let mid : Body = record { code = c.cas.new.self; lines = old.lines } in
-    let seen = ap statement_of c.in-Cas.is ∙ cas_seen c.in-Cas.local c.in-Cas.global c.in-Cas.expected c.in-Cas.value in
-    let added : IsAdded old.code mid.code (compared (plain_scope c.args.scope) (length c.args.self.now.code.draft) c.args.self.now.code.free c.in-Cas.local
-    c.in-Cas.global c.in-Cas.expected c.in-Cas.value) = c.in_ok-cas-in-Cas.ensures in
-    subst (λ s. OnOk c.mark-in-Cas.result (IsWritten old c.mark-in-Cas.new.self (lowered (plain_scope c.args.scope) (length c.args.self.now.code.draft)
-    c.args.self.now.code.free s))) (sym seen)
-    (marked old mid c.mark-in-Cas.new.self (compared (plain_scope c.args.scope) (length c.args.self.now.code.draft) c.args.self.now.code.free c.in-Cas.local
-    c.in-Cas.global c.in-Cas.expected c.in-Cas.value) c.in-Cas.local.place.line c.mark-in-Cas.result c.requires.even refl
-    added c.mark-in-Cas.ensures.code c.mark-in-Cas.ensures.lines)
+    (marked old mid c.mark-in-Modify.new.self (modified (plain_scope c.args.scope) (length c.args.self.now.code.draft) c.args.self.now.code.free
+    c.in-Modify.local c.in-Modify.target c.in-Modify.index c.in-Modify.update) c.in-Modify.local.place.line c.mark-in-Modify.result c.requires.even refl
+    added c.mark-in-Modify.ensures.code c.mark-in-Modify.ensures.lines)
 
 pub write-returns-in_ok-assert-in-Assert : goal.write-returns-in_ok-assert-in-Assert
 write-returns-in_ok-assert-in-Assert t c =

@@ -1,15 +1,15 @@
 use Rattle.std.proofs.Common.{arith, ap, sym, ◌∙◌, subst, rules, FitsSigned, w32}
 use Rattle.std.proofs.lemmas.Int.{to_z-of_z}
 use Rattle.bit_words.specs.Words.{AreWithin}
-use Rattle.bit_terms.specs.Terms.{constant_word, node_word}
+use Rattle.bit_terms.specs.Terms.{constant_word, own_word}
 use Rattle.bit_terms.proofs.Loops.{constant_within, at_within}
-use Rattle.bit_terms.proofs.node_word.Goals as goal
+use Rattle.bit_terms.proofs.own_word.Goals as goal
 
 pub returns-in-Constant-clause-word : goal.returns-in-Constant-clause-word
 returns-in-Constant-clause-word c =
     let fits : FitsSigned w32 c.in-Constant.value = search rules in
     c.constant_word.ensures ∙ ap constant_word (to_z-of_z w32 c.in-Constant.value fits)
-    ∙ ap (λ node. (node_word c.args.symbols.now c.args.known.now c.args.circuit.now node).word) (sym c.in-Constant.is)
+    ∙ ap (λ node. (own_word c.args.symbols.now c.args.known.now c.args.circuit.now node).word) (sym c.in-Constant.is)
 
 pub returns-in-Constant-clause-within : goal.returns-in-Constant-clause-within
 returns-in-Constant-clause-within c =
