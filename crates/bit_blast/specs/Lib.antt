@@ -8,10 +8,12 @@ pub use Rattle.sym_terms.specs as sym_terms
 pub mod Blasted
 pub mod Cases
 pub mod Contended
+pub mod Drafts
 pub mod Laws
 pub mod Layered
 pub mod Reads
 pub mod Roots
+pub mod Says
 pub mod Sizes
 pub mod Whole
 pub mod helpers

@@ -31,7 +31,8 @@ pub fn formulas_are_small()
         → HasSmall buffered bound code (paths_of code log) (executed code (paths_of code log) []).symbolic nodes }
 {}
 
-/// There is room for the clauses of such a log, and for levels of 255 switches.
+/// There is room for the clauses of such a log, for the states of its mutexes and for levels of 255
+/// switches.
 pub fn clauses_have_room()
     ensures { (buffered : Bool) (bound : Binding) (code : Code) (log : Log) → IsWithin code log
         → ClausesHaveRoom (system_of buffered bound code log) }

@@ -21,7 +21,7 @@ pub(crate) fn is_earlier(access: &Placed<Access>, other: &Placed<Access>) -> boo
 }
 
 /// The accesses of all threads, in order.
-pub(crate) fn all_accesses(
+pub fn all_accesses(
     alloc: Global,
     symbolic: &Symbolic,
 ) -> Result<Vec<Placed<Access>>, AllocError>

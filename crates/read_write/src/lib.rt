@@ -5,4 +5,5 @@ mod accesses;
 pub mod laws;
 mod reads;
 
+pub use accesses::all_accesses;
 pub use reads::read_constraints;

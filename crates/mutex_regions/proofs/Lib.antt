@@ -1,0 +1,10 @@
+pub mod Lists
+pub mod Masks
+pub mod Values
+pub mod Rises
+pub mod Distinct
+pub mod Setting
+pub mod Spots
+pub mod Acts
+pub mod Ends
+pub mod Choices
