@@ -76,7 +76,7 @@ pub fn function_of(
 }
 
 /// Whether a region's access is to one of the variables.
-fn is_used(variables: &[Variable], region: &Placed<Region>, access: &Placed<Access>) -> bool
+pub fn is_used(variables: &[Variable], region: &Placed<Region>, access: &Placed<Access>) -> bool
     ensures { result ≡ spec.is_used variables.now region.now access.now }
 {
     lies_in(region, access) && Variable::of(access.it.cell).is_among(variables)

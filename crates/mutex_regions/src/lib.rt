@@ -10,6 +10,6 @@ mod regions;
 mod variables;
 
 pub use exprs::term_over;
-pub use functions::{Doing, Holding, Loaded, function_of};
+pub use functions::{Doing, Holding, Loaded, function_of, is_used};
 pub use regions::{lies_in, regions_of};
 pub use variables::{Spot, Variable, is_inside, spots_of, variables_of};

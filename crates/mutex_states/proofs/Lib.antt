@@ -22,3 +22,4 @@ pub mod StepsReady
 pub mod LastLoads
 pub mod OneMutex
 pub mod Keeping
+mod Listing

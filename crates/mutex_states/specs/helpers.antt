@@ -1,2 +1,3 @@
 -- No promise refers to the definitions of this folder.
 pub mod Held
+pub mod Listed

@@ -2,7 +2,9 @@
 //! a log. They rest on no rule: in every world they hold for some values of their new variables.
 #![tactic(auto)]
 
+mod in_order;
 pub mod laws;
 mod ranks;
 
+pub use in_order::Told;
 pub use ranks::{Begins, Ranks, add_ranks};
