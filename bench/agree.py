@@ -3,9 +3,12 @@
 
   agree.py FIRST COUNT [FOLDER]              of so many numbers from FIRST on; what differs is kept in FOLDER
   agree.py FIRST COUNT [FOLDER] --least      the fewest context switches too, where there is a schedule
+  agree.py FIRST COUNT [FOLDER] --counts     of programs that count in critical sections
 
 Of every other number the program is of plain loads and stores, and the log says that they came out in some way. Of the rest the
-log is that of a run which failed or came to a deadlock, and half of the programs then get other constants. Each schedule is replayed, and each refutation checked.
+log is that of a run which failed or came to a deadlock, and half of the programs then get other constants. With `--counts`, each
+program's threads change what a mutex guards, and the log is that of a failure or a deadlock, or says of a run that went well that
+its last assertion failed. Each schedule is replayed, and each refutation checked.
 """
 import os
 import random
@@ -96,6 +99,64 @@ def litmus(chance):
     return f"{text}\nassert({sums} != {sum(value * 4 ** k for k, value in enumerate(values))});\n}}\n"
 
 
+SECTIONS = [
+    "lock(m); x = x + {k}; unlock(m);",
+    "lock(m); x = x + {k}; y = y + x; unlock(m);",
+    "lock(m); q = x; y = q - {k}; unlock(m);",
+    "lock(m); q = x; unlock(m); lock(m); x = q + 1; unlock(m);",
+    "lock(m); a[x & 1] = a[x & 1] + {k}; x = x + 1; unlock(m);",
+    "lock(m); a[{b}] = a[{b}] + 1; b[{k}] = x; unlock(m);",
+    "lock(m); while (x < {k}) {{ wait(c, m); }} x = x - {k}; unlock(m);",
+    "lock(m); x = x + 1; wait(c, m); y = y + x; unlock(m);",
+    "lock(m); x = x + {k}; broadcast(c); unlock(m);",
+    "lock(m); x = x + 1; unlock(m); signal(c);",
+    "lock(m); if (x < {k}) {{ x = x + 2; }} else {{ y = y + 1; }} unlock(m);",
+    "lock(m); q = cas(x, {k}, {k} + 1); y = y + q; unlock(m);",
+    "lock(m); q = add(x, {k}); unlock(m);",
+    "lock(n); z = z + 1; lock(m); x = x + z; unlock(m); unlock(n);",
+    "lock(n); z = z + {k}; unlock(n);",
+    "q = z; lock(m); x = x + q; unlock(m);",
+    "q = x; lock(m); y = q; unlock(m);",
+]
+# what happens outside of every section, or doesn't end
+OUTSIDE = ["y = {k};", "x = x + 1;", "lock(m); x = x + {k};", "a[{b}] = {k};", "z = z | 1;"]
+
+
+def sections(chance):
+    """Two or three threads, each of one to three critical sections over what two mutexes guard; main then claims a sum."""
+    lines = ["int x;", "int y;", "int z;", "int a[2];", "int b[9];", "mutex m;", "mutex n;", "cond c;"]
+    bodies = []
+    for _ in range(chance.choice([2, 2, 3])):
+        body = [chance.choice(SECTIONS) for _ in range(chance.choice([1, 1, 2, 2, 3]))]
+        if chance.random() < 0.15:
+            body.insert(chance.randrange(len(body) + 1), chance.choice(OUTSIDE))
+        bodies.append(" ".join(it.format(k=chance.randrange(1, 4), b=chance.randrange(2)) for it in body))
+    if chance.random() < 0.5:
+        bodies[1] = bodies[0]
+    lines += [f"thread f{k}() {{ int q; {body} }}" for k, body in enumerate(bodies)]
+    lines += ["main { int q;", *[f"tid t{k};" for k in range(len(bodies))], *[f"t{k} = create f{k}();" for k in range(len(bodies))]]
+    lines += [f"join(t{k});" for k in range(len(bodies)) if chance.random() < 0.9]
+    if chance.random() < 0.3:
+        lines.append("lock(m); q = x; unlock(m);")
+    return "\n".join(lines + [f"assert({chance.choice(['x', 'x + y', 'y', 'x + a[0]', 'a[0] + a[1]', 'z + x'])} != {chance.randrange(8)});", "}"]) + "\n"
+
+
+def counted(chance):
+    """Such a program, and a log of it; the log may be of no run."""
+    text = sections(chance)
+    if chance.random() < 0.4:
+        return text, failed(text, chance)
+    model = chance.choice(machine.MODELS)
+    end, state, _ = machine.run(machine.Code(text), model, chance.randrange(1 << 30), 4000)
+    log = machine.log_of(model, state)
+    if end == "deadlock":
+        return text, log
+    if end != "finished":
+        return text, None
+    log.threads[()] = (log.threads[()][0] - 1, log.threads[()][1])
+    return text, machine.Log(model, (), log.threads)
+
+
 def late(code, chance):
     """The end of a run in which stores mostly reach memory late."""
     state = machine.State(code, chance.choice(["tso", "pso"]))
@@ -164,14 +225,16 @@ def differs_in_switches(folder, text, log, model):
 
 
 def main():
-    has_switches = "--least" in sys.argv
-    first, count, *kept = (it for it in sys.argv[1:] if it != "--least")
+    has_switches, counts = "--least" in sys.argv, "--counts" in sys.argv
+    first, count, *kept = (it for it in sys.argv[1:] if not it.startswith("--"))
     tried = {0: 0, 1: 0}
     wrong = 0
     with tempfile.TemporaryDirectory() as folder:
         for number in range(int(first), int(first) + int(count)):
             chance = random.Random(number)
-            if number % 2:
+            if counts:
+                text, log = counted(chance)
+            elif number % 2:
                 text = litmus(chance)
                 log = claimed(text)
             else:

@@ -6,6 +6,7 @@ pub use Rattle.order_formula.proofs as order_formula
 pub mod CaseLaws
 pub mod Clauses
 pub mod Completed
+pub mod Drafted
 pub mod Lists
 pub mod Loops
 pub mod Posed
@@ -13,6 +14,7 @@ pub mod Prefixes
 pub mod RootLaws
 pub mod Rooted
 pub mod Same
+pub mod Saying
 pub mod Sources
 pub mod Taken
 pub mod Taking

@@ -1,6 +1,6 @@
 -- A formula over the events of an order that asks about each contended event and every other event
 -- has all answers that its clauses need.
-use Rattle.std.proofs.Common.{◌≡◌, ℕ, ◌<◌, Bool, true, false, List, [], ◌∷◌, ◌++◌, inl, inr, refl, sym, ◌∙◌, subst, arith, map}
+use Rattle.std.proofs.Common.{◌≡◌, ℕ, ◌<◌, Bool, true, false, List, [], ◌∷◌, ◌++◌, inl, inr, refl, ap, sym, ◌∙◌, subst, arith, length, map}
 use Rattle.std.specs.Prelude.{fold, if◌then◌else◌, nat_eq}
 use Rattle.std.specs.List.{All, Contains, list_any}
 use Rattle.std.proofs.lemmas.Bool.{eqb-true}
@@ -25,15 +25,18 @@ use Rattle.bit_order.specs.Laws.{IsWorldFor, SaysSame}
 use Rattle.bit_order.specs.Layouts.{Layout}
 use Rattle.bit_order.specs.Readings.{world_of}
 use Rattle.bit_order.proofs.Asking.{completed-asked, grows-completed}
-use Rattle.bit_blast.specs.Blasted.{BlastMeans, IsApart, IsPosed, RootsTell, blast, layout_of}
+use Rattle.bit_blast.specs.Blasted.{BlastMeans, Blasted, IsApart, IsPosed, RootsTell, blast, layout_of}
 use Rattle.bit_blast.specs.Contended.{contended, is_literal, with_atom, with_body, with_candidate, with_case, with_event}
+use Rattle.bit_blast.specs.Drafts.{Draft, DraftMeans, KeepsWorlds, MeansWorlds, asserted, drafted}
 use Rattle.bit_blast.specs.Laws.{BodyIsTold}
+use Rattle.bit_blast.specs.Says.{DraftTells}
 use Rattle.bit_blast.specs.Whole.{IsReady, clauses_with_roots}
 use Rattle.bit_blast.proofs.Completed.{completed_choices, completed_events, completed_sleeps}
 use Rattle.bit_blast.proofs.Lists.{all_of, contains_cases, contains_none}
 use Rattle.bit_blast.proofs.Prefixes.{first_part}
-use Rattle.bit_blast.proofs.Rooted.{roots_over}
-use Rattle.bit_blast.proofs.WholeLaws.{first_true, whole_means}
+use Rattle.bit_blast.proofs.Rooted.{draft_means, kept, roots_tell}
+use Rattle.bit_blast.proofs.Saying.{draft_tells}
+use Rattle.bit_blast.proofs.WholeLaws.{all_roots, first_true, whole_means}
 
 -- adding an element keeps the events
 abbrev Keeps : {X : Type 0} → (List ℕ → X → List ℕ) → Type 0
@@ -199,12 +202,32 @@ module _ (nodes : List Node) (formula : List Conjunct) (o : Order) (loads : ℕ)
         (m.0, m.1.all, same_as w (world_of y m.0) m.2);
   }
 
+  posed_tells : (b : Blasted) → RootsTell nodes formula y b → RootsTell nodes formula posed b
+  posed_tells b r = record {
+    unit = r.unit;
+    to = λ v s. let m = r.to v s in (from_completed (world_of b.layout v) m.0, m.1);
+    back = λ w is. let m = r.back w (to_completed w is) in (m.0, m.1, same_as w (world_of b.layout m.0) m.2, m.3);
+    core = λ numbers inside none w is. r.core numbers inside none w (to_completed w is);
+  }
+
+  posed_means : (b : Blasted) → MeansWorlds nodes formula y b → MeansWorlds nodes formula posed b
+  posed_means b r = record {
+    to = λ v s. let m = r.to v s in (from_completed (world_of b.layout v) m.0, m.1);
+    back = λ w is holds. let m = r.back w (to_completed w is) holds in (m.0, m.1, same_as w (world_of b.layout m.0) m.2);
+  }
+
   pub roots-tell : RootsTell nodes formula posed (blast nodes formula o loads)
   roots-tell =
-      let r : RootsTell nodes formula y (blast nodes formula o loads) = roots_over y nodes formula ready in
+      let d : Draft = drafted nodes formula y in
+      posed_tells (blast nodes formula o loads) (roots_tell y nodes formula ready d (kept nodes formula d) (length formula) refl)
+
+  pub drafts-mean : (e : Draft) → KeepsWorlds nodes formula (drafted nodes formula y) e → DraftMeans nodes formula posed e
+  drafts-mean e keeps =
+      let many : length e.roots ≡ length formula = ap length keeps.roots ∙ (all_roots y nodes formula ready).count in
       record {
-        unit = r.unit;
-        to = λ v s. let m = r.to v s in (from_completed (world_of y v) m.0, m.1);
-        back = λ w is. let m = r.back w (to_completed w is) in (m.0, m.1, same_as w (world_of y m.0) m.2, m.3);
-        core = λ numbers inside none w is. r.core numbers inside none w (to_completed w is);
+        means = posed_means (asserted e) (draft_means y nodes formula ready e keeps (length e.roots) many);
+        tells = posed_tells (asserted e) (roots_tell y nodes formula ready e keeps (length e.roots) many);
       }
+
+  pub drafts-tell : DraftTells nodes formula (drafted nodes formula y)
+  drafts-tell = draft_tells y nodes formula ready

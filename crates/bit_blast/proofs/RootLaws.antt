@@ -48,14 +48,14 @@ implied_all (a ∷ ps) (b ∷ qs) e h t =
     let parts = and_parts a (list_all (λ b. b) ps) t in
     and_from _ _ (h zero parts.0) (implied_all ps qs (omega (arith, e)) (λ k x. h (suc k) x) parts.1)
 
-values_agree : (n : ℕ) (v w : Valuation) (ls : List ℤ) → Agree n v w → All (IsOf n) ls → values v ls ≡ values w ls
+pub values_agree : (n : ℕ) (v w : Valuation) (ls : List ℤ) → Agree n v w → All (IsOf n) ls → values v ls ≡ values w ls
 values_agree n v w [] h a = refl
 values_agree n v w (l ∷ ls) h a =
     ap (λ b. b ∷ values v ls) (literal_true-agree n v w l h (All-head (IsOf n) l ls a).1)
     ∙ ap (λ bs. literal_true w l ∷ bs) (values_agree n v w ls h (All-tail (IsOf n) l ls a))
 
 -- a clause for each literal
-units_true : (w : Valuation) (ls : List ℤ) → satisfies w (map (λ l. l ∷ []) ls) ≡ list_all (λ b. b) (values w ls)
+pub units_true : (w : Valuation) (ls : List ℤ) → satisfies w (map (λ l. l ∷ []) ls) ≡ list_all (λ b. b) (values w ls)
 units_true w [] = refl
 units_true w (l ∷ ls) =
     ap (λ b. (literal_true w l || false) && b) (units_true w ls)

@@ -37,13 +37,13 @@ use Rattle.bit_blast.proofs.Taking.{AreApart, are_met, meets, read_true, met}
 use Rattle.bit_blast.proofs.Variables.{with_values, agree_with, value_with}
 
 -- clauses over the first variables, among more
-within_wider : (n m : ℕ) (cs : List (List ℤ)) → n ≤ m → list_all (is_within n) cs ≡ true → list_all (is_within m) cs ≡ true
+pub within_wider : (n m : ℕ) (cs : List (List ℤ)) → n ≤ m → list_all (is_within n) cs ≡ true → list_all (is_within m) cs ≡ true
 within_wider n m [] h a = refl
 within_wider n m (c ∷ cs) h a =
     let parts = and_parts (is_within n c) (list_all (is_within n) cs) a in
     and_from _ _ (is_within-upto n m c h parts.0) (within_wider n m cs h parts.1)
 
-of_wider : (n m : ℕ) (xs : List ℤ) → n ≤ m → All (IsOf n) xs → All (IsOf m) xs
+pub of_wider : (n m : ℕ) (xs : List ℤ) → n ≤ m → All (IsOf n) xs → All (IsOf m) xs
 of_wider n m xs h a = All-weaker (IsOf n) (IsOf m) (λ l o. (o.0, omega (arith, o.1, h))) xs a
 
 module _ (o : Order) (nodes : List Node) (world : Valuation → World) (parts : Parts) (f : Formula) (r : Read) (t : Tells o nodes world parts f) (h : ReadIsAsked o r) where

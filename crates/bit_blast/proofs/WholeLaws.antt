@@ -35,7 +35,7 @@ use Rattle.bit_blast.proofs.Prefixes.{first_part, before_grown}
 use Rattle.bit_blast.proofs.RootLaws.{are_roots, before_all, to, back}
 use Rattle.bit_blast.proofs.Same.{holds_same}
 
-map_twice : {X Y Z : Type 0} (f : X → Y) (g : Y → Z) (xs : List X) → map g (map f xs) ≡ map (λ x. g (f x)) xs
+pub map_twice : {X Y Z : Type 0} (f : X → Y) (g : Y → Z) (xs : List X) → map g (map f xs) ≡ map (λ x. g (f x)) xs
 map_twice f g [] = refl
 map_twice f g (x ∷ xs) = ap (λ ys. g (f x) ∷ ys) (map_twice f g xs)
 
@@ -50,21 +50,21 @@ or_none true h = refl
 or_none false h = absurd (false≢true h)
 
 module _ (y : Layout) (nodes : List Node) (formula : List Conjunct) (h : IsReady y nodes formula) where
-  literals : LiteralsMean y
+  pub literals : LiteralsMean y
   literals = literals-mean y h.order
 
-  order : IsExtended (base y) (ordered y)
+  pub order : IsExtended (base y) (ordered y)
   order = ordered-extended y h.order
 
   some : 0 < (ordered y).vars
   some = let a : 0 < (base y).vars = base_some y in omega (arith, a, order.more)
 
-  loads : All (IsOperand (ordered y)) (load_words y)
+  pub loads : All (IsOperand (ordered y)) (load_words y)
   loads = All-map (IsOperand (ordered y)) (load_word y) (range_with_len 0 y.loads)
       (all_range (λ k. IsOperand (ordered y) (load_word y k)) 0 y.loads
       (λ k below. record { literals = literals.load_there k (omega (arith, below)); width = literals.load_wide k }))
 
-  terms : HaveInts nodes (load_words y) (ordered y) (clauses_with_terms y nodes)
+  pub terms : HaveInts nodes (load_words y) (ordered y) (clauses_with_terms y nodes)
   terms = terms-mean nodes (load_words y) (ordered y) some h.ints loads
 
   abbrev g : Formula
@@ -73,7 +73,7 @@ module _ (y : Layout) (nodes : List Node) (formula : List Conjunct) (h : IsReady
   abbrev parts : Parts
   parts = parts_of y (clauses_with_terms y nodes).words
 
-  grown : IsExtended (ordered y) g
+  pub grown : IsExtended (ordered y) g
   grown = gates-extend (ordered y) g some terms.grown
 
   literal_stays : (l : ℤ) → IsOf (ordered y).vars l → IsOf g.vars l
@@ -82,7 +82,7 @@ module _ (y : Layout) (nodes : List Node) (formula : List Conjunct) (h : IsReady
   values_are : (v : Valuation) → (term : ℕ) → value_of nodes (map (int_value v) (load_words y)) term ≡ value_at nodes (world_of y v) term
   values_are v term = ap (λ ls. value_of nodes ls term) (map_twice (load_word y) (int_value v) (range_with_len 0 y.loads))
 
-  tells : Tells y.order nodes (world_of y) parts g
+  pub tells : Tells y.order nodes (world_of y) parts g
   tells = record {
     one = omega (arith, some, grown.more);
     worlds = λ v. let w = values-say-worlds y v h.events in w.world;
@@ -112,7 +112,7 @@ module _ (y : Layout) (nodes : List Node) (formula : List Conjunct) (h : IsReady
       let u = grown.extends v.0 (order.over (base-over y)) v.1 in
       (u.0, u.1, subst (SaysSame y w) (same-world y v.0 u.0 (λ k below. u.2 k (omega (arith, below, order.more)))) v.2)
 
-  still : (v u : Valuation) → Agree g.vars v u → world_of y v ≡ world_of y u
+  pub still : (v u : Valuation) → Agree g.vars v u → world_of y v ≡ world_of y u
   still v u agree = same-world y v u (λ k below. agree k (omega (arith, below, order.more, grown.more)))
 
   pub all_roots : AreRoots nodes (world_of y) (clauses_with_terms y nodes).formula (clauses_with_roots y nodes formula) formula

@@ -16,6 +16,7 @@ use Rattle.bit_order.specs.Layouts.{Layout, base, ends_literal, load_word}
 use Rattle.bit_order.proofs.Meaning.{literals-mean}
 use Rattle.bit_order.proofs.Three.{ordered-extended}
 use Rattle.bit_terms.specs.Terms.{Words, node_word, term_words, with_word}
+use Rattle.bit_blast.specs.Drafts.{Draft, DraftIsWithin}
 use Rattle.bit_blast.specs.Layered.{parts_of}
 use Rattle.bit_blast.specs.Whole.{load_words}
 use Rattle.bit_blast.specs.helpers.Within.{ArePartsWithin}
@@ -56,3 +57,20 @@ module _ (y : Layout) (lawful : IsOrder y.order) where
     ends = λ sleep by. let o : IsOf (ordered y).vars (ends_literal y sleep by) = literals.ends_there sleep by in omega (arith, o.1, more);
     words = all;
   }
+
+pub draft_within : (d : Draft) → IsOrder d.layout.order → d.layout.order.events ≤ 256 → (ordered d.layout).vars ≤ d.clauses.vars
+    → All (AreWithin d.clauses.vars) d.words → AreWithin d.clauses.vars d.roots → DraftIsWithin d
+draft_within d lawful events more words roots =
+    let y : Layout = d.layout in
+    let n : ℕ = d.clauses.vars in
+    let parts = parts_within y lawful n d.words more words in
+    record {
+      events = events;
+      variables = omega (arith, base_within y lawful, more);
+      before = parts.before;
+      loads = All-weaker (AreWithin (ordered y).vars) (AreWithin n)
+          (λ ls k. All-weaker (λ l. var_of l ≤ (ordered y).vars) (λ l. var_of l ≤ n) (λ l below. omega (arith, below, more)) ls k)
+          (load_words y) (loads_within y lawful);
+      words = words;
+      roots = roots;
+    }

@@ -1,3 +1,4 @@
+pub use Rattle.cnf_core.specs as cnf_core
 pub use Rattle.bit_gates.specs as bit_gates
 pub use Rattle.bit_ops.specs as bit_ops
 pub use Rattle.bit_order.specs as bit_order
@@ -8,10 +9,12 @@ pub use Rattle.sym_terms.specs as sym_terms
 pub mod Blasted
 pub mod Cases
 pub mod Contended
+pub mod Drafts
 pub mod Laws
 pub mod Layered
 pub mod Reads
 pub mod Roots
+pub mod Says
 pub mod Sizes
 pub mod Whole
 pub mod helpers

@@ -40,7 +40,11 @@ bodies_size formula = sum_by (λ c. body_size c.body) formula
 abbrev pub size_of : List Conjunct → ℕ
 size_of formula = sum_by (λ c. body_size c.body + 1) formula
 
--- the sum for an order, terms and a formula; completing the order doesn't change it
+-- the sum for an order, terms and the literals of a formula; completing the order doesn't change it
+abbrev pub draft_size : Layout → List Node → List Conjunct → ℕ
+draft_size y nodes formula = order.size_of y + terms_size nodes + bodies_size formula
+
+-- the same, with the clause of each root
 abbrev pub whole_size : Layout → List Node → List Conjunct → ℕ
 whole_size y nodes formula = order.size_of y + terms_size nodes + size_of formula
 

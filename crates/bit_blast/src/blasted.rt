@@ -1,20 +1,19 @@
 //! A formula as clauses, and what answers about them mean.
-ghost use Rattle.std.specs.Prelude.{◌≡◌, ◌<◌, ◌≤◌, length, IfOk};
+ghost use Rattle.std.specs.Prelude.{◌≡◌, ◌<◌, ◌≤◌, ◌+◌, length, IfOk};
 ghost use Rattle.std.specs.List.{All};
 ghost use Rattle.cnf_core.specs.Clauses.{value_in};
 ghost use Rattle.cnf_core.specs.declared.cnf.TheConstants.{LIMIT};
 ghost use Rattle.order_formula.specs.Formulas.{IsOf};
 ghost use Rattle.order_formula.specs.Orders.{ConjunctIsIn, IsOrder};
-ghost use Rattle.bit_order.specs.Comparators.{completed};
 ghost use Rattle.bit_order.specs.Layouts.{base};
 ghost use Rattle.bit_order.specs.Readings.{world_of};
-ghost use Rattle.bit_blast.specs.Blasted.{blast, blast_over, impossible, root_of};
-ghost use Rattle.bit_blast.specs.Contended.{contended};
+ghost use Rattle.bit_blast.specs.Blasted.{blast, impossible, root_of};
+ghost use Rattle.bit_blast.specs.Drafts.{DraftIsWithin, asserted};
 ghost use Rattle.bit_blast.specs.Sizes.{IsUpTo, whole_size};
 
-use crate::contended::contended;
-use crate::whole::clauses;
-use bit_order::{Layout, complete};
+use crate::drafts::Draft;
+use crate::roots::add_units;
+use bit_order::Layout;
 use cnf_core::{Assignment, Cnf};
 use order_formula::{Formula, Order, World};
 use std::alloc::{AllocError, Global};
@@ -63,47 +62,24 @@ pub fn blast(
     ensures variables { IfOk result (λ blasted. 0 < blasted.clauses.vars) }
     ensures size { IfOk result (λ blasted. IsUpTo (whole_size (record { order = order; loads = loads }) terms.now formula.now) blasted.clauses) }
 {
-    let order = complete_order(alloc, order, formula)?;
-    blast_completed(alloc, terms, formula, order, loads)
+    Draft::new(alloc, terms, formula, order, loads)?.asserted()
 }
 
-/// The clauses over an order that asks about the contended events too.
-fn blast_completed(
-    alloc: Global,
-    terms: &Terms,
-    formula: &Formula,
-    order: Order,
-    loads: u32,
-) -> Result<Blasted, AllocError>
-    requires terms { IsOf (length terms.now) formula.now }
-    requires events { order.events ≤ 256 }
-    requires room { whole_size (record { order = order; loads = loads }) terms.now formula.now < LIMIT }
-    ensures blasted { IfOk result (λ blasted. blasted ≡ blast_over terms.now formula.now (record { order = order; loads = loads })) }
-    ensures lawful { IfOk result (λ blasted. IsOrder blasted.layout.order) }
-    ensures variables { IfOk result (λ blasted. 0 < blasted.clauses.vars) }
-    ensures size { IfOk result (λ blasted. IsUpTo (whole_size (record { order = order; loads = loads }) terms.now formula.now) blasted.clauses) }
-{
-    let (layout, clauses) = clauses(alloc, order, loads, terms, formula)?;
-    Ok(Blasted {
-        layout,
-        clauses,
-        conjuncts: formula.conjuncts().len(),
-    })
-}
-
-/// The order, with all pairs of contended events added.
-#[tactic(auto, using(crate::proofs::Completed::completed_events, crate::proofs::Completed::completed_sleeps))]
-fn complete_order(alloc: Global, order: Order, formula: &Formula) -> Result<Order, AllocError>
-    requires events { order.events ≤ 256 }
-    requires within { All (ConjunctIsIn order) formula.now }
-    ensures completed { IfOk result (λ made. made ≡ completed order (contended formula.now)) }
-    ensures events { IfOk result (λ made. made.events ≡ order.events) }
-    ensures sleeps { IfOk result (λ made. made.sleeps ≡ order.sleeps) }
-{
-    let mut order = order;
-    let events = contended(alloc, formula)?;
-    complete(&mut order, events.as_slice())?;
-    Ok(order)
+impl Draft {
+    /// Asserts the conjuncts: the last clauses, in order.
+    pub fn asserted(self) -> Result<Blasted, AllocError>
+        requires within { DraftIsWithin self }
+        requires room { length self.clauses.clauses + length self.roots < LIMIT }
+        ensures { IfOk result (λ blasted. blasted ≡ asserted self) }
+    {
+        let mut circuit = self.circuit;
+        add_units(&mut circuit, self.roots.as_slice())?;
+        Ok(Blasted {
+            layout: self.layout,
+            clauses: circuit.into_clauses(),
+            conjuncts: self.roots.len(),
+        })
+    }
 }
 
 impl Blasted {

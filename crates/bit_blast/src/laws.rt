@@ -6,7 +6,9 @@ ghost use Rattle.order_formula.specs.Orders.{IsOrder, Order};
 ghost use Rattle.cnf_core.specs.Clauses.{IsUnsatisfiable};
 ghost use Rattle.bit_order.specs.Layouts.{Layout};
 ghost use Rattle.bit_blast.specs.Blasted.{BlastMeans, IsPosed, RootsTell, blast, impossible, layout_of};
+ghost use Rattle.bit_blast.specs.Drafts.{Draft, DraftMeans, KeepsWorlds, drafted};
 ghost use Rattle.bit_blast.specs.Laws.{CasesMean, ReadsMean, RootsMean};
+ghost use Rattle.bit_blast.specs.Says.{DraftTells};
 ghost use Rattle.bit_blast.specs.Whole.{IsReady, WholeMeans};
 
 /// In every model, the literal of a conjunct with cases is true exactly if the conjunct is.
@@ -43,6 +45,21 @@ pub fn roots_tell()
     ensures { (nodes : List Node) (formula : List Conjunct) (order : Order) (loads : ℕ) → IsPosed nodes formula order
         → IsOrder (layout_of order loads formula).order
         → RootsTell nodes formula (record { order = order; loads = loads }) (blast nodes formula order loads) }
+{}
+
+/// The same for a draft to which clauses were added that hold in every world, once it is asserted.
+pub fn drafts_mean()
+    ensures { (nodes : List Node) (formula : List Conjunct) (order : Order) (loads : ℕ) (draft : Draft) → IsPosed nodes formula order
+        → IsOrder (layout_of order loads formula).order
+        → KeepsWorlds nodes formula (drafted nodes formula (layout_of order loads formula)) draft
+        → DraftMeans nodes formula (record { order = order; loads = loads }) draft }
+{}
+
+/// In each model of a draft's clauses whose roots tell which conjuncts hold, the literals and words of
+/// the draft agree with the model's world.
+pub fn drafts_tell()
+    ensures { (nodes : List Node) (formula : List Conjunct) (order : Order) (loads : ℕ) → IsPosed nodes formula order
+        → IsOrder (layout_of order loads formula).order → DraftTells nodes formula (drafted nodes formula (layout_of order loads formula)) }
 {}
 
 /// The clauses of an impossible formula are unsatisfiable.

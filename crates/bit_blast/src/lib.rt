@@ -5,11 +5,13 @@
 mod blasted;
 mod cases;
 mod contended;
+mod drafts;
 mod first_values;
 pub mod laws;
 mod reads;
 mod roots;
-mod whole;
 
 pub use blasted::{Blasted, blast};
+pub use drafts::{Draft, load_words};
 pub use first_values::extend_values;
+pub use reads::add_value;

@@ -196,8 +196,9 @@ fn add_none(
     Ok(())
 }
 
-/// Adds clauses: if the conjunct is true and the load takes a value, its word equals that.
-fn add_value(
+/// Adds clauses: if a conjunct is true and a load takes a value, its word equals that. More
+/// generally, two words are equal if two literals are true.
+pub fn add_value(
     alloc: Global,
     circuit: &mut Circuit,
     holds: Lit,

@@ -6,8 +6,8 @@ ghost use Rattle.bit_gates.specs.Folded.{HasRoom, IsLarger};
 ghost use Rattle.bit_ops.specs.bit_words.Words.{AreWithin};
 ghost use Rattle.order_formula.specs.Formulas.{BodyIsOf, IsOf};
 ghost use Rattle.bit_blast.specs.Layered.{parts_of};
-ghost use Rattle.bit_blast.specs.Roots.{body_made, roots, with_root_clauses};
-ghost use Rattle.bit_blast.specs.Sizes.{body_size, bodies_size, size_of};
+ghost use Rattle.bit_blast.specs.Roots.{body_made, roots};
+ghost use Rattle.bit_blast.specs.Sizes.{body_size, bodies_size};
 ghost use Rattle.bit_blast.specs.helpers.Within.{ArePartsWithin};
 
 use crate::cases::some_case;
@@ -19,29 +19,8 @@ use cnf_core::Lit;
 use order_formula::{Body, Formula};
 use std::alloc::{AllocError, Global};
 
-/// The clauses of a formula, over those of its order and its terms. The last ones assert the
-/// literal of each conjunct, in order.
-pub(crate) fn add_formula(
-    alloc: Global,
-    circuit: &mut Circuit,
-    layout: &Layout,
-    words: &[Word],
-    formula: &Formula,
-) -> Result<(), AllocError>
-    requires parts { ArePartsWithin circuit.old.vars (parts_of layout.now words.now) }
-    requires terms { IsOf (length words.now) formula.now }
-    requires room { HasRoom (size_of formula.now) circuit.old }
-    ensures formula { OnOk result (circuit.new ≡ with_root_clauses (parts_of layout.now words.now) circuit.old formula.now) }
-    ensures roots { OnOk result (length formula.now ≤ length circuit.new.clauses) }
-    ensures larger { OnOk result (IsLarger (size_of formula.now) circuit.old circuit.new) }
-{
-    let roots = roots(alloc, circuit, layout, words, formula)?;
-    add_units(circuit, roots.as_slice())?;
-    Ok(())
-}
-
 /// The literals of all conjuncts, in order.
-fn roots(
+pub(crate) fn roots(
     alloc: Global,
     circuit: &mut Circuit,
     layout: &Layout,
@@ -87,7 +66,7 @@ fn body_literal(
 }
 
 /// Adds a clause for each literal that asserts it.
-fn add_units(circuit: &mut Circuit, literals: &[Lit]) -> Result<(), AllocError>
+pub(crate) fn add_units(circuit: &mut Circuit, literals: &[Lit]) -> Result<(), AllocError>
     requires literals { AreWithin circuit.old.vars literals.now }
     requires room { length circuit.old.clauses + length literals.now < LIMIT }
     ensures vars { OnOk result (circuit.new.vars ≡ circuit.old.vars) }

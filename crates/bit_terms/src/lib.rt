@@ -164,20 +164,17 @@ fn own_word(
     let _one = circuit.vars();
     match node {
         Node::Constant(value) => Ok(constant_word(value)),
-        Node::Symbol(load) => Ok(word_at(symbols, load)),
+        Node::Symbol(load) => Ok(word_at(symbols, load as usize)),
         Node::Unary(op, a) => unary(circuit, op, &known[a.place()]),
         Node::Binary(op, a, b) => binary(circuit, op, &known[a.place()], &known[b.place()]),
     }
 }
 
-/// The word of a load's value.
-fn word_at(symbols: &[Word], load: u32) -> Word
-    ensures { result ≡ word_at symbols.now load }
+/// The word at a place, or that of 0 past the last.
+pub fn word_at(words: &[Word], place: usize) -> Word
+    ensures { result ≡ word_at words.now place }
 {
-    symbols
-        .get(load as usize)
-        .copied()
-        .unwrap_or([constant(false); 32])
+    words.get(place).copied().unwrap_or([constant(false); 32])
 }
 
 /// The word of a number.

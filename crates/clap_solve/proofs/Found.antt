@@ -11,7 +11,7 @@ use Rattle.store_buffers.specs.Pending.{Binding}
 use Rattle.run_log.specs.Logs.{is_log}
 use Rattle.path_walk.specs.Fits.{Fits}
 use Rattle.path_walk.specs.Paths.{paths_of}
-use Rattle.sym_terms.specs.declared.node.Node.{Node}
+use Rattle.order_formula.specs.sym_terms.declared.node.Node.{Node}
 use Rattle.schedule_decode.specs.sym_laws.Valued.{found}
 use Rattle.order_formula.specs.Worlds.{World}
 use Rattle.cnf_core.specs.Clauses.{Valuation, satisfies, value_in}
@@ -55,7 +55,7 @@ decodable ops model bound code log laws lawful is within posed by values satisfi
     let setting = setting_of ops model bound code log laws lawful is in
     let same : w ≡ p.0.world =
     is_said ∙ ap (λ (q : Posed). world_of q.blasted.layout v) by
-    ∙ ap (λ (dead : Bool). world_of (if dead then impossible else blasted_by s).layout v) p.0.lives ∙ sym p.1 in
+    ∙ ap (λ (dead : Bool). world_of (if dead then impossible else blasted_by code s).layout v) p.0.lives ∙ sym p.1 in
     record {
       laws = laws;
       code_is = lawful;

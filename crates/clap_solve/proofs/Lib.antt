@@ -18,6 +18,7 @@ pub use Rattle.dimacs_text.proofs.tc_decimal
 pub mod Ordered
 pub mod Loads
 pub mod Room
+pub mod Drafted
 pub mod Meaning
 pub mod Found
 pub mod Answered

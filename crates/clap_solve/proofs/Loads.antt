@@ -4,12 +4,12 @@ use Rattle.std.specs.Prelude.{slice_get, unwrap_or}
 use Rattle.std.specs.List.{All, filter_map}
 use Rattle.std.proofs.lemmas.List.Elements.{All-contains, All-map}
 use Rattle.std.proofs.lemmas.Option.{cond_some, none-some}
-use Rattle.sym_terms.specs.int_ops.Arith.{IsInt}
+use Rattle.order_formula.specs.sym_terms.int_ops.Arith.{IsInt}
 use Rattle.run_log.specs.tc_base.Names.{Name}
-use Rattle.sym_exec.proofs.run_laws.Ints.{zero_int}
+use Rattle.clap_system.proofs.sym_exec.run_laws.Ints.{zero_int}
 use Rattle.schedule_decode.specs.run_history.History.{Deed, Did, Drained, same}
 use Rattle.schedule_decode.specs.run_history.Ints.{DeedHasInts}
-use Rattle.sym_exec.specs.Executed.{Symbolic}
+use Rattle.clap_system.specs.sym_exec.Executed.{Symbolic}
 use Rattle.schedule_decode.specs.sym_laws.Loads.{Load, loads_in, loads_of, taken_at, took_by}
 use Rattle.first_run.proofs.order_events.Lists.{at_in, of_filter_map}
 use Rattle.first_run.proofs.order_events.Parts.{each_in}

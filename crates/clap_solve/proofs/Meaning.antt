@@ -6,7 +6,7 @@ use Rattle.std.specs.List.{All, Contains}
 use Rattle.std.proofs.lemmas.Bool.{false≢true}
 use Rattle.std.proofs.lemmas.List.{length-map}
 use Rattle.std.proofs.lemmas.List.Elements.{All-weaker}
-use Rattle.sym_terms.specs.int_ops.Arith.{IsInt}
+use Rattle.order_formula.specs.sym_terms.int_ops.Arith.{IsInt}
 use Rattle.run_log.specs.tc_base.Buffers.{BufferOps}
 use Rattle.run_log.specs.Logs.{Log}
 use Rattle.run_log.specs.memory_models.declared.model.Model.{Model}
@@ -20,9 +20,9 @@ use Rattle.schedule_decode.specs.run_history.History.{Deed, history}
 use Rattle.schedule_decode.proofs.run_history.Ints.{deeds_have_ints, models_pass_ints}
 use Rattle.run_log.specs.Logs.{is_log}
 use Rattle.path_walk.specs.Paths.{ArePaths, Paths, paths_of}
-use Rattle.sym_terms.specs.declared.node.Node.{Node}
-use Rattle.sym_terms.specs.declared.node.Node.TheVariants.{Constant}
-use Rattle.sym_exec.specs.Ints.{HasInt}
+use Rattle.order_formula.specs.sym_terms.declared.node.Node.{Node}
+use Rattle.order_formula.specs.sym_terms.declared.node.Node.TheVariants.{Constant}
+use Rattle.clap_system.specs.sym_exec.Ints.{HasInt}
 use Rattle.order_formula.specs.declared.formula.Body.{Body}
 use Rattle.order_formula.specs.declared.formula.Body.TheVariants as body
 use Rattle.order_formula.specs.declared.formula.Conjunct.{Conjunct}
@@ -39,10 +39,14 @@ use Rattle.bit_blast.specs.bit_order.Laws.{IsWorldFor}
 use Rattle.bit_blast.specs.bit_order.Layouts.{Layout}
 use Rattle.bit_blast.specs.bit_order.Readings.{world_of}
 use Rattle.bit_blast.specs.bit_terms.Laws.{IsIntNode}
-use Rattle.bit_blast.specs.Blasted.{BlastMeans, IsApart, IsPosed, impossible, layout_of}
+use Rattle.bit_blast.specs.Blasted.{IsApart, IsPosed, impossible, layout_of}
 use Rattle.bit_blast.specs.Contended.{contended}
+use Rattle.bit_blast.specs.Drafts.{Draft, DraftMeans, KeepsWorlds, drafted}
 use Rattle.bit_blast.proofs.Completed.{contended_within}
-use Rattle.bit_blast.proofs.Posed.{blast_means}
+use Rattle.bit_blast.proofs.Posed.{drafts-mean, drafts-tell}
+use Rattle.mutex_clauses.proofs.mutex_states.Keeping.{states_keep}
+use Rattle.mutex_rules.proofs.Stated.{states_rules}
+use Rattle.mutex_rules.proofs.Worlds.{has_worlds}
 use Rattle.refute_check.specs.Refutations.{IsClosed}
 use Rattle.refute_check.specs.declared.line.Line.{Line}
 use Rattle.refute_check.proofs.Sound.{closed-means-unsatisfiable}
@@ -53,7 +57,8 @@ use Rattle.clap_system.proofs.Choices.{choices_are_enders}
 use Rattle.clap_system.proofs.Ready.{is_ready}
 use Rattle.orders_are_runs.specs.Possible.{IsPossible}
 use Rattle.orders_are_runs.proofs.Systems.{possible_is_run, run_is_possible, run_world_is}
-use Rattle.clap_solve.specs.Clauses.{blasted_by, clauses_of}
+use Rattle.orders_are_runs.proofs.Terms.{system_terms}
+use Rattle.clap_solve.specs.Clauses.{blasted_by, clauses_of, drafted_by}
 use Rattle.clap_solve.specs.Solved.{IsImpossible, IsWithin}
 use Rattle.clap_solve.proofs.Loads.{loads_are_ints}
 use Rattle.clap_solve.proofs.Ordered.{completed_lawful, formula_for, unasked_for}
@@ -105,17 +110,30 @@ module _ (buffered : Bool) (bound : Binding) (code : Code) (log : Log) (lawful :
       (formula_for s.order (order_without_questions (length (all_events paths)) (length (all_sleeps paths))) s.formula
       (unasked_for s.order (length (all_events paths)) (length (all_sleeps paths)) (sym events) (sym sleeps)) ready.within).lawful
 
-  abbrev y : Layout
-  y = layout_of s.order s.symbolic.loads s.formula
+  completed : IsOrder (layout_of s.order s.symbolic.loads s.formula).order
+  completed = completed_lawful s.order (contended s.formula) ordered (contended_within s.order s.formula ready.within)
 
-  means : BlastMeans s.nodes s.formula s.order s.symbolic.loads
-  means = blast_means s.nodes s.formula s.order s.symbolic.loads posed
-      (completed_lawful s.order (contended s.formula) ordered (contended_within s.order s.formula ready.within))
+  abbrev pub first : Draft
+  first = drafted s.nodes s.formula (layout_of s.order s.symbolic.loads s.formula)
+
+  -- in every world the states of mutexes hold for some values of their variables
+  pub keeps : KeepsWorlds s.nodes s.formula first (drafted_by code s)
+  unfolding drafted_by
+  keeps = states_keep code paths s.symbolic s.nodes s.formula first
+      (states_rules buffered bound code paths lawful are (system_terms buffered bound code paths lawful))
+      (has_worlds buffered bound code paths lawful are (omega (arith, events, few)))
+      (drafts-tell s.nodes s.formula s.order s.symbolic.loads posed completed)
+
+  pub means : DraftMeans s.nodes s.formula (record { order = s.order; loads = s.symbolic.loads }) (drafted_by code s)
+  means = drafts-mean s.nodes s.formula s.order s.symbolic.loads posed completed (drafted_by code s) keeps
+
+  abbrev y : Layout
+  y = (drafted_by code s).layout
 
   -- values that satisfy the clauses of a system give such a world
-  said : paths.dead ≡ false → (v : Valuation) → IsTrue (satisfies v (blasted_by s).clauses.clauses) → IsPossible buffered bound code log
+  said : paths.dead ≡ false → (v : Valuation) → IsTrue (satisfies v (blasted_by code s).clauses.clauses) → IsPossible buffered bound code log
   said lives v satisfied =
-      let m = means.to v satisfied in
+      let m = means.means.to v satisfied in
       let w = world_of y v in
       record {
         lives = lives;
@@ -126,7 +144,7 @@ module _ (buffered : Bool) (bound : Binding) (code : Code) (log : Log) (lawful :
       }
 
   abbrev Satisfied : Valuation → Bool → Type 0
-  Satisfied v dead = IsTrue (satisfies v (if dead then impossible else blasted_by s).clauses.clauses)
+  Satisfied v dead = IsTrue (satisfies v (if dead then impossible else blasted_by code s).clauses.clauses)
 
   abbrev pub world_said : Valuation → World
   world_said v = world_of y v
@@ -186,7 +204,7 @@ module _ {B : Type 0} (ops : BufferOps B) (model : Model) (bound : Binding) (cod
         by : (dead : Bool) → ways.dead ≡ dead → (v : Valuation) × Satisfied ops.buffered bound code log lawful within v dead
         by true dead = absurd (false≢true (sym p.lives ∙ dead))
         by false dead =
-            let m = (means ops.buffered bound code log lawful within).back p.world world_for p.holds in (m.0, m.1)
+            let m = (means ops.buffered bound code log lawful within).means.back p.world world_for p.holds in (m.0, m.1)
 
   pub said_is_run : (v : Valuation) → IsTrue (satisfies v (clauses_of ops.buffered bound code log).clauses)
       → (moves : List Move) × Reproduces ops code log moves

@@ -8,17 +8,26 @@ use Rattle.tc_code.specs.Code.{Code}
 use Rattle.store_buffers.specs.Pending.{Binding, binds_all, binds_cells}
 use Rattle.path_walk.specs.Paths.{paths_of}
 use Rattle.cnf_core.specs.Clauses.{Formula}
-use Rattle.bit_blast.specs.Blasted.{Blasted, blast, impossible}
+use Rattle.bit_blast.specs.Blasted.{Blasted, impossible, layout_of}
+use Rattle.bit_blast.specs.Drafts.{Draft, asserted, drafted}
 use Rattle.clap_system.specs.Systems.{System, system_of}
+use Rattle.mutex_clauses.specs.mutex_states.States.{with_states}
 
--- a system as clauses, with the loads of its paths
-abbrev pub blasted_by : System → Blasted
-blasted_by s = blast s.nodes s.formula s.order s.symbolic.loads
+-- the clauses of a system with the states of its mutexes, before its conjuncts are asserted
+unfoldable pub drafted_by : Code → System → Draft
+drafted_by code s =
+    with_states code s.paths s.symbolic s.nodes s.formula
+    (drafted s.nodes s.formula (layout_of s.order s.symbolic.loads s.formula))
+
+-- a system as clauses: the last ones assert its conjuncts
+abbrev pub blasted_by : Code → System → Blasted
+blasted_by code s = asserted (drafted_by code s)
 
 -- the log's system as clauses, or an impossible formula if the paths are dead
 abbrev pub blasted_of : Bool → Binding → Code → Log → Blasted
 blasted_of buffered bound code log =
-    if (paths_of code log).dead then impossible else blasted_by (system_of buffered bound code log)
+    if (paths_of code log).dead then impossible
+    else blasted_by code (system_of buffered bound code log)
 
 -- the clauses of a log, by whether there are buffers and which stores are bound
 abbrev pub clauses_of : Bool → Binding → Code → Log → Formula

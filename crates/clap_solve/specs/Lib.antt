@@ -18,8 +18,8 @@ pub use Rattle.schedule_decode.specs as schedule_decode
 pub use Rattle.schedule_file.specs as schedule_file
 pub use Rattle.store_buffers.specs as store_buffers
 pub use Rattle.formula_sizes.specs.switch_order
-pub use Rattle.sym_exec.specs as sym_exec
-pub use Rattle.sym_terms.specs as sym_terms
+pub use Rattle.clap_system.specs.sym_exec as sym_exec
+pub use Rattle.order_formula.specs.sym_terms as sym_terms
 pub use Rattle.clap_system.specs.sync_order
 pub use Rattle.tc_code.specs as tc_code
 pub use Rattle.dimacs_text.specs.tc_decimal

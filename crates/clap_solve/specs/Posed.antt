@@ -8,8 +8,8 @@ use Rattle.tc_code.specs.Lawful.{IsLawful}
 use Rattle.store_buffers.specs.Pending.{Binding}
 use Rattle.run_log.specs.Logs.{is_log}
 use Rattle.path_walk.specs.Paths.{Paths, paths_of}
-use Rattle.sym_terms.specs.declared.node.Node.{Node}
-use Rattle.sym_exec.specs.Executed.{Symbolic}
+use Rattle.order_formula.specs.sym_terms.declared.node.Node.{Node}
+use Rattle.clap_system.specs.sym_exec.Executed.{Symbolic}
 use Rattle.order_formula.specs.declared.formula.Conjunct.{Conjunct}
 use Rattle.bit_blast.specs.Blasted.{Blasted}
 use Rattle.clap_system.specs.Systems.{system_of}

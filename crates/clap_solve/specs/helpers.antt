@@ -1,3 +1,4 @@
 -- No promise refers to the definitions of this folder; only private contracts do.
 pub mod From
 pub mod Searched
+pub mod Draftable

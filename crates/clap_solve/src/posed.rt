@@ -1,17 +1,19 @@
 //! A log's clauses, with everything that they are made from.
-ghost use Rattle.std.specs.Prelude.{◌≡◌, ◌<◌, false, IfOk, IfErr, OnOk, if◌then◌else◌};
+ghost use Rattle.std.specs.Prelude.{◌≡◌, ◌+◌, ◌<◌, false, length, IfOk, IfErr, OnOk, if◌then◌else◌};
+ghost use Rattle.cnf_core.specs.declared.cnf.TheConstants.{LIMIT};
 ghost use Rattle.bit_blast.specs.Blasted.{impossible};
+ghost use Rattle.bit_blast.specs.Drafts.{DraftIsWithin};
 ghost use Rattle.clap_system.specs.Faults.{IsBuildFault};
-ghost use Rattle.clap_system.specs.Ready.{IsSound};
 ghost use Rattle.clap_system.specs.Systems.{system_from};
-ghost use Rattle.formula_sizes.specs.Small.{ClausesHaveRoom};
-ghost use Rattle.clap_solve.specs.Clauses.{blasted_by, clauses_of};
+ghost use Rattle.clap_solve.specs.Clauses.{blasted_by, clauses_of, drafted_by};
 ghost use Rattle.clap_solve.specs.Posed.{IsGiven, posed_of};
 ghost use Rattle.clap_solve.specs.Solved.{IsWithin};
+ghost use Rattle.clap_solve.specs.helpers.Draftable.{IsDraftable};
 
-use bit_blast::{Blasted, blast};
+use bit_blast::{Blasted, Draft};
 use clap_system::{BuildFault, build};
 use cnf_core::Cnf;
+use mutex_clauses::add_states;
 use order_formula::{Formula, Order};
 use path_execution::Execution;
 use path_walk::Paths;
@@ -102,7 +104,7 @@ pub fn pose<M: MemoryModel>(alloc: Global, code: &Code, log: &Log) -> Result<Pos
     let _functions = code.functions();
     let _threads = log.threads();
     let (execution, order, formula) = build::<M>(alloc, code, log)?.into_parts();
-    let blasted = blasted(alloc, &execution, &formula, order)?;
+    let blasted = blasted(alloc, code, &execution, &formula, order)?;
     Ok(Posed {
         execution,
         formula,
@@ -126,19 +128,37 @@ pub fn clauses<M: MemoryModel>(alloc: Global, code: &Code, log: &Log) -> Result<
 /// The clauses of a formula, or of an impossible one if the paths are dead.
 fn blasted(
     alloc: Global,
+    code: &Code,
     execution: &Execution,
     formula: &Formula,
     order: Order,
 ) -> Result<Blasted, AllocError>
-    requires sound { IsSound (system_from execution.now order formula.now) }
-    requires room { ClausesHaveRoom (system_from execution.now order formula.now) }
+    requires { IsDraftable (system_from execution.now order formula.now) }
     ensures blasted { IfOk result (λ blasted. blasted
-        ≡ (if execution.now.paths.dead then impossible else blasted_by (system_from execution.now order formula.now))) }
+        ≡ (if execution.now.paths.dead then impossible else blasted_by code.now (system_from execution.now order formula.now))) }
     ensures variables { IfOk result (λ blasted. execution.now.paths.dead ≡ false → 0 < blasted.clauses.vars) }
 {
     if execution.paths.dead() {
         return Blasted::impossible(alloc);
     }
+    drafted(alloc, code, execution, formula, order)?.asserted()
+}
+
+/// The clauses of a formula with the states of the mutexes, before its conjuncts are asserted.
+fn drafted(
+    alloc: Global,
+    code: &Code,
+    execution: &Execution,
+    formula: &Formula,
+    order: Order,
+) -> Result<Draft, AllocError>
+    requires { IsDraftable (system_from execution.now order formula.now) }
+    ensures draft { IfOk result (λ draft. draft ≡ drafted_by code.now (system_from execution.now order formula.now)) }
+    ensures within { IfOk result (λ draft. DraftIsWithin draft) }
+    ensures room { IfOk result (λ draft. length draft.clauses.clauses + length draft.roots < LIMIT) }
+{
     let loads = execution.symbolic.loads();
-    blast(alloc, &execution.terms, formula, order, loads)
+    let mut draft = Draft::new(alloc, &execution.terms, formula, order, loads)?;
+    add_states(alloc, code, execution, formula, &mut draft)?;
+    Ok(draft)
 }

@@ -180,7 +180,7 @@ module _ (buffered : Bool) (bound : Binding) (code : Code) (paths : Paths) (symb
       each_rule (ConjunctIsOf (length nodes)) (formula_of_terms buffered bound paths symbolic nodes own_there) (names_no_terms paths (length nodes))
       (formula_is_of code paths symbolic nodes have read_there) (tests_of symbolic nodes tests)
 
-  -- no other part has a read
+  -- only the conjuncts of loads have a read
   no_read : (cases : List (List Literal)) (r : Read) → body.Any cases ≡ body.Read r → ⊥
   no_read cases r e = cc
 
@@ -197,19 +197,21 @@ module _ (buffered : Bool) (bound : Binding) (code : Code) (paths : Paths) (symb
   tests_read_none : (c : Conjunct) (r : Read) → Contains (test_formula symbolic) c → c.body ≡ body.Read r → ⊥
   tests_read_none c r i is = no_read _ r (ap (λ (d : Conjunct). d.body) (of_test symbolic c i).is ∙ is)
 
+  pub of_load : (c : Conjunct) (r : Read) → Contains rules c → c.body ≡ body.Read r → Contains read c
+  of_load c r i is = elim (Contains-append_cases (own ++ sync_formula paths ++ read) (test_formula symbolic) c i) [
+    | inr i ↦ absurd (tests_read_none c r i is)
+    | inl i ↦ elim (Contains-append_cases (own ++ sync_formula paths) read c i) [
+      | inr i ↦ i
+      | inl i ↦ elim (Contains-append_cases own (sync_formula paths) c i) [
+        | inl i ↦ absurd (own_reads_none c r (of_formula buffered bound paths symbolic nodes c i) is)
+        | inr i ↦ absurd (sync_reads_none c r i is)
+      ]
+    ]
+  ]
+
   rules_differ : IsExecutedBy paths symbolic → (c : Conjunct) (r : Read) → Contains rules c → c.body ≡ body.Read r
       → IsDistinct (λ e d. e == d) (r.event ∷ map (λ x. x.event) r.candidates)
-  rules_differ is_done c r i is =
-      elim (Contains-append_cases (own ++ sync_formula paths ++ read) (test_formula symbolic) c i) [
-        | inr i ↦ absurd (tests_read_none c r i is)
-        | inl i ↦ elim (Contains-append_cases (own ++ sync_formula paths) read c i) [
-          | inr i ↦ reads_differ code paths symbolic nodes is_done c r i is
-          | inl i ↦ elim (Contains-append_cases own (sync_formula paths) c i) [
-            | inl i ↦ absurd (own_reads_none c r (of_formula buffered bound paths symbolic nodes c i) is)
-            | inr i ↦ absurd (sync_reads_none c r i is)
-          ]
-        ]
-      ]
+  rules_differ is_done c r i is = reads_differ code paths symbolic nodes is_done c r (of_load c r i is) is
 
 -- ---- the system of paths
 

@@ -7,18 +7,18 @@ use Rattle.std.proofs.lemmas.List.Sums.{sum_by-cons}
 use Rattle.clap_system.specs.tc_code.Code.{Code}
 use Rattle.clap_system.specs.path_walk.Paths.{Paths}
 use Rattle.clap_system.specs.path_walk.declared.event.Event.{Event}
-use Rattle.bit_blast.specs.sym_terms.declared.node.Node.{Node}
-use Rattle.bit_blast.specs.sym_terms.declared.node.Node.TheVariants.{Constant, Symbol}
+use Rattle.mutex_states.specs.bit_blast.sym_terms.declared.node.Node.{Node}
+use Rattle.mutex_states.specs.bit_blast.sym_terms.declared.node.Node.TheVariants.{Constant, Symbol}
 use Rattle.clap_system.specs.sym_exec.Executed.{Symbolic}
 use Rattle.clap_system.specs.sym_exec.declared.symbolic.Access.{Access}
-use Rattle.bit_blast.specs.order_formula.declared.formula.Conjunct.{Conjunct}
+use Rattle.mutex_states.specs.bit_blast.order_formula.declared.formula.Conjunct.{Conjunct}
 use Rattle.clap_system.specs.lawful_order.Cells.{value_at_start}
 use Rattle.clap_system.specs.lawful_order.Events.{Placed, all_events}
 use Rattle.clap_system.specs.order_cells.Same.{same_test}
 use Rattle.clap_system.specs.read_write.Accesses.{all_accesses}
 use Rattle.clap_system.specs.read_write.Reading.{may_be_seen, test_of, needs_of, read_needs, candidate_of, conjunct_of, read_formula}
-use Rattle.bit_blast.specs.bit_terms.Sizes.{node_size, terms_size}
-use Rattle.bit_blast.specs.Sizes.{read_size, size_of}
+use Rattle.mutex_states.specs.bit_blast.bit_terms.Sizes.{node_size, terms_size}
+use Rattle.mutex_states.specs.bit_blast.Sizes.{read_size, size_of}
 use Rattle.formula_sizes.proofs.Own.{conjunct_size, test_size}
 use Rattle.formula_sizes.proofs.Sums.{regroup, times_le, of_flat, of_filter_map}
 

@@ -6,23 +6,23 @@ use Rattle.std.proofs.lemmas.List.Sums.{sum_by-append}
 use Rattle.clap_system.specs.path_walk.Paths.{Walk, Paths}
 use Rattle.clap_system.specs.path_walk.declared.event.Event.{Event}
 use Rattle.clap_system.specs.store_buffers.Pending.{Binding}
-use Rattle.bit_blast.specs.sym_terms.Terms.{id_of}
-use Rattle.bit_blast.specs.sym_terms.declared.node.Node.{Node}
-use Rattle.bit_blast.specs.sym_terms.declared.node.Node.TheVariants.{Binary}
+use Rattle.mutex_states.specs.bit_blast.sym_terms.Terms.{id_of}
+use Rattle.mutex_states.specs.bit_blast.sym_terms.declared.node.Node.{Node}
+use Rattle.mutex_states.specs.bit_blast.sym_terms.declared.node.Node.TheVariants.{Binary}
 use Rattle.switch_order.specs.int_ops.declared.arith.BinOp.TheVariants.{Eq}
 use Rattle.clap_system.specs.sym_exec.Executed.{Symbolic}
 use Rattle.clap_system.specs.tc_code.declared.cell.Cell.{Cell}
 use Rattle.clap_system.specs.tc_code.declared.cell.Cell.TheVariants.{Fixed, Element}
-use Rattle.bit_blast.specs.order_formula.declared.formula.Conjunct.{Conjunct}
-use Rattle.bit_blast.specs.order_formula.declared.group.Group.TheVariants.{Own}
+use Rattle.mutex_states.specs.bit_blast.order_formula.declared.formula.Conjunct.{Conjunct}
+use Rattle.mutex_states.specs.bit_blast.order_formula.declared.group.Group.TheVariants.{Own}
 use Rattle.clap_system.specs.lawful_order.Events.{Placed, all_events}
 use Rattle.clap_system.specs.order_cells.Same.{known_same, same_test}
 use Rattle.clap_system.specs.order_events.Parts.{of_each, one_of}
 use Rattle.clap_system.specs.memory_order.Own.{keeps, cells_of, is_kept_next, kept_test, two_tests, thread_tests, own_needs, fails, in_order}
 use Rattle.clap_system.specs.memory_order.Own.{next_formula, tested_formula, two_formula, thread_formula, is_failing, before_failing, is_before_failing, failing_formula, own_formula}
 use Rattle.clap_system.specs.memory_order.Twos.{Two, twos_with, twos}
-use Rattle.bit_blast.specs.bit_terms.Sizes.{node_size, terms_size}
-use Rattle.bit_blast.specs.Sizes.{body_size, size_of}
+use Rattle.mutex_states.specs.bit_blast.bit_terms.Sizes.{node_size, terms_size}
+use Rattle.mutex_states.specs.bit_blast.Sizes.{body_size, size_of}
 use Rattle.formula_sizes.proofs.Sums.{regroup, times_le, of_map, of_flat, of_all, of_squares, filter_few, length_all}
 
 -- the size of a conjunct with the clause of its root

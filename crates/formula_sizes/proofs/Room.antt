@@ -6,18 +6,18 @@ use Rattle.clap_system.specs.tc_limits.declared.limits.TheConstants.{THREADS, ST
 use Rattle.clap_system.specs.tc_code.Code.{Code}
 use Rattle.clap_system.specs.path_walk.Paths.{Paths, paths_of}
 use Rattle.clap_system.specs.store_buffers.Pending.{Binding}
-use Rattle.bit_blast.specs.sym_terms.Terms.{with_node}
-use Rattle.bit_blast.specs.sym_terms.declared.node.Node.{Node}
+use Rattle.mutex_states.specs.bit_blast.sym_terms.Terms.{with_node}
+use Rattle.mutex_states.specs.bit_blast.sym_terms.declared.node.Node.{Node}
 use Rattle.clap_system.specs.sym_exec.Executed.{Course, Executed, Symbolic, executed}
-use Rattle.bit_blast.specs.order_formula.Orders.{Order, order_without_questions}
-use Rattle.bit_blast.proofs.order_formula.Asked.{grows_formula}
+use Rattle.mutex_states.specs.bit_blast.order_formula.Orders.{Order, order_without_questions}
+use Rattle.mutex_states.proofs.bit_blast.order_formula.Asked.{grows_formula}
 use Rattle.clap_system.specs.lawful_order.Events.{all_events, all_sleeps}
 use Rattle.clap_system.specs.memory_order.Own.{own_formula, own_needs}
 use Rattle.clap_system.specs.sync_order.Sync.{sync_formula}
 use Rattle.clap_system.specs.read_write.Reading.{read_formula, read_needs}
 use Rattle.switch_order.specs.bit_order.Comparators as order
-use Rattle.bit_blast.specs.bit_terms.Sizes.{terms_size}
-use Rattle.bit_blast.specs.Sizes.{size_of}
+use Rattle.mutex_states.specs.bit_blast.bit_terms.Sizes.{terms_size}
+use Rattle.mutex_states.specs.bit_blast.Sizes.{size_of}
 use Rattle.clap_system.specs.Systems.{System, system_of}
 use Rattle.clap_system.specs.Tests.{test_conjunct, test_formula}
 use Rattle.formula_sizes.specs.Small.{ClausesHaveRoom, IsWithin}

@@ -8,12 +8,12 @@ use Rattle.clap_system.specs.path_walk.Paths.{Walk, Paths}
 use Rattle.clap_system.specs.path_walk.declared.event.Event.{Event}
 use Rattle.clap_system.specs.path_walk.declared.event.Link.{Link}
 use Rattle.clap_system.specs.path_walk.declared.event.Region.{Region}
-use Rattle.bit_blast.specs.order_formula.declared.formula.Conjunct.{Conjunct}
-use Rattle.bit_blast.specs.order_formula.declared.literal.Literal.{Literal}
+use Rattle.mutex_states.specs.bit_blast.order_formula.declared.formula.Conjunct.{Conjunct}
+use Rattle.mutex_states.specs.bit_blast.order_formula.declared.literal.Literal.{Literal}
 use Rattle.clap_system.specs.lawful_order.Events.{Placed, all_events, all_sleeps}
 use Rattle.clap_system.specs.sync_order.Children.{is_child, is_exit, created_before, exit_before, exited_before, create_conjuncts, join_conjuncts, links_formula, children_formula}
 use Rattle.clap_system.specs.sync_order.Mutexes.{of_pairs, exclude, release_literal, excludes, exclusive, all_regions, mutexes_formula}
-use Rattle.bit_blast.specs.Sizes.{literal_size, case_size, size_of}
+use Rattle.mutex_states.specs.bit_blast.Sizes.{literal_size, case_size, size_of}
 use Rattle.formula_sizes.proofs.Own.{conjunct_size}
 use Rattle.formula_sizes.proofs.Sums.{times_le, each_times, of_map, of_flat, of_all, filter_few, length_all}
 

@@ -21,17 +21,17 @@ use Rattle.clap_system.specs.tc_code.declared.instr.Instr.TheVariants.{Set, Load
 use Rattle.clap_system.specs.path_walk.Events.{operators, operators_in, operators_of}
 use Rattle.clap_system.specs.path_walk.Paths.{Walk, Paths}
 use Rattle.clap_system.specs.path_walk.Steps.{steps_at, step_at}
-use Rattle.bit_blast.specs.sym_terms.Terms.{same_node, with_node}
-use Rattle.bit_blast.specs.sym_terms.declared.node.Node.{Node}
-use Rattle.bit_blast.specs.sym_terms.declared.node.Node.TheVariants.{Constant, Symbol, Unary, Binary}
+use Rattle.mutex_states.specs.bit_blast.sym_terms.Terms.{same_node, with_node}
+use Rattle.mutex_states.specs.bit_blast.sym_terms.declared.node.Node.{Node}
+use Rattle.mutex_states.specs.bit_blast.sym_terms.declared.node.Node.TheVariants.{Constant, Symbol, Unary, Binary}
 use Rattle.clap_system.specs.sym_exec.Making.{Made, AllMade, term_of_node, expr_term, with_expr, range_test, last_index, replaced_term}
 use Rattle.clap_system.specs.sym_exec.Thread.{Doing, term_in, symbol_in, with_nodes, cell_of, update_terms, updated_term, after_instr, wanted_of, after_step, after_all, Route, route_of}
 use Rattle.clap_system.specs.sym_exec.Executed.{Course, Executed, fails_at, thread_started, thread_done, with_thread, nothing, executed}
 use Rattle.clap_system.specs.sym_exec.declared.symbolic.Test.{Test}
 use Rattle.clap_system.specs.sym_exec.declared.symbolic.Access.{Access}
 use Rattle.clap_system.proofs.sym_exec.Sound.{stepped_by}
-use Rattle.bit_blast.specs.bit_ops.Sizes.{unary_size, binary_size}
-use Rattle.bit_blast.specs.bit_terms.Sizes.{node_size, terms_size}
+use Rattle.mutex_states.specs.bit_blast.bit_ops.Sizes.{unary_size, binary_size}
+use Rattle.mutex_states.specs.bit_blast.bit_terms.Sizes.{node_size, terms_size}
 
 unary_most : (op : UnOp) → unary_size op ≤ 28_868
 unary_most un.Neg = omega arith

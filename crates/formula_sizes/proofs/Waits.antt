@@ -11,14 +11,14 @@ use Rattle.clap_system.specs.path_walk.declared.event.Blocked.{Blocked}
 use Rattle.clap_system.specs.path_walk.declared.event.Blocked.TheVariants.{Lock, Wake, Join}
 use Rattle.clap_system.specs.path_walk.declared.event.Event.{Event}
 use Rattle.clap_system.specs.path_walk.declared.event.Sleep.{Sleep}
-use Rattle.bit_blast.specs.order_formula.declared.literal.Atom.TheVariants.{Before, Ends}
+use Rattle.mutex_states.specs.bit_blast.order_formula.declared.literal.Atom.TheVariants.{Before, Ends}
 use Rattle.clap_system.specs.lawful_order.Events.{Placed, all_events, all_sleeps}
 use Rattle.clap_system.specs.condition_order.declared.wait.Ender.{Ender}
 use Rattle.clap_system.specs.condition_order.Conditions.{ender_by, enders, sleeps_on, cases_one, begun, ended, ended_before, holds, fails, woken, not_both, ends_no_later, cases_before}
 use Rattle.clap_system.specs.condition_order.Conditions.{not_lost, wait_formula, formula_of, wait_of, condition_formula, all_waits}
 use Rattle.clap_system.specs.sync_order.Stuck as stuck
 use Rattle.clap_system.specs.sync_order.Stuck.{cases_if, unended, not_ended_literal, sleeping, is_held, has_exited, stuck_at, stuck_formula}
-use Rattle.bit_blast.specs.Sizes.{literal_size, case_size, size_of}
+use Rattle.mutex_states.specs.bit_blast.Sizes.{literal_size, case_size, size_of}
 use Rattle.formula_sizes.proofs.Own.{conjunct_size}
 use Rattle.formula_sizes.proofs.Loads.{filter_map_few}
 use Rattle.formula_sizes.proofs.Sums.{all_equal, regroup, times_le, of_map, of_flat, of_flat_made, of_all, chosen_few, filter_few}

@@ -9,7 +9,7 @@ use Rattle.clap_system.specs.tc_limits.declared.limits.TheConstants.{THREADS, ST
 use Rattle.clap_system.specs.tc_code.Code.{Code}
 use Rattle.clap_system.specs.path_walk.Paths.{Walk, Paths, walk_of, paths_of, operators_in}
 use Rattle.clap_system.specs.store_buffers.Pending.{Binding}
-use Rattle.bit_blast.specs.sym_terms.declared.node.Node.{Node}
+use Rattle.mutex_states.specs.bit_blast.sym_terms.declared.node.Node.{Node}
 use Rattle.clap_system.specs.sym_exec.Executed.{Course, executed}
 use Rattle.clap_system.specs.lawful_order.Events.{all_events, all_sleeps}
 use Rattle.clap_system.specs.read_write.Accesses.{all_accesses}
@@ -19,7 +19,7 @@ use Rattle.clap_system.specs.sync_order.Children.{children_formula}
 use Rattle.clap_system.specs.sync_order.Mutexes.{mutexes_formula}
 use Rattle.clap_system.specs.sync_order.Stuck.{stuck_formula}
 use Rattle.clap_system.specs.sync_order.Sync.{sync_formula}
-use Rattle.bit_blast.specs.Sizes.{read_size, size_of}
+use Rattle.mutex_states.specs.bit_blast.Sizes.{read_size, size_of}
 use Rattle.formula_sizes.specs.Small.{IsWithin, IsSmall, HasSmall}
 use Rattle.formula_sizes.proofs.Own.{conjunct_size, own_size, own_needs_size}
 use Rattle.formula_sizes.proofs.Loads.{read_needs_size, read_formula_size, read_more}

@@ -7,13 +7,14 @@ use Rattle.clap_system.specs.tc_limits.declared.limits.TheConstants.{THREADS, ST
 use Rattle.clap_system.specs.tc_code.Code.{Code}
 use Rattle.clap_system.specs.path_walk.Paths.{Paths, paths_of}
 use Rattle.clap_system.specs.store_buffers.Pending.{Binding}
-use Rattle.bit_blast.specs.sym_terms.declared.node.Node.{Node}
+use Rattle.mutex_states.specs.bit_blast.sym_terms.declared.node.Node.{Node}
 use Rattle.clap_system.specs.sym_exec.Executed.{Symbolic, Executed}
 use Rattle.clap_system.specs.memory_order.Own.{own_formula, own_needs}
 use Rattle.clap_system.specs.sync_order.Sync.{sync_formula}
 use Rattle.clap_system.specs.read_write.Reading.{read_formula, read_needs}
-use Rattle.bit_blast.specs.bit_terms.Sizes.{terms_size}
-use Rattle.bit_blast.specs.Sizes.{size_of, whole_size}
+use Rattle.mutex_states.specs.bit_blast.bit_terms.Sizes.{terms_size}
+use Rattle.mutex_states.specs.bit_blast.Sizes.{size_of, whole_size}
+use Rattle.mutex_states.specs.Sizes.{most_size}
 use Rattle.switch_order.specs.cnf_core.declared.cnf.TheConstants.{LIMIT}
 use Rattle.switch_order.specs.Sizes as levels
 use Rattle.clap_system.specs.Systems.{System}
@@ -48,9 +49,9 @@ module _ (buffered : Bool) (bound : Binding) (code : Code) (paths : Paths) where
           ≤ 224 * (EVENTS * EVENTS)
       pub read_needs : terms_size (read_needs code symbolic nodes) ≤ 224 * (EVENTS * EVENTS)
 
--- The clauses of a system, together with levels of 255 switches, have fewer variables and fewer
--- clauses than `LIMIT`.
+-- The clauses of a system, with the states of its mutexes and levels of 255 switches, have fewer
+-- variables and fewer clauses than `LIMIT`.
 abbrev pub ClausesHaveRoom : System → Type 0
 ClausesHaveRoom s =
     whole_size (record { order = s.order; loads = s.symbolic.loads }) s.nodes s.formula
-    + levels.size_of EVENTS 255 < LIMIT
+    + most_size + levels.size_of EVENTS 255 < LIMIT

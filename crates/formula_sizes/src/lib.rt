@@ -9,7 +9,7 @@ ghost use Rattle.clap_system.specs.tc_limits.declared.limits.TheConstants.{EVENT
 ghost use Rattle.clap_system.specs.tc_code.Code.{Code};
 ghost use Rattle.clap_system.specs.path_walk.Paths.{paths_of};
 ghost use Rattle.clap_system.specs.store_buffers.Pending.{Binding};
-ghost use Rattle.bit_blast.specs.sym_terms.declared.node.Node.{Node};
+ghost use Rattle.mutex_states.specs.bit_blast.sym_terms.declared.node.Node.{Node};
 ghost use Rattle.clap_system.specs.sym_exec.Executed.{executed};
 ghost use Rattle.clap_system.specs.lawful_order.Events.{all_events, all_sleeps};
 ghost use Rattle.clap_system.specs.Systems.{system_of};
@@ -31,7 +31,8 @@ pub fn formulas_are_small()
         → HasSmall buffered bound code (paths_of code log) (executed code (paths_of code log) []).symbolic nodes }
 {}
 
-/// There is room for the clauses of such a log, and for levels of 255 switches.
+/// There is room for the clauses of such a log, for the states of its mutexes and for levels of 255
+/// switches.
 pub fn clauses_have_room()
     ensures { (buffered : Bool) (bound : Binding) (code : Code) (log : Log) → IsWithin code log
         → ClausesHaveRoom (system_of buffered bound code log) }

@@ -84,7 +84,7 @@ module _ (buffered : Bool) (bound : Binding) (code : Code) (log : Log) (lawful :
     few = sound.events;
     stands = subst (λ (t : System). StandsOnOrder (clauses_over_all_pairs t)) (sym of) (record { more = (levels_ready buffered bound code log lawful within).more });
     room = subst (λ (t : System). whole_size (record { order = t.order; loads = t.symbolic.loads }) t.nodes t.formula + size_of EVENTS 255 < LIMIT) (sym of)
-        (clauses_have_room buffered bound code log within steps);
+        (let all = clauses_have_room buffered bound code log within steps in omega (arith, all));
   }
 
   module _ (most : ℕ) (made : Layout × Formula) (bounded : AreBounded s most made) where

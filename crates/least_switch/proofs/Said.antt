@@ -42,12 +42,13 @@ pub posed_few : (buffered : Bool) (bound : Binding) (code : Code) (log : Log) �
     → p ≡ posed_of buffered bound code log → p.paths.dead ≡ false → p.blasted.layout.order.events ≤ 256
 posed_few buffered bound code log lawful within p by alive =
     let s = system_of buffered bound code log in
-    let own : (blasted_by s).layout.order.events ≤ 256 =
+    let own : (blasted_by code s).layout.order.events ≤ 256 =
+    let layout = ap (λ (y : Layout). y.order.events) (solve.keeps buffered bound code log lawful within).layout in
     let same = completed_events s.order (contended s.formula) in
     let few = (solve.posed buffered bound code log lawful within).events in
-    omega (arith, same, few) in
+    omega (arith, layout, same, few) in
     subst (λ (q : Posed). q.blasted.layout.order.events ≤ 256) (sym by)
-    (subst (λ (dead : Bool). (if dead then impossible else blasted_by s).layout.order.events ≤ 256) (sym (sym (ap (λ (q : Posed). q.paths.dead) by) ∙ alive)) own)
+    (subst (λ (dead : Bool). (if dead then impossible else blasted_by code s).layout.order.events ≤ 256) (sym (sym (ap (λ (q : Posed). q.paths.dead) by) ∙ alive)) own)
 
 module _ (buffered : Bool) (bound : Binding) (code : Code) (log : Log) (lawful : IsLawful code) (most : ℕ) (b : Bounded)
     (h : IsBounded buffered bound code log most b) (v : Valuation) (satisfied : IsTrue (satisfies v b.clauses.clauses)) where

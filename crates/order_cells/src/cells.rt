@@ -71,7 +71,7 @@ fn known_equal(terms: &Terms, a: Id, b: Id) -> Option<bool>
 }
 
 /// The value of a term, if it is a constant.
-fn constant_of(terms: &Terms, term: Id) -> Option<i32>
+pub fn constant_of(terms: &Terms, term: Id) -> Option<i32>
     ensures { result ≡ spec.constant_of terms.now term }
 {
     match terms.nodes().get(term.place()) {

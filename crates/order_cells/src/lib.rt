@@ -4,4 +4,4 @@
 mod cells;
 pub mod laws;
 
-pub use cells::{known_same, same_test};
+pub use cells::{constant_of, known_same, same_test};

@@ -13,7 +13,7 @@ use Rattle.order_formula.specs.sym_terms.declared.node.Node.{Node}
 use Rattle.order_formula.specs.declared.formula.Conjunct.{Conjunct}
 use Rattle.order_formula.specs.declared.group.Group.{Group}
 use Rattle.order_formula.specs.Groups.{HoldsIn}
-use Rattle.order_formula.specs.Orders.{ConjunctIsIn, IsOrder, Order}
+use Rattle.order_formula.specs.Orders.{ConjunctIsIn, Order}
 use Rattle.order_formula.specs.Truth.{body_at}
 use Rattle.order_formula.specs.Worlds.{World, is_before}
 use Rattle.order_events.proofs.Lists.{at_in, in_filter, of_filter}
@@ -22,8 +22,7 @@ use Rattle.bit_blast.specs.bit_ranks.Ranks.{ranks_of}
 use Rattle.bit_blast.proofs.bit_ranks.RankLaws.{different-order, length-ranks, ranks-below, ranks-differ, ranks-order}
 use Rattle.refute_check.specs.cnf_core.Clauses.{Valuation, clause_true, satisfies}
 use Rattle.bit_blast.specs.bit_order.Laws.{IsWorldFor}
-use Rattle.bit_blast.specs.Blasted.{Blasted, IsPosed, RootsTell, background, blast, clause_at, layout_of, root_of}
-use Rattle.bit_blast.proofs.Posed.{roots-tell}
+use Rattle.bit_blast.specs.Blasted.{Blasted, IsPosed, RootsTell, background, clause_at, root_of}
 use Rattle.bit_blast.proofs.Same.{body_same}
 use Rattle.refute_check.specs.Refutations.{IsClosed}
 use Rattle.refute_check.specs.declared.line.Line.{Line}
@@ -77,18 +76,12 @@ first_true v cs m n all less below =
     (all_of (clause_true v) (get_or (take m cs) n []) (take m cs) all
     (Contains-get_or (take m cs) n [] (omega (arith, less, below, length-take m cs))))
 
-module _ (nodes : List Node) (formula : List Conjunct) (o : Order) (loads : ℕ) (lines : List Line) (groups : List Group) (posed : IsPosed nodes formula o)
-    (ordered : IsOrder (layout_of o loads formula).order) (closed : IsClosed (blast nodes formula o loads).clauses lines)
-    (are : AreReachedGroups formula (blast nodes formula o loads) lines groups) (w : World) (is : IsWorldIn o loads w)
+module _ (nodes : List Node) (formula : List Conjunct) (o : Order) (loads : ℕ) (b : Blasted) (lines : List Line) (groups : List Group)
+    (posed : IsPosed nodes formula o) (tells : RootsTell nodes formula (record { order = o; loads = loads }) b) (many : b.conjuncts ≡ length formula)
+    (closed : IsClosed b.clauses lines) (are : AreReachedGroups formula b lines groups) (w : World) (is : IsWorldIn o loads w)
     (all : All (HoldsIn nodes w formula) groups) where
-  abbrev b : Blasted
-  b = blast nodes formula o loads
-
   abbrev cs : List (List ℤ)
   cs = b.clauses.clauses
-
-  tells : RootsTell nodes formula (record { order = o; loads = loads }) b
-  tells = roots-tell nodes formula o loads posed ordered
 
   -- a conjunct of the groups is true in the world, also by ranks
   conjunct_true : (k : ℕ) (c : Conjunct) → slice_get formula k ≡ Some c → IsReached (length cs) lines (root_of b k + 1) → body_at nodes (ranked w) c.body ≡ true
@@ -107,7 +100,7 @@ module _ (nodes : List Node) (formula : List Conjunct) (o : Order) (loads : ℕ)
         elim (slice_get_cases formula k).1 [
           | inl here ↦ subst (λ m. clause_true v (get_or cs m []) ≡ true) is_root
               (roots k here.0 here.2 ∙ conjunct_true k here.0 here.2 (subst (λ m. IsReached (length cs) lines (m + 1)) (sym is_root) reached))
-          | inr past ↦ absurd (omega (arith, from, below, past.0))
+          | inr past ↦ absurd (omega (arith, from, below, past.0, many))
         ]
 
     reached_true : (n : ℕ) → n < length cs → IsReached (length cs) lines (n + 1) → clause_true v (get_or cs n []) ≡ true

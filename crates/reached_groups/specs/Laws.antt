@@ -6,9 +6,9 @@ use Rattle.order_formula.specs.sym_terms.declared.node.Node.{Node}
 use Rattle.order_formula.specs.declared.formula.Conjunct.{Conjunct}
 use Rattle.order_formula.specs.declared.group.Group.{Group}
 use Rattle.order_formula.specs.Groups.{HoldsIn}
-use Rattle.order_formula.specs.Orders.{IsOrder, Order}
+use Rattle.order_formula.specs.Orders.{Order}
 use Rattle.order_formula.specs.Worlds.{IsWorld, World}
-use Rattle.bit_blast.specs.Blasted.{IsPosed, blast, layout_of}
+use Rattle.bit_blast.specs.Blasted.{Blasted, IsPosed, RootsTell}
 use Rattle.refute_check.specs.Refutations.{IsClosed}
 use Rattle.refute_check.specs.declared.line.Line.{Line}
 use Rattle.reached_groups.specs.Groups.{AreReachedGroups}
@@ -23,12 +23,15 @@ pub record IsWorldIn (o : Order) (count : ℕ) (w : World) : Type 0 where
   pub chosen : (sleep by : ℕ) → get_or w.enders sleep None ≡ Some by
       → Contains o.choices (record { sleep = sleep; by = by })
 
--- no world makes the conjuncts of all groups true that a closed derivation reaches
+-- no world makes the conjuncts of all groups true that a closed derivation reaches, whatever the
+-- clauses beside the roots, if in every world they hold for some values
 abbrev pub GroupsBind : Type 0
 GroupsBind =
-    (nodes : List Node) (formula : List Conjunct) (o : Order) (loads : ℕ) (lines : List Line)
-    (groups : List Group)
-    → IsPosed nodes formula o → IsOrder (layout_of o loads formula).order
-    → IsClosed (blast nodes formula o loads).clauses lines
-    → AreReachedGroups formula (blast nodes formula o loads) lines groups
+    (nodes : List Node) (formula : List Conjunct) (o : Order) (loads : ℕ) (b : Blasted)
+    (lines : List Line) (groups : List Group)
+    → IsPosed nodes formula o
+    → RootsTell nodes formula (record { order = o; loads = loads }) b
+    → b.conjuncts ≡ length formula
+    → IsClosed b.clauses lines
+    → AreReachedGroups formula b lines groups
     → (w : World) → IsWorldIn o loads w → All (HoldsIn nodes w formula) groups → ⊥

@@ -21,10 +21,7 @@ pub(crate) fn is_earlier(access: &Placed<Access>, other: &Placed<Access>) -> boo
 }
 
 /// The accesses of all threads, in order.
-pub(crate) fn all_accesses(
-    alloc: Global,
-    symbolic: &Symbolic,
-) -> Result<Vec<Placed<Access>>, AllocError>
+pub fn all_accesses(alloc: Global, symbolic: &Symbolic) -> Result<Vec<Placed<Access>>, AllocError>
     ensures { IfOk result (λ all. all.items ≡ spec.all_accesses symbolic.now) }
 {
     let mut all = Vec::new(alloc);

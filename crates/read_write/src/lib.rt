@@ -5,4 +5,5 @@ mod accesses;
 pub mod laws;
 mod reads;
 
-pub use reads::read_constraints;
+pub use accesses::all_accesses;
+pub use reads::{read_constraints, value_at_start};

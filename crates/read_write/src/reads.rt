@@ -177,7 +177,7 @@ fn line_of(events: &Events, number: u32) -> u32
 }
 
 /// The initial value of a cell. Elements of arrays are initially 0.
-fn value_at_start(code: &Code, cell: Cell) -> i32
+pub fn value_at_start(code: &Code, cell: Cell) -> i32
     ensures { result ≡ cells.value_at_start code.now cell }
 {
     match cell {

@@ -7,5 +7,6 @@ mod symbolic;
 mod thread;
 mod threads;
 
+pub use making::{expr_term, expr_terms};
 pub use symbolic::{Access, Cell, Course, Handed, Symbolic, Test};
 pub use threads::execute;

@@ -54,7 +54,7 @@ fn binary(terms: &mut Terms, op: BinOp, a: Id, b: Id) -> Result<Id, AllocError>
 }
 
 /// The term of an expression, given the terms of the slots.
-pub(crate) fn expr_term(terms: &mut Terms, slots: &[Id], e: &Expr) -> Result<Id, AllocError>
+pub fn expr_term(terms: &mut Terms, slots: &[Id], e: &Expr) -> Result<Id, AllocError>
     requires slots { AreOf terms.old slots.now }
     requires names { IsTrue (names_slots (length slots.now) e.now) }
     ensures term { IfOk result (λ term. record { term = term; nodes = terms.new } ≡ spec.expr_term terms.old slots.now e.now) }
@@ -77,7 +77,7 @@ pub(crate) fn expr_term(terms: &mut Terms, slots: &[Id], e: &Expr) -> Result<Id,
 }
 
 /// The terms of expressions, in order.
-pub(crate) fn expr_terms(
+pub fn expr_terms(
     alloc: Global,
     terms: &mut Terms,
     slots: &[Id],

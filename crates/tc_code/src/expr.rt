@@ -106,6 +106,18 @@ pub fn value(e: &Expr, slots: &[i32]) -> i32
     }
 }
 
+/// Whether an expression names only the first `slots` slots.
+pub fn names_slots(e: &Expr, slots: u32) -> bool
+    ensures { result ≡ names_slots slots e.now }
+{
+    match &e.node {
+        Node::Number(_) => true,
+        Node::Slot(k) => *k < slots,
+        Node::Unary(_, operand) => names_slots(operand, slots),
+        Node::Binary(_, left, right) => names_slots(left, slots) && names_slots(right, slots),
+    }
+}
+
 /// Expressions, in order.
 #[derive(Debug, Drop)]
 pub struct Exprs {

@@ -11,7 +11,7 @@ mod source;
 
 pub use cell::Cell;
 pub use code::{Code, Func};
-pub use expr::{Expr, Exprs, Node, value};
+pub use expr::{Expr, Exprs, Node, names_slots, value};
 pub use instr::{Instr, Instrs};
 pub use list::listing;
 pub use source::{FuncName, Lines};

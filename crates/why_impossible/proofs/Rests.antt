@@ -19,7 +19,6 @@ use Rattle.clap_solve.specs.schedule_file.Schedules.{is_name}
 use Rattle.clap_solve.specs.schedule_decode.Decodable.{HaveRoom}
 use Rattle.clap_solve.specs.sym_exec.Executed.{Executed, executed}
 use Rattle.order_formula.specs.Groups.{HoldsIn}
-use Rattle.order_formula.specs.Orders.{IsOrder}
 use Rattle.order_formula.specs.Worlds.{IsWorld, World}
 use Rattle.order_formula.specs.declared.group.Group.{Group}
 use Rattle.order_formula.specs.declared.group.Group.TheVariants as group
@@ -27,22 +26,19 @@ use Rattle.reached_groups.specs.lawful_order.Lawful.{IsWorldOf, MeetsRule}
 use Rattle.reached_groups.proofs.order_events.Lists.{at_in, in_map, of_map}
 use Rattle.reached_groups.proofs.order_events.Parts.{each_in}
 use Rattle.clap_solve.proofs.read_write.Formulas.{mapped}
-use Rattle.clap_solve.specs.clap_system.Ready.{IsReady}
 use Rattle.clap_solve.specs.clap_system.Systems.{System, system_of, with_needs}
 use Rattle.clap_solve.proofs.clap_system.Choices.{choices_are_enders}
 use Rattle.clap_solve.proofs.clap_system.Exact.{group_exact}
 use Rattle.clap_solve.proofs.clap_system.Needs.{parts_exact}
 use Rattle.clap_solve.proofs.orders_are_runs.Terms.{system_terms}
 use Rattle.dead_paths.specs.Causes.{cause_of}
-use Rattle.reached_groups.specs.bit_blast.Blasted.{Blasted, impossible, layout_of}
-use Rattle.reached_groups.specs.bit_blast.Contended.{contended}
-use Rattle.reached_groups.proofs.bit_blast.Completed.{contended_within}
+use Rattle.reached_groups.specs.bit_blast.Blasted.{Blasted, impossible}
 use Rattle.refute_check.specs.Refutations.{IsClosed}
 use Rattle.refute_check.specs.declared.line.Line.{Line}
 use Rattle.clap_solve.specs.Clauses.{blasted_by, blasted_of}
 use Rattle.clap_solve.specs.Posed.{IsGiven, Posed, posed_of}
+use Rattle.clap_solve.proofs.Drafted.{system_roots}
 use Rattle.clap_solve.proofs.Meaning as meaning
-use Rattle.clap_solve.proofs.Ordered.{completed_lawful}
 use Rattle.clap_solve.proofs.Room.{have_room}
 use Rattle.reached_groups.specs.Groups.{AreReachedGroups}
 use Rattle.reached_groups.specs.Laws.{IsWorldIn}
@@ -67,9 +63,6 @@ module _ {B : Type 0} (ops : BufferOps B) (model : Model) (bound : Binding) (cod
 
   abbrev s : System
   s = system_of ops.buffered bound code log
-
-  ready : IsReady s
-  ready = meaning.ready ops.buffered bound code log given.lawful given.within
 
   -- a world of the paths, with those enders alone, is one of the system's order
   kept_of : (w : World) (groups : List Group) → MeetsRules ops bound code log groups w → IsWorldOf paths s.symbolic (kept paths w)
@@ -103,18 +96,16 @@ module _ {B : Type 0} (ops : BufferOps B) (model : Model) (bound : Binding) (cod
       (All-contains (MeetsRule ops.buffered bound code paths s.symbolic s.nodes w) groups g m.rules i)
       (λ c is. m.enders c (subst (Contains groups) (sym is) i))))
 
-  ordered : IsOrder (layout_of s.order s.symbolic.loads s.formula).order
-  ordered = completed_lawful s.order (contended s.formula) (meaning.ordered ops.buffered bound code log given.lawful given.within)
-      (contended_within s.order s.formula ready.within)
-
   -- paths that aren't dead have the clauses of their system
-  own_clauses : paths.dead ≡ false → blasted_of ops.buffered bound code log ≡ blasted_by s
-  own_clauses lives = ap (λ (d : Bool). if d then impossible else blasted_by s) lives
+  own_clauses : paths.dead ≡ false → blasted_of ops.buffered bound code log ≡ blasted_by code s
+  own_clauses lives = ap (λ (d : Bool). if d then impossible else blasted_by code s) lives
 
   never : IsClosed (blasted_of ops.buffered bound code log).clauses lines → paths.dead ≡ false → (groups : List Group)
       → AreReachedGroups s.formula (blasted_of ops.buffered bound code log) lines groups → (w : World) → MeetsRules ops bound code log groups w → ⊥
   never closed lives groups are w m =
-      groups_bind s.nodes s.formula s.order s.symbolic.loads lines groups (meaning.posed ops.buffered bound code log given.lawful given.within) ordered
+      groups_bind s.nodes s.formula s.order s.symbolic.loads (blasted_by code s) lines groups
+      (meaning.posed ops.buffered bound code log given.lawful given.within) (meaning.means ops.buffered bound code log given.lawful given.within).tells
+      (system_roots code s)
       (subst (λ (b : Blasted). IsClosed b.clauses lines) (own_clauses lives) closed)
       (subst (λ (b : Blasted). AreReachedGroups s.formula b lines groups) (own_clauses lives) are) (kept paths w) (world_in w groups m)
       (holds_in w groups m)
@@ -196,4 +187,6 @@ pub conjuncts_are : (buffered : Bool) (bound : Binding) (code : Code) (log : Log
     → p.blasted.conjuncts ≡ length p.formula
 conjuncts_are buffered bound code log p by =
     subst (λ (q : Posed). q.paths.dead ≡ false → q.blasted.conjuncts ≡ length q.formula) (sym by)
-    (λ lives. ap (λ (d : Bool). (if d then impossible else blasted_by (system_of buffered bound code log)).conjuncts) lives)
+    (λ lives.
+    let s : System = system_of buffered bound code log in
+    ap (λ (d : Bool). (if d then impossible else blasted_by code s).conjuncts) lives ∙ system_roots code s)

@@ -1,26 +1,28 @@
-use Rattle.std.proofs.Common.{◌≡◌, ◌<◌, subst, sym}
-use Rattle.std.specs.Prelude.{IfOk}
-use Rattle.cnf_core.specs.declared.cnf.TheConstants.{LIMIT}
-use Rattle.order_formula.specs.Orders.{Order}
-use Rattle.bit_blast.specs.Blasted.{blast_over}
-use Rattle.bit_blast.specs.Sizes.{IsUpTo}
-use Rattle.bit_blast.proofs.Completed.{same_size}
+use Rattle.std.proofs.Common.{◌≡◌, arith, subst, sym}
+use Rattle.std.proofs.lemmas.Result.{IfOk-weaker}
+use Rattle.order_formula.specs.declared.formula.Conjunct.{Conjunct}
+use Rattle.bit_order.specs.Layouts.{Layout}
+use Rattle.bit_blast.specs.Blasted.{Blasted}
+use Rattle.bit_blast.specs.Drafts.{asserted}
+use Rattle.bit_blast.specs.Sizes.{IsUpTo, body_size, whole_size}
+use Rattle.bit_blast.proofs.Drafted.{asserted_size}
+use Rattle.bit_blast.proofs.Loops.{sum_with_one}
 use Rattle.bit_blast.proofs.blasted.blast.Goals as goal
 
-pub blast_completed-requires-clause-room : goal.blast_completed-requires-clause-room
-blast_completed-requires-clause-room c =
-    subst (λ n. n < LIMIT)
-    (sym (same_size c.args.order c.in_ok-order.order c.args.loads c.args.terms.now c.args.formula.now c.in_ok-order.ensures.events c.in_ok-order.ensures.sleeps))
-    c.requires.room
+pub new-requires-clause-room : goal.new-requires-clause-room
+new-requires-clause-room c =
+    let size = sum_with_one (λ (k : Conjunct). body_size k.body) c.args.formula.now in
+    omega (arith, size, c.requires.room)
 
-pub returns-clause-blasted : goal.returns-clause-blasted
-returns-clause-blasted c =
-    subst (λ (o : Order).
-    IfOk c.blast_completed.result (λ b. b ≡ blast_over c.args.terms.now c.args.formula.now (record { order = o; loads = c.args.loads })))
-    c.in_ok-order.ensures.completed c.blast_completed.ensures.blasted
+pub asserted-requires-clause-room : goal.asserted-requires-clause-room
+asserted-requires-clause-room c =
+    let size = sum_with_one (λ (k : Conjunct). body_size k.body) c.args.formula.now in
+    omega (arith, size, c.requires.room, c.in_ok-new.ensures.size.1, c.in_ok-new.ensures.count)
 
 pub returns-clause-size : goal.returns-clause-size
 returns-clause-size c =
-    subst (λ n. IfOk c.blast_completed.result (λ b. IsUpTo n b.clauses))
-    (same_size c.args.order c.in_ok-order.order c.args.loads c.args.terms.now c.args.formula.now c.in_ok-order.ensures.events c.in_ok-order.ensures.sleeps)
-    c.blast_completed.ensures.size
+    let y : Layout = record { order = c.args.order; loads = c.args.loads } in
+    let most = whole_size y c.args.terms.now c.args.formula.now in
+    let few = asserted_size y c.args.terms.now c.args.formula.now c.in_ok-new.field-0 c.in_ok-new.ensures.size c.in_ok-new.ensures.count in
+    IfOk-weaker c.asserted.result (λ b. b ≡ asserted c.in_ok-new.field-0) (λ b. IsUpTo most b.clauses)
+    (λ b is. subst (λ (k : Blasted). IsUpTo most k.clauses) (sym is) few) c.asserted.ensures

@@ -1,0 +1,4 @@
+mod Listing
+mod Sizes
+mod Same
+mod Whole

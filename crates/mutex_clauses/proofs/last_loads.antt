@@ -1,0 +1,3 @@
+mod Folds
+mod Bounds
+mod Same

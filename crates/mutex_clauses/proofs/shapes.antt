@@ -1,0 +1,4 @@
+pub use Rattle.mutex_states.proofs as mutex_states
+pub mod Again
+pub mod Parts
+pub mod Below

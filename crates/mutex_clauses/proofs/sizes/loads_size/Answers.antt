@@ -1,0 +1,8 @@
+use Rattle.std.proofs.Common.{◌≡◌, ◌∙◌, ap, refl, rules, length}
+use Rattle.mutex_clauses.specs.helpers.Counted.{counted}
+use Rattle.mutex_clauses.proofs.sizes.loads_size.Goals as goal
+
+pub returns : goal.returns
+returns c =
+    let same : c.len.result ≡ length c.args.does.now.loads = search rules in
+    c.product.ensures.product (length c.args.does.now.loads) 64 (c.product.ensures.first ∙ ap counted same) refl

@@ -1,0 +1,4 @@
+mod Loops
+mod Among
+mod Same
+mod Room

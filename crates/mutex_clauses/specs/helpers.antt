@@ -1,0 +1,4 @@
+-- No promise refers to the definitions of this folder; only private contracts do.
+pub mod Counted
+pub mod Logs
+pub mod Starts

@@ -1,0 +1,3 @@
+pub use Rattle.mutex_states.specs as mutex_states
+pub mod Termed
+pub mod helpers

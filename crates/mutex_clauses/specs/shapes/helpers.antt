@@ -1,0 +1,2 @@
+-- No promise refers to the definitions of this folder.
+pub mod Pooled

@@ -1,0 +1,4 @@
+pub use Rattle.mutex_states.specs as mutex_states
+pub mod Terms
+pub mod Turns
+pub mod helpers

@@ -1,0 +1,4 @@
+pub mod Rules
+pub mod Tests
+pub mod Stated
+pub mod Worlds
