@@ -19,6 +19,7 @@ import tempfile
 
 sys.dont_write_bytecode = True
 import machine
+from kept_files import Refused, keep, run_main
 
 TOP = os.path.dirname(os.path.dirname(os.path.abspath(__file__)))
 
@@ -224,9 +225,12 @@ def differs_in_switches(folder, text, log, model):
     return None if again == wanted[:len(again)] else f"{answer!r}, but {again}"
 
 
-def main():
-    has_switches, counts = "--least" in sys.argv, "--counts" in sys.argv
-    first, count, *kept = (it for it in sys.argv[1:] if not it.startswith("--"))
+def main(words):
+    has_switches, counts = "--least" in words, "--counts" in words
+    plain = [it for it in words if not it.startswith("--")]
+    if len(plain) not in (2, 3) or not all(it.isdecimal() for it in plain[:2]):
+        raise Refused("the words are FIRST COUNT [FOLDER] [--least] [--counts]")
+    first, count, *kept = plain
     tried = {0: 0, 1: 0}
     wrong = 0
     with tempfile.TemporaryDirectory() as folder:
@@ -253,13 +257,11 @@ def main():
                     print(f"{number} {model}: {found}", flush=True)
                     for it in kept:
                         os.makedirs(it, exist_ok=True)
-                        with open(f"{it}/{number}.tc", "w") as file:
-                            file.write(text)
-                        with open(f"{it}/{number}.log", "wb") as file:
-                            file.write(log.written(text))
+                        keep(f"{it}/{number}.tc", text)
+                        keep(f"{it}/{number}.log", log.written(text))
     print(f"{sum(tried.values())} answers, {tried[0]} schedules, {tried[1]} refutations, {wrong} differ")
     return 1 if wrong else 0
 
 
 if __name__ == "__main__":
-    raise SystemExit(main())
+    run_main("agree.py", main)

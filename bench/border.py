@@ -9,9 +9,10 @@ these may end in `no memory` while there is some. Prints a line for each and mod
 """
 import pathlib
 import subprocess
-import sys
 import tempfile
 import time
+
+from kept_files import run_main
 
 MODELS = ("sc", "tso", "pso")
 LIMIT = 2_000_000_000
@@ -97,4 +98,4 @@ def main(words: list[str]) -> int:
 
 
 if __name__ == "__main__":
-    sys.exit(main(sys.argv[1:]))
+    run_main("border.py", main)

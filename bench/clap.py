@@ -19,6 +19,7 @@ sys.dont_write_bytecode = True
 import examples
 import machine
 import solve
+from kept_files import keep, run_main
 
 TOP = Path(__file__).resolve().parent.parent
 PAGES = [TOP / "docs" / "CLAP.md", TOP / "bench" / "results" / "clap.md"]
@@ -116,11 +117,11 @@ def rewritten(lines, made):
     return lines
 
 
-def main():
+def main(words):
     parser = argparse.ArgumentParser(usage=__doc__)
     parser.add_argument("--rewrite", action="store_true")
     parser.add_argument("--program", default=TOP / "out" / "clap_debug")
-    given = parser.parse_args()
+    given = parser.parse_args(words)
     found = list(bugs())
     firsts = {bug.name: bug for bug in reversed(found)}
     with tempfile.TemporaryDirectory() as room:
@@ -136,8 +137,8 @@ def main():
         print(*rows, "", sep="\n")
     if given.rewrite:
         for page in PAGES:
-            page.write_text("\n".join(rewritten(page.read_text().split("\n"), made)))
+            keep(str(page), "\n".join(rewritten(page.read_text().split("\n"), made)))
 
 
 if __name__ == "__main__":
-    main()
+    run_main("clap.py", main)

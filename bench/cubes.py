@@ -19,6 +19,8 @@ import tempfile
 import threading
 import time
 
+from kept_files import run_main
+
 TOP = os.path.dirname(os.path.dirname(os.path.abspath(__file__)))
 
 
@@ -59,7 +61,7 @@ def row(given, name, folder):
             f"{checked.megabytes:.0f}" if checked else ""], cubes.status in (0, 1, 10) or cubes.clock >= given.seconds
 
 
-def main():
+def main(words):
     parser = argparse.ArgumentParser(usage=__doc__)
     parser.add_argument("--alone", type=int, default=60)
     parser.add_argument("--seconds", type=int, default=600)
@@ -68,7 +70,7 @@ def main():
     parser.add_argument("--clap-debug", default=f"{TOP}/clap_debug", type=os.path.abspath)
     parser.add_argument("folder")
     parser.add_argument("names", nargs="+")
-    given = parser.parse_args()
+    given = parser.parse_args(words)
     print("| log | clauses | cadical alone, s | what came | s | processor s | cubes | MB of a process | refutation | check, s | MB |")
     print("|---|---|---|---|---|---|---|---|---|---|---|")
     good = True
@@ -82,4 +84,4 @@ def main():
 
 
 if __name__ == "__main__":
-    sys.exit(main())
+    run_main("cubes.py", main)

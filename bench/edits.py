@@ -6,7 +6,9 @@
 
 Works on a copy of the checkout in the folder that holds it, with what `rt check` has proved there; where nothing is proved, the
 crates below are proved first, which for the upper ones takes an hour. An edit is a file as those of crates/CRATE/must-fail."""
-import argparse, glob, os, subprocess, sys, tempfile
+import argparse, glob, os, subprocess, tempfile
+
+from kept_files import run_main
 
 TOP = os.path.dirname(os.path.dirname(os.path.abspath(__file__)))
 EDITS = f"{TOP}/bench/edits"
@@ -63,4 +65,4 @@ def main():
 
 
 if __name__ == "__main__":
-    sys.exit(main())
+    run_main("edits.py", lambda _: main())

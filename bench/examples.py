@@ -28,6 +28,7 @@ sys.dont_write_bytecode = True
 import machine
 import pages
 import show
+from kept_files import keep, run_main
 
 TOP = Path(__file__).resolve().parent.parent
 FIRST, LAST = "<!-- verdicts -->", "<!-- end -->"
@@ -178,7 +179,7 @@ def test(page, programs, is_rewritten):
     name = os.path.relpath(page, TOP)
     print(*difflib.unified_diff(text.split("\n"), made.split("\n"), f"{name}", f"{name}, as it comes", lineterm=""), sep="\n")
     if is_rewritten:
-        page.write_text(made)
+        keep(str(page), made)
     return False
 
 
@@ -188,13 +189,13 @@ def pages_of(folders):
     return [it for it in found if f"\n{FIRST}\n" in it.read_text()]
 
 
-def main():
+def main(words):
     parser = argparse.ArgumentParser(usage=__doc__)
     parser.add_argument("--rewrite", action="store_true")
     parser.add_argument("--program", default=TOP / "clap_debug")
     parser.add_argument("--show", default=TOP / "clap_debug_show")
     parser.add_argument("folders", nargs="*", default=[TOP / "examples"])
-    given = parser.parse_args()
+    given = parser.parse_args(words)
     for program in (given.program, given.show):
         if not os.access(program, os.X_OK):
             parser.error(f"there is no program {program}")
@@ -211,4 +212,4 @@ def main():
 
 
 if __name__ == "__main__":
-    raise SystemExit(main())
+    run_main("examples.py", main)

@@ -16,6 +16,7 @@ import machine
 import reasons
 import show
 import texts
+from kept_files import Refused, run_main
 
 TOP = Path(__file__).resolve().parent.parent
 WORDS = {"swap": "5", "cas": "1, 2", "add": "1"}
@@ -656,10 +657,12 @@ def groups(which):
         yield "failures of exchanges", list(failures_lines())
 
 
-def main():
-    if sys.argv[1:] == ["--moves"]:
+def main(words):
+    if words == ["--moves"]:
         return 1 if compared() else 0
-    which, = sys.argv[1:]
+    if len(words) != 1:
+        raise Refused("the words are --moves, or the name of a table")
+    which = words[0]
     if which in ("show", "product", "why"):
         print(*{"show": show_rows, "product": product_rows, "why": why_rows}[which](), sep="\n")
         return 0
@@ -669,4 +672,4 @@ def main():
 
 
 if __name__ == "__main__":
-    sys.exit(main())
+    run_main("exchange_rows.py", main)

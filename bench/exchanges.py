@@ -20,6 +20,7 @@ import clap
 import find_measure
 import finds
 import machine
+from kept_files import keep, run_main
 
 TOP = Path(__file__).resolve().parent.parent
 PAGE = TOP / "bench" / "results" / "exchanges.md"
@@ -112,12 +113,12 @@ def answers(form, find, clap_debug, room):
     return [*row, size.line.removeprefix("cnf "), f"{solved.seconds:.2f}"]
 
 
-def main():
+def main(words):
     parser = argparse.ArgumentParser(usage=__doc__)
     parser.add_argument("--rewrite", action="store_true")
     parser.add_argument("--find")
     parser.add_argument("--clap-debug")
-    given = parser.parse_args()
+    given = parser.parse_args(words)
     if given.find and given.clap_debug:
         with tempfile.TemporaryDirectory() as room:
             rows = [answers(form, given.find, given.clap_debug, Path(room)) for form in BROKEN + MENDED]
@@ -127,8 +128,8 @@ def main():
     for rows in made.values():
         print(*rows, sep="\n")
     if given.rewrite:
-        PAGE.write_text("\n".join(clap.rewritten(PAGE.read_text().split("\n"), made)))
+        keep(str(PAGE), "\n".join(clap.rewritten(PAGE.read_text().split("\n"), made)))
 
 
 if __name__ == "__main__":
-    main()
+    run_main("exchanges.py", main)

@@ -13,8 +13,9 @@ Of a run with many calls the later ones are tried by leaps, which grow with the 
 import collections
 import os
 import subprocess
-import sys
 import tempfile
+
+from kept_files import Refused, run_main
 
 # An allocator whose call of the number in FAIL_AT gets no memory.
 ALLOCATOR = """
@@ -127,8 +128,10 @@ class Case:
         print(f"  {what}: " + ", ".join(f"{count} ended with {status}" for status, count in sorted(ended.items())))
 
 
-def main(program, word=""):
-    program = os.path.abspath(program)
+def main(words):
+    if len(words) not in (1, 2):
+        raise Refused("the words are PROGRAM [WORD]")
+    program, word = os.path.abspath(words[0]), words[1] if len(words) == 2 else ""
     with tempfile.TemporaryDirectory() as folder:
         library = os.path.join(folder, "allocator.so")
         with open(f"{folder}/allocator.c", "w") as file:
@@ -146,4 +149,4 @@ def main(program, word=""):
 
 
 if __name__ == "__main__":
-    main(*sys.argv[1:])
+    run_main("faults.py", main)

@@ -29,6 +29,7 @@ from dataclasses import dataclass
 
 sys.dont_write_bytecode = True
 import machine
+from kept_files import run_main
 
 TOP = os.path.dirname(os.path.dirname(os.path.abspath(__file__)))
 ROW = re.compile(r"\| \[([\w-]+)\]\((\S+)/README.md\) \| (.*?) \| (.*?) \| (.*?) \|$")
@@ -261,7 +262,7 @@ def seeds(clap_debug, program, model, seconds, folder):
     print(f"{program} under {model}: {len(fails)} of the first {tried} seeds fail, the first is {min(fails, default=None)}; {spent():.1f} seconds")
 
 
-def main():
+def main(words):
     parser = argparse.ArgumentParser(usage=__doc__)
     parser.add_argument("what", choices=["examples", "c", "finds", "litmus", "certificates", "growth", "seeds"])
     parser.add_argument("names", nargs="*")
@@ -269,7 +270,7 @@ def main():
     parser.add_argument("--clap-debug", default=f"{TOP}/out/clap_debug")
     parser.add_argument("--models", default="sc,tso,pso")
     parser.add_argument("--limit", type=int, default=10)
-    given = parser.parse_intermixed_args()
+    given = parser.parse_intermixed_args(words)
     with tempfile.TemporaryDirectory() as folder:
         measuring = Measuring(os.path.abspath(given.find), given.limit, folder)
         if given.what == "seeds":
@@ -289,4 +290,4 @@ def main():
 
 
 if __name__ == "__main__":
-    raise SystemExit(main())
+    run_main("find_measure.py", main)

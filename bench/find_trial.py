@@ -24,6 +24,7 @@ import sys
 import tempfile
 
 sys.dont_write_bytecode = True
+import kept_files
 import machine
 
 TOP = os.path.dirname(os.path.dirname(os.path.abspath(__file__)))
@@ -484,8 +485,7 @@ def shown(seed):
 def keep(folder, seed, text):
     if folder:
         os.makedirs(folder, exist_ok=True)
-        with open(f"{folder}/{seed}.tc", "w") as file:
-            file.write(text)
+        kept_files.keep(f"{folder}/{seed}.tc", text)
 
 
 def compared(trial, seed, name):
@@ -499,16 +499,16 @@ def compared(trial, seed, name):
                 yield "WRONG"
 
 
-def main():
-    if sys.argv[1] == "show":
-        return shown(int(sys.argv[2]))
+def main(words):
+    if words[:1] == ["show"] and len(words) == 2:
+        return shown(int(words[1]))
     parser = argparse.ArgumentParser(usage=__doc__)
     parser.add_argument("first", type=int)
     parser.add_argument("count", type=int)
     parser.add_argument("folder", nargs="?")
     parser.add_argument("--find", action="append")
     parser.add_argument("--clap-debug", default=f"{TOP}/out/clap_debug")
-    given = parser.parse_args()
+    given = parser.parse_args(words)
     programs = given.find or [f"{TOP}/out/clap_debug_find"]
     counts = {find: collections.Counter() for find in programs}
     with tempfile.TemporaryDirectory() as folder:
@@ -526,4 +526,4 @@ def main():
 
 
 if __name__ == "__main__":
-    raise SystemExit(main())
+    kept_files.run_main("find_trial.py", main)

@@ -8,6 +8,7 @@ first line of each certificate and its lines of logs are written here too; the r
 """
 import log_walk
 import machine
+from kept_files import run_main
 from thread_paths import prefixes
 
 G = "int x; int y; int a[2]; mutex m; mutex n; cond c; "
@@ -392,4 +393,4 @@ def main():
 
 
 if __name__ == "__main__":
-    main()
+    run_main("finds.py", lambda _: main())

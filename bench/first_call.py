@@ -9,6 +9,8 @@ Wants root. It works on a clone of the last commit, with caches of its own and a
 keep, which isn't touched. At the end it says what of the time the host of the machine took for itself."""
 import argparse, os, resource, signal, subprocess, sys, tempfile, threading, time
 
+from kept_files import run_main
+
 STORE = "/opt/rattle-kept"
 TOP = os.path.dirname(os.path.dirname(os.path.abspath(__file__)))
 UNSHARED = "unshare --mount --pid --fork --kill-child --mount-proc sh -c".split()
@@ -90,4 +92,4 @@ def main():
 
 
 if __name__ == "__main__":
-    sys.exit(main())
+    run_main("first_call.py", lambda _: main())

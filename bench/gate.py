@@ -4,7 +4,9 @@
   bench/gate.py rt ci          runs the words, and prints the table of bench/results/gate.md once they have ended
 
 A process is looked at each second, so what lives shorter isn't counted. Only the run's own processes are."""
-import os, re, subprocess, sys, time
+import os, re, subprocess, time
+
+from kept_files import Refused, run_main
 
 TICKS = os.sysconf("SC_CLK_TCK")
 
@@ -44,8 +46,10 @@ def look(seen, top):
             continue
 
 
-def main():
-    seen, run = {}, subprocess.Popen(sys.argv[1:])
+def main(words):
+    if not words:
+        raise Refused("the words are a command, such as rt ci")
+    seen, run = {}, subprocess.Popen(words)
     while run.poll() is None:
         look(seen, str(run.pid))
         time.sleep(1)
@@ -61,4 +65,4 @@ def main():
 
 
 if __name__ == "__main__":
-    sys.exit(main())
+    run_main("gate.py", main)

@@ -8,6 +8,7 @@ All products of paths that are needed are made, each is judged by what a normal 
 import re
 
 import machine
+from kept_files import run_main
 from thread_paths import BLOCKING, USED, is_possible, prefixes
 
 MOST_ROWS = 60
@@ -147,4 +148,4 @@ def main():
 
 
 if __name__ == "__main__":
-    main()
+    run_main("log_walk.py", lambda _: main())

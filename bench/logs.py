@@ -12,6 +12,7 @@ import sys
 
 sys.dont_write_bytecode = True
 import machine
+from kept_files import Refused, keep, run_main
 
 MAIN = """
 main {{
@@ -214,8 +215,10 @@ def best(family, is_right, events):
     return found
 
 
-def main():
-    folder, *sizes = sys.argv[1:]
+def main(words):
+    folder, sizes = words[0] if words else "-", words[1:]
+    if folder.startswith("-") or not all(it.isdecimal() for it in sizes):
+        raise Refused("the words are FOLDER [EVENTS..]")
     os.makedirs(folder, exist_ok=True)
     for family in FAMILIES:
         for events in map(int, sizes or ["50", "100", "150", "200", "256"]):
@@ -226,12 +229,10 @@ def main():
                     print(f"{name}: no run")
                     continue
                 number, text, log = found
-                with open(f"{folder}/{name}.tc", "w") as file:
-                    file.write(text)
-                with open(f"{folder}/{name}.log", "wb") as file:
-                    file.write(log.written(text))
+                keep(f"{folder}/{name}.tc", text)
+                keep(f"{folder}/{name}.log", log.written(text))
                 print(f"{name}: {number} events, {len(log.threads)} threads, {log.model}", flush=True)
 
 
 if __name__ == "__main__":
-    main()
+    run_main("logs.py", main)

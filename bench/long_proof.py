@@ -7,8 +7,10 @@ The list has three clauses a step, two of which show that x(i) gives x(i + 1), a
 last is false. The proof adds a lemma for each step, joins neighbours two by two until one lemma is left, and deletes what was joined; between
 them it adds and deletes lemmas of twenty literals that nothing rests on, so that it has a dozen lines a step.
 """
+import itertools
 import random
-import sys
+
+from kept_files import Refused, keep, refuse_clashes, run_main
 
 SIDE = 9  # how many lemmas that nothing rests on come with two steps
 
@@ -55,13 +57,14 @@ def proof(steps):
     yield f"1 0\n-{2 * steps + 1} 0\n0\n"
 
 
-def main():
-    listed, out, steps = sys.argv[1], sys.argv[2], int(sys.argv[3]) if len(sys.argv) > 3 else 4_000_000
-    with open(listed, "w", encoding="ascii") as file:
-        file.write(f"p cnf {2 * steps + 2} {3 * steps + 4}\n")
-        file.writelines(blocks(clauses(steps)))
-    with open(out, "w", encoding="ascii") as file:
-        file.writelines(blocks(proof(steps)))
+def main(words):
+    if len(words) not in (2, 3) or not all(it.isdecimal() for it in words[2:]):
+        raise Refused("the words are LIST PROOF [STEPS]")
+    listed, out, steps = words[0], words[1], int(words[2]) if len(words) > 2 else 4_000_000
+    refuse_clashes([], [listed, out])
+    keep(listed, itertools.chain([f"p cnf {2 * steps + 2} {3 * steps + 4}\n"], blocks(clauses(steps))))
+    keep(out, blocks(proof(steps)))
 
 
-main()
+if __name__ == "__main__":
+    run_main("long_proof.py", main)

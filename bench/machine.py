@@ -23,7 +23,8 @@ import argparse
 import collections
 import hashlib
 import re
-import sys
+
+from kept_files import keep, refuse_clashes, run_main
 
 WORD = 1 << 32
 TOKEN = re.compile(r"(?:\s|//[^\n]*|/\*.*?\*/)*([A-Za-z_]\w*|\d+|<<|>>|[<>=!]=|&&|\|\||[][(){},;=+\-*/%!~<>&^|]|$)", re.S)
@@ -878,7 +879,7 @@ def shown(code, log):
     return "\n".join([f"{log.model}, {end}, {total} events", *lines])
 
 
-def main():
+def main(words):
     parser = argparse.ArgumentParser(usage=__doc__)
     parser.add_argument("command", choices=["record", "seeds", "log", "show", "search", "fewest", "explore"])
     parser.add_argument("program")
@@ -888,27 +889,27 @@ def main():
     parser.add_argument("--steps", type=int, default=1000000)
     parser.add_argument("--log")
     parser.add_argument("--schedule")
-    given = parser.parse_intermixed_args()
+    given = parser.parse_intermixed_args(words)
+    logs = given.words[:1] if given.command in ("show", "search", "fewest") else []
+    refuse_clashes([given.program, *logs], [given.log, given.schedule])
     with open(given.program, newline="") as file:
         text = file.read()
     code = Code(text)
     model = given.model or "sc"
 
-    def keep(log):
+    def keep_log(log):
         if given.log:
-            with open(given.log, "wb") as file:
-                file.write(log.written(text))
+            keep(given.log, log.written(text))
 
     def keep_moves(model, moves):
         if given.schedule:
-            with open(given.schedule, "w") as file:
-                file.write(schedule(model, moves))
+            keep(given.schedule, schedule(model, moves))
 
     if given.command == "record":
         end, state, made = run(code, model, given.seed, given.steps)
         print(end_of(code, end, state, made))
         if end in ("failed", "deadlock"):
-            keep(log_of(model, state))
+            keep_log(log_of(model, state))
             keep_moves(model, made)
     elif given.command == "seeds":
         for seed in range(int(given.words[0])):
@@ -917,13 +918,13 @@ def main():
         end, state, made, states = explore(code, model)
         print(end_of(code, end, state, made) if end else "no run fails", f"({states} states)")
         if end:
-            keep(log_of(model, state))
+            keep_log(log_of(model, state))
             keep_moves(model, made)
     elif given.command == "log":
         model, failing, *threads = given.words
         parts = [it.split(":") for it in threads]
-        keep(Log(model, None if failing == "deadlock" else name_of(failing),
-                 {name_of(n): (int(steps), tuple(map(int, "".join(bits)))) for n, steps, *bits in parts}))
+        keep_log(Log(model, None if failing == "deadlock" else name_of(failing),
+                     {name_of(n): (int(steps), tuple(map(int, "".join(bits)))) for n, steps, *bits in parts}))
     else:
         with open(given.words[0], "rb") as file:
             log = Log.read(file.read())
@@ -942,4 +943,4 @@ def main():
 
 
 if __name__ == "__main__":
-    main()
+    run_main("machine.py", main)

@@ -8,7 +8,8 @@
   orders.py --formula ..          its formula alone, without clauses
   orders.py --model M ..          under tso or pso, and not sc
 """
-import sys
+
+from kept_files import Refused, run_main
 
 def path(name, steps, branches=0):
     """A thread of a log of format 1, whose outcomes are all true."""
@@ -35,11 +36,16 @@ def spin(children):
 
 def main(words):
     model = words.pop(words.index("--model") + 1) if "--model" in words else "sc"
-    kind, *numbers = (word for word in words if word not in ("--formula", "--model"))
-    program, threads = {"stores": stores, "cell": cell, "multiply": multiply, "spin": spin}[kind](*map(int, numbers))
+    plain = [word for word in words if word not in ("--formula", "--model")]
+    kinds = {"stores": (stores, 1), "cell": (cell, 2), "multiply": (multiply, 1), "spin": (spin, 1)}
+    function, count = kinds.get(plain[0] if plain else "", (None, 0))
+    if not function or len(plain) != count + 1 or not all(it.isdecimal() for it in plain[1:]):
+        raise Refused("the words are stores N, cell LOADS STORES, multiply N or spin CHILDREN, and [--formula] [--model M]")
+    program, threads = function(*map(int, plain[1:]))
     log = b"CLPL\0\1\0" + bytes([len(threads), 0]) + b"".join(threads)
     print("group a log")
     part = "formula" if "--formula" in words else "clauses"
     print(f"{part} {model} : {log.hex()} : {program} => ?")
 
-main(sys.argv[1:])
+if __name__ == "__main__":
+    run_main("orders.py", main)

@@ -23,6 +23,7 @@ import tempfile
 
 sys.dont_write_bytecode = True
 import machine
+from kept_files import run_main
 
 TOP = os.path.dirname(os.path.dirname(os.path.abspath(__file__)))
 
@@ -144,14 +145,14 @@ def try_spoilt(chance, count, possible, impossible):
     return wrong
 
 
-def main():
+def main(words):
     parser = argparse.ArgumentParser(usage=__doc__)
     parser.add_argument("--models")
     parser.add_argument("--seconds", type=float, default=120)
     parser.add_argument("--spoil", type=int, default=0)
     parser.add_argument("--false-first", action="store_true")
     parser.add_argument("folders", nargs="+")
-    given = parser.parse_args()
+    given = parser.parse_args(words)
     chance, wrong, tried = random.Random(0), 0, 0
     print("| log | model | clauses | solve | false first | cadical | minisat | answer, or refutation | tool | check | what came |")
     print("|---|---|---|---|---|---|---|---|---|---|---|")
@@ -182,4 +183,5 @@ def main():
     return 1 if wrong else 0
 
 
-raise SystemExit(main())
+if __name__ == "__main__":
+    run_main("others.py", main)

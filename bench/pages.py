@@ -28,6 +28,7 @@ sys.dont_write_bytecode = True
 import machine
 import show
 from deeds import History
+from kept_files import keep, run_main
 
 PAGES = ["buffering/p", "once/p", "deadlock/p", "dekker/p", "signal/p", "late", "odd", "locals"]
 
@@ -210,8 +211,7 @@ class Browser:
         self.size(width, height)
         self.ask("Emulation.setEmulatedMedia", features=[{"name": "prefers-color-scheme", "value": scheme}])
         time.sleep(0.2)
-        with open(name, "wb") as file:
-            file.write(base64.b64decode(self.ask("Page.captureScreenshot", format="png")["data"]))
+        keep(name, base64.b64decode(self.ask("Page.captureScreenshot", format="png")["data"]))
 
     def __enter__(self):
         return self
@@ -843,4 +843,4 @@ def main():
 
 
 if __name__ == "__main__":
-    sys.exit(main())
+    run_main("pages.py", lambda _: main())

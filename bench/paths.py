@@ -7,7 +7,8 @@
 
 The thread, or each of so many children of main, goes round as often as fits into so many steps, at most 65535.
 """
-import sys
+
+from kept_files import Refused, run_main
 
 BODIES = {
     # the body, and how many instructions it has
@@ -20,7 +21,11 @@ def path(name, steps, branches):
     outcomes = int("1" * branches + "0" * (-branches % 8) or "0", 2).to_bytes((branches + 7) // 8, "big")
     return bytes([len(name), *name]) + steps.to_bytes(2, "big") + branches.to_bytes(2, "big") + outcomes
 
-def main(kind, steps, children=0):
+def main(words):
+    plain = [word for word in words if word != "--sizes"]
+    if len(plain) not in (2, 3) or plain[0] not in BODIES or not all(it.isdecimal() for it in plain[1:]):
+        raise Refused("the words are loop or long, STEPS [CHILDREN] [--sizes]")
+    kind, steps, children = (*plain, 0)[:3]
     body, instructions = BODIES[kind]
     # a turn is a branch, the body, an assertion and a jump back
     turns = (int(steps) + 1) // (instructions + 3)
@@ -33,8 +38,9 @@ def main(kind, steps, children=0):
     else:
         program, threads = f"main {loop}", [path([], *way)]
     log = b"CLPL\0\1\0" + bytes([len(threads), 0]) + b"".join(threads)
-    part = "sizes" if "--sizes" in sys.argv else "walk"
+    part = "sizes" if "--sizes" in words else "walk"
     print("group a loop")
     print(f"{part} {log.hex().upper()} : int x; int a[8]; {program} => ?")
 
-main(*(word for word in sys.argv[1:] if word != "--sizes"))
+if __name__ == "__main__":
+    run_main("paths.py", main)

@@ -18,6 +18,7 @@ from pathlib import Path
 sys.dont_write_bytecode = True
 import machine
 import texts
+from kept_files import run_main
 
 TOP = Path(__file__).resolve().parent.parent
 KINDS = ["own", "child", "read", "mutex", "test"]
@@ -264,14 +265,14 @@ def rows():
     return wrong
 
 
-def main():
+def main(words):
     if sys.argv[1:] == ["--rows"]:
         return 1 if rows() else 0
     parser = argparse.ArgumentParser(usage=__doc__)
     parser.add_argument("program")
     parser.add_argument("log")
     parser.add_argument("--model", choices=machine.MODELS)
-    given = parser.parse_args()
+    given = parser.parse_args(words)
     with open(given.program, newline="") as file:
         code = machine.Code(file.read())
     with open(given.log, "rb") as file:
@@ -286,4 +287,4 @@ def main():
 
 
 if __name__ == "__main__":
-    sys.exit(main())
+    run_main("reasons.py", main)

@@ -17,6 +17,7 @@ import sys
 
 sys.dont_write_bytecode = True
 import machine
+from kept_files import Refused, run_main
 
 DEAR = {"*", "/", "%", "<<", ">>"}
 PROGRAMS = ["""
@@ -408,10 +409,12 @@ def write_rows():
                 print(f" {line}")
 
 
-def main():
-    if sys.argv[1:] == ["rows"]:
+def main(words):
+    if words == ["rows"]:
         return write_rows()
-    count, seed = (int(sys.argv[1]) if len(sys.argv) > 1 else 2000), (int(sys.argv[2]) if len(sys.argv) > 2 else 0)
+    if len(words) > 2 or not all(it.isdecimal() for it in words):
+        raise Refused("the words are rows, or [COUNT [SEED]]")
+    count, seed = (*map(int, words), *(2000, 0)[len(words):])
     rng = random.Random(seed)
     logs = []
     for text in PROGRAMS:
@@ -475,4 +478,4 @@ def main():
 
 
 if __name__ == "__main__":
-    raise SystemExit(main())
+    run_main("regions.py", main)

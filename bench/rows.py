@@ -8,7 +8,8 @@ With --dimacs it writes DIMACS, for another solver.
 """
 import gzip
 import random
-import sys
+
+from kept_files import Refused, run_main
 
 
 def of_file(path):
@@ -47,17 +48,25 @@ def of_random(variables, seed):
     return variables, clauses
 
 
-words = [word for word in sys.argv[1:] if word != "--dimacs"]
-if words[0] == "pigeons":
-    variables, clauses = of_pigeons(int(words[1]))
-elif words[0] == "random":
-    variables, clauses = of_random(int(words[1]), int(words[2]))
-else:
-    variables, clauses = of_file(words[0])
-if "--dimacs" in sys.argv:
-    print(f"p cnf {variables} {len(clauses)}")
-    for clause in clauses:
-        print(*clause, 0)
-else:
-    print("group a list")
-    print(f"search {variables} :", *(f"{' '.join(map(str, clause))} 0" for clause in clauses), ": 10000000 => closed")
+def main(words):
+    plain = [word for word in words if word != "--dimacs"]
+    numbers = [int(word) for word in plain[1:] if word.isdecimal()]
+    if plain[:1] == ["pigeons"] and len(plain) == 2 and len(numbers) == 1:
+        variables, clauses = of_pigeons(*numbers)
+    elif plain[:1] == ["random"] and len(plain) == 3 and len(numbers) == 2:
+        variables, clauses = of_random(*numbers)
+    elif len(plain) == 1:
+        variables, clauses = of_file(plain[0])
+    else:
+        raise Refused("the words are FILE, pigeons COUNT or random VARIABLES SEED, and [--dimacs]")
+    if "--dimacs" in words:
+        print(f"p cnf {variables} {len(clauses)}")
+        for clause in clauses:
+            print(*clause, 0)
+    else:
+        print("group a list")
+        print(f"search {variables} :", *(f"{' '.join(map(str, clause))} 0" for clause in clauses), ": 10000000 => closed")
+
+
+if __name__ == "__main__":
+    run_main("rows.py", main)

@@ -13,6 +13,7 @@ import sys
 
 sys.dont_write_bytecode = True
 import machine
+from kept_files import Refused, keep, run_main
 
 
 def children(f, end, g=None, begin="", joins="join(t); join(u);"):
@@ -98,16 +99,18 @@ def write_logs(folder):
     for group, program in GROUPS.items():
         for number, text, log in logs(*program):
             path = f"{folder}/{group.replace(',', '').replace(' ', '-')}.{number}"
-            with open(f"{path}.tc", "w", encoding="ascii") as file:
-                file.write(text)
-            with open(f"{path}.log", "wb") as file:
-                file.write(log.written(text))
+            keep(f"{path}.tc", text)
+            keep(f"{path}.log", log.written(text))
+
+
+def main(words):
+    if words == ["rows"]:
+        write_rows()
+    elif len(words) == 2 and words[0] == "logs":
+        write_logs(words[1])
+    else:
+        raise Refused("the words are rows, or logs FOLDER")
 
 
 if __name__ == "__main__":
-    if sys.argv[1:] == ["rows"]:
-        write_rows()
-    elif len(sys.argv) == 3 and sys.argv[1] == "logs":
-        write_logs(sys.argv[2])
-    else:
-        raise SystemExit(__doc__)
+    run_main("sections.py", main)

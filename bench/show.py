@@ -15,6 +15,7 @@ import tempfile
 
 sys.dont_write_bytecode = True
 import machine
+from kept_files import run_main
 
 TOP = os.path.dirname(os.path.dirname(os.path.abspath(__file__)))
 
@@ -480,10 +481,10 @@ def tries(count, folder):
         yield program, file
 
 
-def main():
-    match sys.argv[1:]:
-        case ["text", program, file, *words] if words in ([], ["--moves"]):
-            print(text_of(program, file, bool(words)), end="")
+def main(words):
+    match words:
+        case ["text", program, file, *options] if options in ([], ["--moves"]):
+            print(text_of(program, file, bool(options)), end="")
             return 0
         case ["examples", *show]:
             pairs = list(examples())
@@ -500,4 +501,4 @@ def main():
 
 
 if __name__ == "__main__":
-    sys.exit(main())
+    run_main("show.py", main)

@@ -26,6 +26,7 @@ import time
 
 sys.dont_write_bytecode = True
 import machine
+from kept_files import run_main
 
 TOP = os.path.dirname(os.path.dirname(os.path.abspath(__file__)))
 
@@ -84,7 +85,7 @@ def of_false_first(seconds, program, log, model):
     return answer, [f"{ran[2]:.2f}", f"{ran[3]:.0f}", number]
 
 
-def main():
+def main(words):
     parser = argparse.ArgumentParser(usage=__doc__)
     parser.add_argument("--models")
     parser.add_argument("--budget", default="1000000")
@@ -93,7 +94,7 @@ def main():
     parser.add_argument("--learnt", action="store_true")
     parser.add_argument("--false-first", action="store_true")
     parser.add_argument("folders", nargs="+")
-    given = parser.parse_args()
+    given = parser.parse_args(words)
     wrong, ran = 0, functools.partial(solve, given.seconds)
     heads = ["log", "events", "model", "solve", "seconds", "MB", "its answer", "bytes", "seconds", "MB"]
     heads += ["learnt"] * (given.learnt or given.false_first) + ["false first", "MB", "learnt"] * given.false_first
@@ -136,4 +137,4 @@ def main():
 
 
 if __name__ == "__main__":
-    raise SystemExit(main())
+    run_main("solve.py", main)

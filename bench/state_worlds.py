@@ -27,6 +27,7 @@ sys.dont_write_bytecode = True
 import machine
 import reasons
 import regions
+from kept_files import run_main
 
 TOP = os.path.dirname(os.path.dirname(os.path.abspath(__file__)))
 WORDS = {"set", "load", "swap", "cas", "loadat", "store", "storeat"}
@@ -255,7 +256,7 @@ def logs(given, chance):
                 yield os.path.basename(program[:-3]), text, log
 
 
-def main():
+def main(words):
     parser = argparse.ArgumentParser(usage=__doc__)
     parser.add_argument("--worlds", type=int, default=20)
     parser.add_argument("--seed", type=int, default=0)
@@ -264,7 +265,7 @@ def main():
     parser.add_argument("--spoil", type=int, default=0)
     parser.add_argument("--clap-debug", default=f"{TOP}/out/clap_debug")
     parser.add_argument("folders", nargs="*")
-    given = parser.parse_args()
+    given = parser.parse_args(words)
     chance, wrong = random.Random(given.seed), 0
     print("| log | events | clauses | more than before | worlds | all rules kept | mutexes in order | wrong | spoilt lists shown |")
     print("|---|---|---|---|---|---|---|---|---|")
@@ -297,4 +298,4 @@ def main():
 
 
 if __name__ == "__main__":
-    raise SystemExit(main())
+    run_main("state_worlds.py", main)

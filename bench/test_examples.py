@@ -11,6 +11,8 @@ import unittest
 from pathlib import Path
 from typing import List, Tuple
 
+from kept_files import run_main
+
 TOP = Path(__file__).resolve().parent.parent
 PROGRAMS = [TOP / "clap_debug", TOP / "clap_debug_show"]
 
@@ -92,4 +94,4 @@ if __name__ == "__main__":
     if len(sys.argv) == 3:
         PROGRAMS = [Path(it).resolve() for it in sys.argv[1:]]
         del sys.argv[1:]
-    unittest.main()
+    run_main("test_examples.py", lambda _: unittest.main())

@@ -8,6 +8,8 @@ import re
 import sys
 from pathlib import Path
 
+from kept_files import run_main
+
 TOP = Path(__file__).resolve().parent.parent
 KEYWORDS = set("int mutex cond thread main tid if else while create join lock unlock wait signal broadcast fence assert swap cas stbar".split())
 TOKEN = re.compile(rb"[A-Za-z_][A-Za-z0-9_]*|[0-9][A-Za-z0-9_]*|<<|>>|[<>=!]=|&&|\|\||[()\[\]{},;=+\-*/%!~<>&^|]")
@@ -369,9 +371,9 @@ def rows():
                     yield f"{crate}, {name}", files[program], it[1]
 
 
-def main():
-    if sys.argv[1:] != ["--rows"]:
-        for name in sys.argv[1:]:
+def main(words):
+    if words != ["--rows"]:
+        for name in words:
             print(name, fault_of(Path(name).read_bytes()))
         return 0
     sys.setrecursionlimit(10000)
@@ -386,4 +388,4 @@ def main():
 
 
 if __name__ == "__main__":
-    sys.exit(main())
+    run_main("texts.py", main)

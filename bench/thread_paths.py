@@ -10,10 +10,10 @@ outcomes decide first, a false before a true and fewer before more, and then ste
 import glob
 import os
 import re
-import sys
 
 import known_values
 import machine
+from kept_files import run_main
 from pure_turns import Turns
 
 TOP = os.path.dirname(os.path.dirname(os.path.abspath(__file__)))
@@ -190,8 +190,8 @@ def rows(text, bounds):
                 yield f"thread-paths {f} {end} {most}{' fails' * may_fail} : {flat} => {' '.join(words)}"
 
 
-def main():
-    if sys.argv[1:] == ["--examples"]:
+def main(words):
+    if words == ["--examples"]:
         print("group paths of the threads of examples")
         for name in sorted(glob.glob(f"{TOP}/examples/*/*.tc")):
             print("\n".join(rows(open(name).read(), [0, 2, 4])))
@@ -204,4 +204,4 @@ def main():
 
 
 if __name__ == "__main__":
-    main()
+    run_main("thread_paths.py", main)

@@ -15,6 +15,7 @@ import time
 
 sys.dont_write_bytecode = True
 import machine
+from kept_files import Refused, run_main
 
 MOVES = 1000000
 
@@ -63,13 +64,15 @@ def chosen(workers):
     return [(seed, lines[seed]) for seed in sorted(seeds)]
 
 
-def main(*words):
-    if words == ("rows",):
+def main(words):
+    if words == ["rows"]:
         for workers in range(1, 13):
             for seed, it in chosen(workers):
                 print(f'row a workload of {workers} workers and seed {seed}\nwords clap_debug workload {workers} {seed}\nwant 0 "{it}\\n"')
     elif len(words) == 2:
         print(line(int(words[0]), int(words[1])))
+    elif len(words) != 3:
+        raise Refused("the words are rows, WORKERS SEED, or PROGRAM FIRST LAST")
     else:
         program, first, last = words
         for workers in range(1, 13):
@@ -82,4 +85,4 @@ def main(*words):
 
 
 if __name__ == "__main__":
-    main(*sys.argv[1:])
+    run_main("workload.py", main)

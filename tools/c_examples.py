@@ -19,6 +19,7 @@ TOP = os.path.dirname(os.path.dirname(os.path.realpath(__file__)))
 sys.path.insert(0, f"{TOP}/bench")
 import machine  # noqa: E402
 from built import build  # noqa: E402
+from kept_files import keep, run_main  # noqa: E402
 
 PAGE = f"{TOP}/examples/c/README.md"
 MODELS = ("sc", "tso", "pso")
@@ -117,10 +118,9 @@ def main(arguments: List[str]) -> int:
         print(f"{len(missing)} rows aren't those of the page" if missing else "the rows are those of the page")
         return 1 if missing else 0
     table = "\n".join([*HEAD, *rows])
-    with open(PAGE, "w", encoding="utf-8") as file:
-        file.write(re.sub(r"\| program \|.*?(?=\n\n)", lambda _: table, text, flags=re.S))
+    keep(PAGE, re.sub(r"\| program \|.*?(?=\n\n)", lambda _: table, text, flags=re.S))
     return 0
 
 
 if __name__ == "__main__":
-    sys.exit(main(sys.argv[1:]))
+    run_main("c_examples.py", main)

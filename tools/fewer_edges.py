@@ -4,6 +4,9 @@ depends on anyway, as Rattle.E.specs.D.M for Rattle.D.specs.M, and E passes D on
 usage: fewer_edges.py [--dry]     at the top of a checkout"""
 import os, re, sys
 from functools import lru_cache
+
+import kept_files
+
 dry = "--dry" in sys.argv
 lines = open("crates.txt").read().split("\n")
 deps, order = {}, []
@@ -90,7 +93,7 @@ for c in own:
             if d == c or d not in own or d in red[c]: return m[0]
             return f"Rattle.{route(c, d)}.{k}.{d}"
         new = CITE.sub(sub, t)
-        if new != t: open(f, "w").write(new)
+        if new != t: kept_files.keep(f, new)
     for kind in ("specs", "proofs"):
         add = []
         for d, k in sorted(passes[c]):
@@ -101,7 +104,7 @@ for c in own:
             p = f"crates/{c}/{kind}/Lib.antt"
             os.makedirs(os.path.dirname(p), exist_ok=True)
             had = open(p).read() if os.path.exists(p) else ""
-            open(p, "w").write("\n".join(add) + "\n" + had)
+            kept_files.keep(p, "\n".join(add) + "\n" + had)
 out = []
 for l in lines:
     t = l.split("#")[0].strip()
@@ -109,4 +112,4 @@ for l in lines:
         head, ds = l.split(":", 1); n = t.split(":")[0].split()[0]
         out.append(f"{head}: " + " ".join(d for d in ds.split() if d not in own or d in red[n]) if any(d not in own or d in red[n] for d in ds.split()) else f"{head}:")
     else: out.append(l)
-open("crates.txt", "w").write("\n".join(out))
+kept_files.keep("crates.txt", "\n".join(out))

@@ -1,27 +1,27 @@
 #!/usr/bin/env python3
-"""The words of the scripts: help, and one line on a refusal that says where to look. Not proved,
+"""The words of the programs, for their scripts: help, and one line on words and files that a program is going to refuse. Not proved,
 and no answer rests on it.
 
-  hint.py help PROGRAM               the commands and options of a program
-  hint.py clash PROGRAM WORD..       ends with 1, and says which, where an output is one of the inputs
-  hint.py refusal PROGRAM STATUS WORD..      a line on what was wrong, if that is known"""
-import dataclasses, difflib, os, shlex, signal, sys
+  hint.py help PROGRAM [COMMAND]     the commands and options of a program, or of one command
+  hint.py complete PROGRAM WORD..    what the last word may go on to, a line for each, for a shell
+"""
+from __future__ import annotations
+
+import os
+import signal
+import sys
 
 MODELS = ("sc", "tso", "pso")
 LAST = 2**64 - 1
 
 
-@dataclasses.dataclass
 class Option:
     """An option takes one of some names, a number of a range, or the name of a file; a flag takes nothing. A fixed one is always
     among the words of its command."""
 
-    what: str
-    names: tuple = ()
-    range: tuple = ()
-    default: str = ""
-    is_flag: bool = False
-    is_fixed: bool = False
+    def __init__(self, what: str, names=(), range=(), default="", is_flag=False, is_fixed=False):
+        self.what, self.names, self.range, self.default = what, names, range, default
+        self.is_flag, self.is_fixed = is_flag, is_fixed
 
     def value(self):
         return "|".join(self.names) if self.names else "N" if self.range else "FILE"
@@ -35,22 +35,18 @@ class Option:
             return None if word in self.names else ", ".join(self.names[:-1]) + f" or {self.names[-1]}"
         if self.range:
             low, high = self.range
-            return None if word.isascii() and word.isdigit() and low <= int(word) <= high else f"a number from {low} to {high}"
+            digits = word[1:] if word.startswith("+") else word
+            return None if digits.isascii() and digits.isdigit() and low <= int(digits) <= high else f"a number from {low} to {high}"
         return None
 
 
-@dataclasses.dataclass
 class Command:
     """The words that a command takes: inputs, then one that may be left out, then outputs; and options by name, of which those
     of `writes` name outputs. Where the word is left out, no option goes with the others."""
 
-    what: str
-    inputs: tuple
-    outputs: tuple = ()
-    options: dict = dataclasses.field(default_factory=dict)
-    numbers: dict = dataclasses.field(default_factory=dict)
-    writes: tuple = ()
-    optional: tuple = ()
+    def __init__(self, what: str, inputs=(), outputs=(), options=None, numbers=None, writes=(), optional=()):
+        self.what, self.inputs, self.outputs = what, inputs, outputs
+        self.options, self.numbers, self.writes, self.optional = options or {}, numbers or {}, writes, optional
 
     def words(self):
         return (*self.inputs, *self.optional, *self.numbers, *self.outputs)
@@ -72,7 +68,7 @@ BUDGET = Option("how many clauses a search may learn", range=(1, 10_000_000), de
 PROGRAMS = {
     "clap_debug": {
         "record": Command("runs a program by moves that a seed chooses, and keeps the log of a run that fails or deadlocks",
-                          ("PROGRAM",), ("LOG",), model("sc") | {
+                          ("PROGRAM",), ("LOG",), model("tso") | {
                               "seed": Option("chooses the moves", range=(0, LAST), default="0"),
                               "steps": Option("the most moves that are made", range=(1, 1_000_000), default="1000000")}),
         "solve": Command("writes a schedule that reproduces the log, or a refutation, which shows that none does", LOGS, ("OUT",),
@@ -149,20 +145,29 @@ def files(command, plain, options):
             yield name, value, True
 
 
+def is_same(one, other):
+    """Whether two names are of one file, or will be. (A device or a pipe can be written by two.)"""
+    if os.path.exists(one) and os.path.exists(other):
+        return os.path.isfile(one) and os.path.samefile(one, other)
+    return os.path.realpath(one) == os.path.realpath(other)
+
+
 def clash(program, words):
-    """The first output that is also an input."""
+    """The first output that is also an input, or another output."""
     command, plain, options = split(program, words)
     if not command:
         return None
     found = list(files(command, plain, options))
-    for _, out, is_output in found:
-        for kind, name, is_other in found:
-            if is_output and not is_other and os.path.exists(out) and os.path.exists(name) and os.path.samefile(out, name):
-                return f"{name} would be written over, and is the {kind} that is read; --force does it all the same"
-    return None
+    outputs = [name for _, name, is_output in found if is_output]
+    for kind, name, is_output in found:
+        if not is_output and any(is_same(out, name) for out in outputs):
+            return f"{name} would be written over, and is the {kind} that is read; --force does it all the same"
+    twice = next((out for place, out in enumerate(outputs) if any(is_same(out, it) for it in outputs[:place])), None)
+    return f"{twice} is the name of two outputs, of which the last alone would be kept; --force does it all the same" if twice else None
 
 
 def nearest(word, words, sign=""):
+    import difflib
     found = difflib.get_close_matches(word, words, 1, 0.5)
     return f"; did you mean {sign}{found[0]}?" if found else ""
 
@@ -205,8 +210,10 @@ def wrong_words(program, words):
 
 
 def kind_of(file):
-    """The kind of a file by its first bytes, if these say it."""
+    """The kind of a file by its first bytes, if these say it. (What can be read once alone, as a pipe, is left to the program.)"""
     try:
+        if not os.path.isfile(file):
+            return None
         with open(file, "rb") as it:
             start = it.read(16)
     except OSError:
@@ -214,74 +221,123 @@ def kind_of(file):
     return next((kind for sign, kind in KINDS.items() if start.startswith(sign)), None)
 
 
-def wrong_file(program, words):
-    """The first input that is of another kind than the command reads, by its first bytes."""
-    command, plain, options = split(program, words)
-    for kind, name, is_output in files(command, plain, options) if command else ():
-        wanted = WANTED.get(kind)
-        found = kind_of(name)
-        if wanted and not is_output and found and found not in wanted.split(" or "):
-            return f"{name} is {found}, and {kind} is to be {wanted}"
-    return None
+def wrong_file(kind, name):
+    """Why a file can't be the input of this kind: it isn't there, or is of another kind by its first bytes."""
+    if not os.path.exists(name):
+        return f"there is no file {name}"
+    if os.path.isdir(name):
+        return f"{name} is a folder"
+    found, wanted = kind_of(name), WANTED[kind]
+    return f"{name} is {found}, and {kind} is to be {wanted}" if found and found not in wanted.split(" or ") else None
 
 
-def missing(program, words):
-    """The first input that isn't there, or that is a folder."""
+def wrong_output(name):
+    """Why nothing can be kept under the name of an output."""
+    folder = os.path.dirname(name) or "."
+    if os.path.isdir(name):
+        return f"{name} is a folder"
+    return None if os.path.isdir(folder) else f"there is no folder {folder}"
+
+
+def wrong_files(program, words):
+    """The first file of the words that can't be what it is to be."""
     command, plain, options = split(program, words)
-    for _, name, is_output in files(command, plain, options) if command else ():
-        if not is_output and not os.path.isfile(name):
-            return f"{name} is a folder" if os.path.isdir(name) else f"there is no file {name}"
-    return None
+    found = (wrong_output(name) if is_output else wrong_file(kind, name) for kind, name, is_output in files(command, plain, options))
+    return next(filter(None, found), None)
 
 
 def script(name):
     """A file of the checkout, as it is named from the caller's folder."""
+    import shlex
     file = os.path.relpath(os.path.join(os.path.dirname(os.path.dirname(os.path.realpath(__file__))), name))
     return shlex.quote(file if os.sep in file else os.path.join(".", file))
 
 
-def explains(program, words):
+def is_refused(lists, name):
+    """Whether a program's text is refused, as the built clap_debug says when it is to list the code."""
+    flags = os.O_WRONLY, 0o600
+    silent = [(os.POSIX_SPAWN_OPEN, number, os.devnull, *flags) for number in (1, 2)]
+    pid = os.posix_spawn(lists, [lists, "list", "--", name], os.environ, file_actions=silent)
+    ended = os.waitpid(pid, 0)[1]
+    return os.WIFEXITED(ended) and os.WEXITSTATUS(ended) == 3
+
+
+def explains(program, words, lists):
     """The command that says why the file is no program, unless it was this one."""
     command, plain, options = split(program, words)
-    for kind, name, _ in files(command, plain, options) if command else ():
-        if kind == "PROGRAM" and (program != "clap_debug_show" or len(plain) > 1):
-            return f"{script('clap_debug_show')} {shlex.quote(name)} explains it"
+    if program == "clap_debug_show" and len(plain) < 2:
+        return None
+    for kind, name, _ in files(command, plain, options):
+        if kind == "PROGRAM" and os.path.isfile(name) and is_refused(lists, name):
+            import shlex
+            return f"{script('clap_debug_show')} {shlex.quote(name)} explains what is wrong with it"
     return None
 
 
-def meaning(program, words):
-    """The page that says what a refusal means."""
-    return f"{script('docs/MESSAGES.md')} says what this means, and what to do"
+def hint(program, words, lists=None):
+    """What is wrong with words that the program is going to refuse, as far as that is known before it is called. `lists` is a built
+    clap_debug, which says whether a text is a program."""
+    if not words:
+        return None
+    return wrong_words(program, words) or wrong_files(program, words) or (lists and explains(program, words, lists))
 
 
-# The checks for a status, in this order.
-BY_STATUS = {2: [wrong_words], 3: [wrong_file, explains], 4: [wrong_file, meaning], 5: [wrong_file, meaning], 6: [meaning], 7: [missing]}
+def asks_help(words):
+    """The word of which help is asked for: a command, or none; nothing where no help is asked for."""
+    before = words[: words.index("--")] if "--" in words else words
+    if before[:1] == ["help"]:
+        return before[1] if len(before) > 1 else ""
+    if not any(it in ("--help", "-h") for it in before):
+        return None
+    return next((it for it in before if not it.startswith("-")), "")
 
 
-def refusal(program, status, words):
-    found = (tried(program, words) for tried in BY_STATUS.get(status, ()))
-    return next(filter(None, found), None)
+def show_command(program, name):
+    command = PROGRAMS[program][name]
+    word = name if "" not in PROGRAMS[program] else ""
+    print(f"{' '.join(filter(None, [program, word, command.usage()]))}\n    {command.what}")
+    for option, it in command.options.items():
+        low_high = f", {it.range[0]} to {it.range[1]}" if it.range else ""
+        default = f"; {it.default} if left out" if it.default else ""
+        print(f"    --{option}: {it.what}{low_high}{default}")
 
 
-def show_help(program):
-    for name, command in PROGRAMS[program].items():
-        word = name if "" not in PROGRAMS[program] else ""
-        print(f"{' '.join(filter(None, [program, word, command.usage()]))}\n    {command.what}")
-        for option, it in command.options.items():
-            low_high = f", {it.range[0]} to {it.range[1]}" if it.range else ""
-            default = f"; {it.default} if left out" if it.default else ""
-            print(f"    --{option}: {it.what}{low_high}{default}")
-    print("--version says whether the program is proved, and with which kit; README.md and docs/MESSAGES.md say more")
+def show_help(program, of=""):
+    """Prints the commands and options of a program, or of one of its commands."""
+    commands = PROGRAMS[program]
+    is_one = of != "" and of in commands
+    for name in [of] if is_one else commands:
+        show_command(program, name)
+    if not is_one:
+        print("COMMAND --help shows one command alone" if "" not in commands else "--help and -h show this")
+        print("--version says whether the program is proved, and with which kit; README.md and docs/MESSAGES.md say more")
+        print("--force lets an output be written over an input; CLAP_DEBUG_QUIET=1 silences all lines about proofs and time")
 
 
-def main(what, program, *rest):
+def completions(program, words):
+    """What the last of the words may go on to: a command, an option, or a value of one. Else files are meant."""
+    commands, before, last = PROGRAMS[program], words[:-1], words[-1] if words else ""
+    command = split(program, before)[0]
+    if command is None:
+        known = [*commands, "help", "--help", "--version"]
+    elif before and before[-1].startswith("--") and before[-1][2:] in command.options:
+        known = list(command.options[before[-1][2:]].names)
+    else:
+        used = {it.partition("=")[0] for it in before}
+        every = command.options if "" not in commands else {name for it in commands.values() for name in it.options}
+        known = [f"--{it}" for it in every if f"--{it}" not in used] if last.startswith("-") else []
+    return [it for it in known if it.startswith(last)]
+
+
+def main(what="", program="", *rest):
+    if program not in PROGRAMS or what not in ("help", "complete"):
+        print(__doc__, file=sys.stderr)
+        return 2
     if what == "help":
-        show_help(program)
-        return 0
-    said = clash(program, rest) if what == "clash" else refusal(program, int(rest[0]), rest[1:])
-    if said:
-        print(f"{program}: hint: {said}", file=sys.stderr)
-    return 1 if said and what == "clash" else 0
+        show_help(program, *rest[:1])
+    else:
+        print("".join(f"{it}\n" for it in completions(program, rest)), end="")
+    return 0
 
 
 if __name__ == "__main__":

@@ -15,6 +15,9 @@ import sys
 from typing import Dict, List, NamedTuple, Optional, Tuple
 
 TOP = os.path.dirname(os.path.dirname(os.path.realpath(__file__)))
+sys.path.insert(0, f"{TOP}/tools")
+from kept_files import run_main  # noqa: E402
+
 ROW = re.compile(r"^( *\d+)  (\d+(?:\.\d+)* +\S+ +)( *\d+)  (\S.*)$")
 RULE = re.compile(r"^-+$")
 STEP = re.compile(r"^( +)(\d+)  (\S.*?)(  -> (?:true|false))?$")
@@ -159,4 +162,4 @@ def main(arguments: List[str]) -> int:
 
 
 if __name__ == "__main__":
-    sys.exit(main(sys.argv[1:]))
+    run_main("clap_debug_show", main)

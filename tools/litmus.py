@@ -30,6 +30,7 @@ from from_litmus.logs import MODELS, Path, TooMany, combinations_of, log_of
 from from_litmus.programs import Program
 from from_litmus.source import Parts, Refused, parts_of
 from from_litmus.statements import Final, Test, Thread
+from kept_files import keep, refuse_clashes, run_main
 
 CLAP_DEBUG = os.path.join(os.path.dirname(os.path.dirname(os.path.abspath(__file__))), "clap_debug")
 
@@ -96,23 +97,21 @@ def outcomes_of(paths: Sequence[Path]) -> str:
     return ", ".join(outcomes) or "no branches"
 
 
-def keep(name: str, content: bytes) -> None:
-    with open(name, "wb") as file:
-        file.write(content)
-
-
 def translate(words: argparse.Namespace) -> None:
+    refuse_clashes([words.file], [words.program, words.log])
     with open(words.file, encoding="utf-8") as file:
         program = Program(read_test(file.read())).text()
     if not words.program and not words.log:
         print(program, end="")
-    if words.program:
-        keep(words.program, program.encode())
     if words.log:
         combinations = combinations_of(listing_of(program.encode(), words.clap_debug))
-        for name, paths in zip(log_names(words.log, len(combinations)), combinations):
+        names = log_names(words.log, len(combinations))
+        refuse_clashes([words.file], [words.program, *names])
+        for name, paths in zip(names, combinations):
             keep(name, log_of(program.encode(), words.model, paths))
             print(f"{name}: {outcomes_of(paths)}")
+    if words.program:
+        keep(words.program, program.encode())
 
 
 def words_of(given: List[str]) -> argparse.Namespace:
@@ -142,4 +141,4 @@ def main(given: List[str]) -> int:
 
 
 if __name__ == "__main__":
-    sys.exit(main(sys.argv[1:]))
+    run_main("litmus.py", main)

@@ -29,6 +29,7 @@ import litmus
 from from_litmus.logs import MODELS, TooMany, combinations_of, log_of
 from from_litmus.programs import Program
 from from_litmus.source import Refused
+from kept_files import keep, run_main
 
 TOP = os.path.dirname(os.path.dirname(os.path.abspath(__file__)))
 ALLOWED, FORBIDDEN = "allowed", "forbidden"
@@ -136,8 +137,7 @@ class Table:
                 self.rows[name] = Row(name, [""] * 7)
                 self.lines.append(self.rows[name])
             self.rows[name].write(verdicts)
-        with open(self.path, "w", encoding="utf-8") as file:
-            file.writelines((line.line() if isinstance(line, Row) else line) + "\n" for line in self.lines)
+        keep(self.path, ((line.line() if isinstance(line, Row) else line) + "\n" for line in self.lines))
 
     def has(self, name: str) -> bool:
         """Whether the folder has the test."""
@@ -198,4 +198,4 @@ def main(given: List[str]) -> int:
 
 
 if __name__ == "__main__":
-    sys.exit(main(sys.argv[1:]))
+    run_main("litmus_verdicts.py", main)

@@ -4,6 +4,8 @@ their modules counted; `6+1` is six and one that is inferred. usage: long_lists.
 a checkout"""
 import argparse, glob, re
 
+from kept_files import run_main
+
 def closed(text, i):
     """The index behind the bracket that closes the one at i."""
     depth = 0
@@ -60,13 +62,13 @@ def records(most):
                 inferred = sum(n[0] == "{" for n in names)
                 if len(names) > most: yield f"{len(names) - inferred}+{inferred}" if inferred else len(names), crate, m[3], " ".join(names)
 
-def main():
+def main(arguments):
     words = argparse.ArgumentParser(description=__doc__)
     words.add_argument("--most-fn", type=int, default=5)
     words.add_argument("--most-record", type=int, default=6)
-    given = words.parse_args()
+    given = words.parse_args(arguments)
     for what, found in (("functions", [*functions(given.most_fn)]), ("records", [*records(given.most_record)])):
         print(f"{len(found)} {what}")
         for n, crate, name, names in found: print(f"  {n:>4} {crate:18} {name:18} {names}")
 
-if __name__ == "__main__": main()
+if __name__ == "__main__": run_main("long_lists.py", main)

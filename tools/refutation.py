@@ -11,8 +11,13 @@ already before others. The hints of an LRAT proof get the numbers and the order 
 Status 0: OUT is written, and a line says how much is in it. 1: the proof is refused; a needed line that isn't by unit propagation is
 named by its number. 2: the words or the files can't be used. It needs Python 3.8 and nothing else.
 """
+import itertools
+import os
 import sys
 from typing import Dict, Iterator, List, NamedTuple, Optional, Tuple
+
+sys.path.insert(0, os.path.dirname(os.path.realpath(__file__)))
+import kept_files  # noqa: E402
 
 Clause = Tuple[int, ...]
 
@@ -70,11 +75,8 @@ def read_list(path: str) -> Tuple[int, List[Clause]]:
 
 
 def write_refutation(path: str, model: str, lines: List[Added]) -> None:
-    with open(path, "w", encoding="ascii", newline="\n") as file:
-        file.write(f"clap-refutation 2 {model}\n")
-        for line in lines:
-            numbers = ["a", *map(str, line.literals), "0", *map(str, line.hints), "0"]
-            file.write(" ".join(numbers) + "\n")
+    added = (" ".join(["a", *map(str, line.literals), "0", *map(str, line.hints), "0"]) for line in lines)
+    kept_files.keep(path, itertools.chain([f"clap-refutation 2 {model}\n"], (f"{line}\n" for line in added)))
 
 
 # DRAT.
@@ -433,6 +435,7 @@ def main(words: List[str]) -> int:
         print(__doc__, file=sys.stderr)
         return 2
     kind, listed, proof, model, out = words
+    kept_files.refuse_clashes([listed, proof], [out])
     try:
         variables, clauses = read_list(listed)
         if kind == "drat":
@@ -451,4 +454,4 @@ def main(words: List[str]) -> int:
 
 
 if __name__ == "__main__":
-    sys.exit(main(sys.argv[1:]))
+    kept_files.run_main("refutation.py", main)

@@ -14,6 +14,8 @@ import time
 import unittest
 from typing import List, Tuple
 
+from kept_files import run_main
+
 TOP = os.path.dirname(os.path.dirname(os.path.abspath(__file__)))
 MISSING = [it for it in ("parallel", "cadical", "g++") if not shutil.which(it)]
 
@@ -204,4 +206,4 @@ class Cubes(unittest.TestCase):
 
 
 if __name__ == "__main__":
-    unittest.main(verbosity=2)
+    run_main("test_cubes.py", lambda _: unittest.main(verbosity=2))

@@ -33,6 +33,7 @@ from built import built  # noqa: E402
 from from_c.main import translation  # noqa: E402
 from from_c.refusal import Refusal  # noqa: E402
 from from_c.unit import Options  # noqa: E402
+from kept_files import run_main  # noqa: E402
 
 NATIVE = ["-std=gnu11", "-w", "-fwrapv", "-O0", "-pthread"]
 OBSERVE = re.compile(r"^(\s*)OBSERVE\((.*)\);$", re.M)
@@ -324,7 +325,11 @@ class Warned(Tests):
         self.assertEqual(recorded(text), ("finished", 0), text)
 
 
-if __name__ == "__main__":
+def main(_: List[str]) -> None:
     if not LACKS:
         print(f"test_fromc.py: translated programs are run by {PROGRAM or 'bench/machine.py'}", file=sys.stderr)
     unittest.main(verbosity=2 if LACKS else 1)
+
+
+if __name__ == "__main__":
+    run_main("test_fromc.py", main)

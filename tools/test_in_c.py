@@ -10,6 +10,7 @@ from typing import Dict, Iterator, Tuple
 TOP = os.path.dirname(os.path.dirname(os.path.abspath(__file__)))
 sys.path.insert(0, f"{TOP}/tools")
 import in_c  # noqa: E402
+from kept_files import run_main  # noqa: E402
 
 
 def shown() -> Iterator[Tuple[str, str, Dict[int, str]]]:
@@ -63,4 +64,4 @@ class Shown(unittest.TestCase):
 
 
 if __name__ == "__main__":
-    unittest.main()
+    run_main("test_in_c.py", lambda _: unittest.main())

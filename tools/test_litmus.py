@@ -22,6 +22,7 @@ import machine
 from from_litmus.logs import MODELS, Path, TooMany, combinations_of, functions_of, log_of, paths_of
 from from_litmus.programs import Program
 from from_litmus.source import Refused
+from kept_files import run_main
 
 ANY = "exists (x=1)"
 
@@ -489,4 +490,4 @@ class Table(unittest.TestCase):
 
 
 if __name__ == "__main__":
-    unittest.main()
+    run_main("test_litmus.py", lambda _: unittest.main())

@@ -8,6 +8,8 @@ import tempfile
 import unittest
 from pathlib import Path
 
+from kept_files import run_main
+
 SCRIPT = Path(__file__).resolve().parent / "pages"
 RIGHT = """# A page
 
@@ -50,7 +52,8 @@ class Pages(unittest.TestCase):
         self.top = Path(folder.name)
         (self.top / "tools").mkdir()
         (self.top / "docs").mkdir()
-        shutil.copy(SCRIPT, self.top / "tools")
+        for name in (SCRIPT, SCRIPT.parent / "built.py", SCRIPT.parent / "kept_files.py"):
+            shutil.copy(name, self.top / "tools")
         (self.top / "docs" / "other.md").write_text(OTHER)
         self.page = self.top / "docs" / "page.md"
 
@@ -87,6 +90,17 @@ class Pages(unittest.TestCase):
     def test_other_output(self):
         self.spoilt("\none\ntwo\n$ echo", "\none\n$ echo", "+two")
 
+    def test_what_varies(self):
+        """The part of a line that the pattern matches may be another, and no more."""
+        varying = RIGHT.replace("```\n$ cat", "<!-- varies: [0-9]+ s, -->\n\n```\n$ cat").replace("$ cat a.txt\none\ntwo\n", "$ echo 12 s, two\n3 s, two\n")
+        self.assertEqual(self.tried(varying)[0], 0)
+        status, text = self.tried(varying.replace("3 s, two", "3 s, one"))
+        self.assertEqual(status, 1, text)
+        self.assertIn("-one\n+two", text.replace("- ", "-").replace("+ ", "+"))
+
+    def test_varies_without_commands(self):
+        self.spoilt("<!-- file a.txt -->", "<!-- varies: x -->", "docs/page.md:7: this comment has no block, or none with commands")
+
     def test_missing_output(self):
         self.spoilt("\nfive\n", "\nsix\n", "-six")
 
@@ -109,4 +123,4 @@ class Pages(unittest.TestCase):
 
 
 if __name__ == "__main__":
-    unittest.main()
+    run_main("test_pages.py", lambda _: unittest.main())

@@ -12,6 +12,7 @@ from typing import Dict, List, Tuple
 
 sys.dont_write_bytecode = True
 import refutation
+from kept_files import run_main
 
 TOP = os.path.dirname(os.path.dirname(os.path.abspath(__file__)))
 Line = Tuple[List[int], List[int]]
@@ -172,4 +173,4 @@ class Made(unittest.TestCase):
 
 
 if __name__ == "__main__":
-    unittest.main()
+    run_main("test_refutation.py", lambda _: unittest.main())

@@ -14,6 +14,7 @@ from typing import Dict, List, Tuple
 
 sys.dont_write_bytecode = True
 import test_refutation
+from kept_files import run_main
 
 TOP = test_refutation.TOP
 Clauses = List[List[int]]
@@ -151,6 +152,20 @@ class Refute(unittest.TestCase):
             status, said = self.call("drat", *words, "sc", self.path("ours"))
             self.assertEqual((status, said), (2, "can't be used: /dev/zero: not a regular file\n"))
 
+    def test_an_output_that_is_an_input(self) -> None:
+        listed, proof = self.write_list(self.variables, self.clauses), self.write("proof", self.drat())
+        one = self.write("one", ["clap-piece 1 1 0", "a -1 0 2 4 0"])
+        os.link(one, self.path("link"))
+        os.symlink("proof", self.path("other"))
+        before = [self.read(name) for name in ("list", "proof", "one")]
+        for words in (["drat", listed, proof, "sc", proof], ["lrat", listed, proof, "sc", self.path("other")], ["split", listed, "1", listed],
+                      ["join", listed, "sc", self.path("link"), one], ["join", listed, "sc", listed, one]):
+            with self.subTest(words=words):
+                status, said = self.call(*words)
+                self.assertEqual(status, 2)
+                self.assertRegex(said, "can't be used: .* would be written over, and is an input; give the output another name\n")
+        self.assertEqual([self.read(name) for name in ("list", "proof", "one")], before)
+
     def test_a_full_disk(self) -> None:
         listed, proof = self.write_list(self.variables, self.clauses), self.write("proof", self.drat())
         os.symlink("/dev/full", self.path("full.part"))
@@ -270,4 +285,4 @@ class Refute(unittest.TestCase):
 
 
 if __name__ == "__main__":
-    unittest.main(verbosity=2)
+    run_main("test_refute.py", lambda _: unittest.main(verbosity=2))

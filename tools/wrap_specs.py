@@ -1,6 +1,9 @@
 #!/usr/bin/env python3
 """Breaks lines of definitions that have more than 100 columns. usage: wrap_specs.py CRATE.. (all if none), at the top of a checkout"""
 import glob, os, re, sys
+
+from kept_files import keep, run_main
+
 MOST = 100
 OPS = {"=": 0, "→": 1, "⊎": 2, "×": 2, "⇒": 1, "||": 3, "&&": 4, "then": 2, "else": 2, "in": 2, "↔": 2, "≡": 5, "++": 5, "∷": 6, "+": 7, ".": 9}
 def tokens(line):
@@ -57,6 +60,6 @@ def main():
             changed += len(made) > 1
             out += made
         new = "\n".join(out)
-        if new != "\n".join(lines): open(f, "w").write(new)
+        if new != "\n".join(lines): keep(f, new)
     print("broken", changed)
-main()
+if __name__ == "__main__": run_main("wrap_specs.py", lambda _: main())

@@ -4,6 +4,8 @@ import os
 import sys
 from typing import List, Tuple
 
+from kept_files import keep, refuse_clashes
+
 from . import checks, front
 from .printing import Printer
 from .refusal import Notes, Refusal
@@ -44,31 +46,23 @@ def words(arguments: List[str]) -> argparse.Namespace:
     return parser.parse_args(arguments)
 
 
-def write(path: str, text: str) -> None:
-    try:
-        with open(path, "w", encoding="utf-8", newline="\n") as file:
-            file.write(text)
-    except OSError as fault:
-        raise Refusal(None, f"{path} can't be written", fault.strerror or "") from None
-
-
 def main(arguments: List[str]) -> int:
     given = words(arguments)
+    refuse_clashes([given.file], [given.out, given.map])
     try:
         options = Options(given.model, given.left_to_right)
         text, lines, notes = translation(given.file, options, [f"-D{it}" for it in given.defines])
         if given.out:
-            write(given.out, text)
+            keep(given.out, text)
         else:
             sys.stdout.write(text)
         if given.map:
-            write(given.map, lines)
+            keep(given.map, lines)
     except Refusal as fault:
         print(f"fromc: {fault}", file=sys.stderr)
         return 1
     for line in notes.lines():
         print(f"fromc: {line}", file=sys.stderr)
     if given.out:
-        base = given.out[:-3] if given.out.endswith(".tc") else given.out
-        print(f"fromc: next: tools/seeds {given.out} {base}.log {base}.sched --model {given.model or 'tso'}", file=sys.stderr)
+        print(f"fromc: next: ./debug {given.out}{f' --model {given.model}' if given.model else ''}", file=sys.stderr)
     return 0

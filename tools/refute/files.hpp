@@ -23,6 +23,16 @@ struct Unusable : std::runtime_error {
     using std::runtime_error::runtime_error;
 };
 
+// Fails where a file that is read would be written over, also through links.
+inline void refuse_clash(const std::string& out, const std::vector<std::string>& inputs) {
+    struct stat written, read;
+    if (::stat(out.c_str(), &written) != 0 || !S_ISREG(written.st_mode)) return;
+    for (const std::string& input : inputs) {
+        if (::stat(input.c_str(), &read) == 0 && read.st_dev == written.st_dev && read.st_ino == written.st_ino)
+            throw Unusable(out + " would be written over, and is an input; give the output another name");
+    }
+}
+
 constexpr size_t BLOCK = 1 << 22;
 
 // An open file, closed at the end.

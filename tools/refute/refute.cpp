@@ -48,6 +48,7 @@ Clause read_cube(const std::vector<std::string>& words, int64_t variables) {
 // `Proof` is a kind of proof, whose lines may name the cube's clauses by numbers where it has numbers.
 template <typename Proof>
 Size convert(const std::vector<std::string>& words, bool has_numbers) {
+    refuse_clash(words[4], {words[1], words[2]});
     const List list(words[1]);
     const Clause cube = read_cube({words.begin() + 5, words.end()}, list.variables);
     Text text(words[4]);
@@ -68,6 +69,9 @@ Size convert(const std::vector<std::string>& words, bool has_numbers) {
 }
 
 Size join(const std::vector<std::string>& words) {
+    std::vector<std::string> inputs(words.begin() + 4, words.end());
+    inputs.push_back(words[1]);
+    refuse_clash(words[3], inputs);
     const List list(words[1]);
     Text text(words[3]);
     text.put(first_line(words[2]));
@@ -79,6 +83,7 @@ Size join(const std::vector<std::string>& words) {
 }
 
 void split(const std::vector<std::string>& words) {
+    refuse_clash(words[3], {words[1]});
     const List list(words[1]);
     const Clause cube = read_cube({words.begin() + 4, words.end()}, list.variables);
     const Questions questions(list);

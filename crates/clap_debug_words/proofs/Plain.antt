@@ -133,7 +133,7 @@ abbrev imported : Text → Text → Text → Text → Option Model → Called
 imported p l a o model = calls.Imports (record { asked = record { program = p; log = l; out = o; model = model }; answer = a })
 
 abbrev record_call : Text → Text → Option Text → Option Text → Option Text → Called
-record_call p l m n k = recorded p l (option_map_or model_in m Sc) (option_map_or (number_in 0 18446744073709551615 0) n 0)
+record_call p l m n k = recorded p l (option_map_or model_in m Tso) (option_map_or (number_in 0 18446744073709551615 0) n 0)
     (option_map_or (number_in 1 MOVES MOVES) k MOVES)
 
 settled_true : (t : Bool) → t ≡ true → ((t && true) && true) ≡ true
@@ -152,59 +152,59 @@ level_true passed ended defaults e f g = ap₂ (λ x y. (passed && (x && (y && t
 abbrev accepts_model : Text → Bool
 accepts_model = accepts false (parser.Names (lent_texts model_names))
 
-record_says : (w p l : Text) (m n k : Option Text) → IsPlainWord p → IsPlainWord l → accepts_model (codes "sc") ≡ true
+record_says : (w p l : Text) (m n k : Option Text) → IsPlainWord p → IsPlainWord l → accepts_model (codes "tso") ≡ true
     → Passes accepts_model m → Passes (is_unsigned_in 0 18446744073709551615) n → Passes (is_unsigned_in 1 MOVES) k
     → Says (w ∷ codes "record" ∷ p ∷ l ∷ (option_words (codes "--model") m ++ (option_words (codes "--seed") n ++ option_words (codes "--steps") k)))
     (record_call p l m n k)
 unfolding clap_on_literals
-record_says w p l (Some m) (Some n) (Some k) hp hl sc hm hn hk =
+record_says w p l (Some m) (Some n) (Some k) hp hl tso hm hn hk =
     let ms : List Marked = (true, p) ∷ (true, l) ∷ (false, codes "--model") ∷ (true, m) ∷ (false, codes "--seed") ∷ (true, n) ∷ (false, codes "--steps") ∷
     (true, k) ∷ [] in
     let plain : ArePlain ms = (hp, (hl, (hm.0, (hn.0, (hk.0, tt))))) in (
       ap (λ b. b && true) (level-marked (sub_at 2) ms plain) ∙ level_true _ _ _ (both_true _ _ (settled_true _ hm.1) (settled_true _ hn.1))
-          (ended_true _ hk.1) (settled_true _ sc),
+          (ended_true _ hk.1) (settled_true _ tso),
       ap (λ (rows : List Row). Some (called (codes "record", rows))) (rows-marked (sub_at 2) ms plain),
     )
-record_says w p l None (Some n) (Some k) hp hl sc hm hn hk =
+record_says w p l None (Some n) (Some k) hp hl tso hm hn hk =
     let ms : List Marked = (true, p) ∷ (true, l) ∷ (false, codes "--seed") ∷ (true, n) ∷ (false, codes "--steps") ∷ (true, k) ∷ [] in
     let plain : ArePlain ms = (hp, (hl, (hn.0, (hk.0, tt)))) in (
-      ap (λ b. b && true) (level-marked (sub_at 2) ms plain) ∙ level_true _ _ _ (ended_true _ (settled_true _ hn.1)) (ended_true _ hk.1) (settled_true _ sc),
+      ap (λ b. b && true) (level-marked (sub_at 2) ms plain) ∙ level_true _ _ _ (ended_true _ (settled_true _ hn.1)) (ended_true _ hk.1) (settled_true _ tso),
       ap (λ (rows : List Row). Some (called (codes "record", rows))) (rows-marked (sub_at 2) ms plain),
     )
-record_says w p l (Some m) None (Some k) hp hl sc hm hn hk =
+record_says w p l (Some m) None (Some k) hp hl tso hm hn hk =
     let ms : List Marked = (true, p) ∷ (true, l) ∷ (false, codes "--model") ∷ (true, m) ∷ (false, codes "--steps") ∷ (true, k) ∷ [] in
     let plain : ArePlain ms = (hp, (hl, (hm.0, (hk.0, tt)))) in (
-      ap (λ b. b && true) (level-marked (sub_at 2) ms plain) ∙ level_true _ _ _ (ended_true _ (settled_true _ hm.1)) (ended_true _ hk.1) (settled_true _ sc),
+      ap (λ b. b && true) (level-marked (sub_at 2) ms plain) ∙ level_true _ _ _ (ended_true _ (settled_true _ hm.1)) (ended_true _ hk.1) (settled_true _ tso),
       ap (λ (rows : List Row). Some (called (codes "record", rows))) (rows-marked (sub_at 2) ms plain),
     )
-record_says w p l None None (Some k) hp hl sc hm hn hk =
+record_says w p l None None (Some k) hp hl tso hm hn hk =
     let ms : List Marked = (true, p) ∷ (true, l) ∷ (false, codes "--steps") ∷ (true, k) ∷ [] in
     let plain : ArePlain ms = (hp, (hl, (hk.0, tt))) in (
-      ap (λ b. b && true) (level-marked (sub_at 2) ms plain) ∙ level_true true _ _ refl (ended_true _ hk.1) (settled_true _ sc),
+      ap (λ b. b && true) (level-marked (sub_at 2) ms plain) ∙ level_true true _ _ refl (ended_true _ hk.1) (settled_true _ tso),
       ap (λ (rows : List Row). Some (called (codes "record", rows))) (rows-marked (sub_at 2) ms plain),
     )
-record_says w p l (Some m) (Some n) None hp hl sc hm hn hk =
+record_says w p l (Some m) (Some n) None hp hl tso hm hn hk =
     let ms : List Marked = (true, p) ∷ (true, l) ∷ (false, codes "--model") ∷ (true, m) ∷ (false, codes "--seed") ∷ (true, n) ∷ [] in
     let plain : ArePlain ms = (hp, (hl, (hm.0, (hn.0, tt)))) in (
-      ap (λ b. b && true) (level-marked (sub_at 2) ms plain) ∙ level_true _ _ _ (ended_true _ (settled_true _ hm.1)) (ended_true _ hn.1) (settled_true _ sc),
+      ap (λ b. b && true) (level-marked (sub_at 2) ms plain) ∙ level_true _ _ _ (ended_true _ (settled_true _ hm.1)) (ended_true _ hn.1) (settled_true _ tso),
       ap (λ (rows : List Row). Some (called (codes "record", rows))) (rows-marked (sub_at 2) ms plain),
     )
-record_says w p l None (Some n) None hp hl sc hm hn hk =
+record_says w p l None (Some n) None hp hl tso hm hn hk =
     let ms : List Marked = (true, p) ∷ (true, l) ∷ (false, codes "--seed") ∷ (true, n) ∷ [] in
     let plain : ArePlain ms = (hp, (hl, (hn.0, tt))) in (
-      ap (λ b. b && true) (level-marked (sub_at 2) ms plain) ∙ level_true true _ _ refl (ended_true _ hn.1) (settled_true _ sc),
+      ap (λ b. b && true) (level-marked (sub_at 2) ms plain) ∙ level_true true _ _ refl (ended_true _ hn.1) (settled_true _ tso),
       ap (λ (rows : List Row). Some (called (codes "record", rows))) (rows-marked (sub_at 2) ms plain),
     )
-record_says w p l (Some m) None None hp hl sc hm hn hk =
+record_says w p l (Some m) None None hp hl tso hm hn hk =
     let ms : List Marked = (true, p) ∷ (true, l) ∷ (false, codes "--model") ∷ (true, m) ∷ [] in
     let plain : ArePlain ms = (hp, (hl, (hm.0, tt))) in (
-      ap (λ b. b && true) (level-marked (sub_at 2) ms plain) ∙ level_true true _ _ refl (ended_true _ hm.1) (settled_true _ sc),
+      ap (λ b. b && true) (level-marked (sub_at 2) ms plain) ∙ level_true true _ _ refl (ended_true _ hm.1) (settled_true _ tso),
       ap (λ (rows : List Row). Some (called (codes "record", rows))) (rows-marked (sub_at 2) ms plain),
     )
-record_says w p l None None None hp hl sc hm hn hk =
+record_says w p l None None None hp hl tso hm hn hk =
     let ms : List Marked = (true, p) ∷ (true, l) ∷ [] in
     let plain : ArePlain ms = (hp, (hl, tt)) in (
-      ap (λ b. b && true) (level-marked (sub_at 2) ms plain) ∙ level_true true true _ refl refl (settled_true _ sc),
+      ap (λ b. b && true) (level-marked (sub_at 2) ms plain) ∙ level_true true true _ refl refl (settled_true _ tso),
       ap (λ (rows : List Row). Some (called (codes "record", rows))) (rows-marked (sub_at 2) ms plain),
     )
 
@@ -322,7 +322,7 @@ names_model Sc = (record { no_dash = refl; no_end = refl }, refl, refl)
 names_model Tso = (record { no_dash = refl; no_end = refl }, refl, refl)
 names_model Pso = (record { no_dash = refl; no_end = refl }, refl, refl)
 
-model_written : (m : Option Model) → Passes accepts_model (option_map model_name m) × (option_map_or model_in (option_map model_name m) Sc ≡ unwrap_or m Sc)
+model_written : (m : Option Model) → Passes accepts_model (option_map model_name m) × (option_map_or model_in (option_map model_name m) Tso ≡ unwrap_or m Tso)
 model_written None = (tt, refl)
 model_written (Some m) = let f = names_model m in ((f.0, f.1), f.2)
 

@@ -22,8 +22,8 @@ accepts_name names t are = list_any-map (λ m. bytes_eq m t) (λ m. m.now) names
 
 quiet_subs : (names : ModelNames) → AreModelNames names → list_all has_quiet_rules (built (command_line_at names)).subs ≡ true
 quiet_subs names are =
-    let sc : accepts false (parser.Names names) (codes "sc") ≡ true = accepts_name names (codes "sc") are in
-    rw sc refl
+    let tso : accepts false (parser.Names names) (codes "tso") ≡ true = accepts_name names (codes "tso") are in
+    rw tso refl
 
 -- the places of the names don't matter
 takes_anywhere : (names : ModelNames) (words : List Text) → AreModelNames names → takes (command_line_at names) words ≡ takes command_line words

@@ -70,7 +70,7 @@ replay = of_log (codes "replay") (positional (codes "schedule") ∷ [])
 -- `record PROGRAM LOG [--model sc|tso|pso] [--seed N] [--steps N]`
 abbrev pub recording : ModelNames → Shape
 recording names = of_log (codes "record")
-    (option (codes "model") (model_name Sc) (parser.Names names)
+    (option (codes "model") (model_name Tso) (parser.Names names)
     ∷ option (codes "seed") (codes "0") (parser.Unsigned 0 last_seed)
     ∷ option (codes "steps") (codes "1000000") (parser.Unsigned 1 MOVES)
     ∷ [])

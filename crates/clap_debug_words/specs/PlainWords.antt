@@ -6,7 +6,7 @@ use Rattle.clap.specs.Words.{Text}
 use Rattle.memory_models.specs.declared.model.Model.{Model}
 use Rattle.memory_models.specs.Models.{model_name}
 use Rattle.tc_limits.specs.declared.limits.TheConstants.{BUDGET, MOVES}
-use Rattle.memory_models.specs.declared.model.Model.TheVariants.{Sc}
+use Rattle.memory_models.specs.declared.model.Model.TheVariants.{Tso}
 use Rattle.workload_command.specs.declared.workers.TheConstants.{WORKERS}
 use Rattle.log_tasks.specs.declared.budget.TheConstants.{USUAL_BUDGET}
 use Rattle.solve_command.specs.Calls.{Solve}
@@ -107,7 +107,7 @@ asked (Replays program log schedule) = calls.Replays program log schedule
 asked (Records program log model seed steps) = calls.Records (record {
   program = program;
   log = log;
-  model = unwrap_or model Sc;
+  model = unwrap_or model Tso;
   seed = unwrap_or seed 0;
   steps = unwrap_or steps MOVES;
 })

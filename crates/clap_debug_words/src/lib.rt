@@ -446,7 +446,7 @@ fn replay<'a>(alloc: Global) -> Result<Command<'a>, AllocError>
 fn recording<'a>(alloc: Global, names: &'a [&'a str]) -> Result<Command<'a>, AllocError>
     ensures { IfOk result (λ command. shape_of command ≡ spec.recording names.entry) }
 {
-    let model = option(alloc, "model", "sc", ValueParser::from(names));
+    let model = option(alloc, "model", "tso", ValueParser::from(names));
     let seed = option(alloc, "seed", "0", ValueParser::unsigned(0, u64::MAX));
     let steps = option(
         alloc,

@@ -3,15 +3,16 @@
 //! As a shelf and a sink, these don't report what they hold or wrote: for real files and standard
 //! output, that isn't known. [`read_up_to`] promises what a reader gives: `FileShelf` opens the
 //! file of a name and reads it that way, or keeps it open and reads once for each piece.
-//! [`write_whole`] promises what a writer has, if the writer reports that: `FileShelf` creates or
-//! truncates the file of a name and writes it that way, and so does `StdSink` with its writer. They
-//! count each failure, and terminate on every input.
+//! [`write_whole`] promises what a writer has, if the writer reports that: `FileShelf` writes the
+//! file of a name that way, as module `keeping` says, and `StdSink` its writer. They count each
+//! failure, and terminate on every input.
 ghost use Rattle.std.specs.Prelude.{◌≡◌, ◌≢◌, ◌+◌, ◌≤◌, ◌<◌, ◌⊎◌, length, take, IfOk, IfSome, IsSome, OnOk, IsErrOf, Err, None, ℕ};
 ghost use Rattle.std.specs.Io.KnownBytes.{Appends, Consumes, IsAtEnd};
 ghost use Rattle.tc_io.specs.Files.{GaveAtMost, ReadOn, file_tells, new_file_shelf};
 ghost use Rattle.tc_io.specs.Outside.{Gave, FailedToGive, WasTooLong, TookPart, Kept, KeptPart, GavePiece, FailedToGivePiece, without_reading, capped_sum};
 
 use crate::faults::{Access, Faults};
+use crate::keeping::keep_file;
 use crate::{FetchFault, KeepFault, OpenFault, PieceFault, PutFault, Shelf, Sink};
 use std::alloc::Global;
 use std::fs::{File, Files};
@@ -103,10 +104,10 @@ impl<R: Files + Drop> Shelf for FileShelf<R> {
         answer
     }
 
-    /// [`write_whole`] promises, for the open file, that an Ok leaves the bytes under the name, and
-    /// a failure a prefix of them or the old bytes. This call also opens the file, which creates or
-    /// truncates it. That the system does so, and keeps the bytes, isn't proved: no clause says it,
-    /// and only tests show it.
+    /// The bytes are written beside the file that has the name, which is then renamed over it, or in
+    /// place where [`keep_file`] says so. [`write_whole`] promises that an Ok leaves the bytes in the
+    /// file that was opened. That the system creates, keeps and renames it isn't proved: no clause
+    /// says it, and only tests show it.
     fn keep(&mut self, alloc: Global, name: &str, bytes: &[u8]) -> Result<(), KeepFault>
         ensures ok { OnOk result (Kept (file_tells self.old) (file_tells self.new) name.now bytes.now) }
         ensures failed { IsErrOf result KeepFault.Failed → KeptPart (file_tells self.old) (file_tells self.new) name.now bytes.now }
@@ -119,13 +120,11 @@ impl<R: Files + Drop> Shelf for FileShelf<R> {
         let Ok(copy) = String::from_str(alloc, name) else {
             return Err(KeepFault::Memory);
         };
-        if let Ok(mut file) = File::create(&self.files, name) {
-            if let Ok(()) = write_whole(&mut file, bytes) {
-                return Ok(());
-            }
+        let answer = keep_file(&self.files, alloc, name, bytes);
+        if let Err(KeepFault::Failed) = answer {
+            self.faults.add(Access::Write, copy);
         }
-        self.faults.add(Access::Write, copy);
-        Err(KeepFault::Failed)
+        answer
     }
 
     fn open(&mut self, alloc: Global, name: &str) -> Result<(), OpenFault> {

@@ -2,8 +2,9 @@
 //!
 //! A shelf gives the bytes of a name as a whole (a fetch), or piece by piece (an open reading).
 //!
-//! Module `files` has the system's files and its writers, and is trusted. Module `faults` counts the
-//! failed calls of a shelf. Shelves and sinks in memory are in `test_shelves`.
+//! Module `files` has the system's files and its writers, and is trusted; module `keeping` replaces
+//! such a file. Module `faults` counts the failed calls of a shelf. Shelves and sinks in memory are
+//! in `test_shelves`.
 #![tactic(auto)]
 
 ghost use Rattle.std.specs.Prelude.{◌≡◌, ◌≤◌, ◌<◌, length, take, is_some, IsSome, IfOk, OnOk, IsErrOf};
@@ -27,6 +28,7 @@ ghost use Rattle.tc_io.specs.Outside.{
 
 pub mod faults;
 pub mod files;
+mod keeping;
 
 use std::alloc::Global;
 
@@ -97,8 +99,8 @@ pub trait Shelf {
 
     /// Puts all of the bytes under a name, instead of its old bytes.
     ///
-    /// It copies the name first, so that a fault always has one. A keep that failed may have begun:
-    /// then the old bytes of the name are gone, and it has a prefix of the new ones.
+    /// It copies the name first, so that a fault always has one. After a keep that failed the name
+    /// has its old bytes, or a prefix of the new ones.
     fn keep(&mut self, alloc: Global, name: &str, bytes: &[u8]) -> Result<(), KeepFault>
         ensures ok { OnOk result (Kept (tells self.old) (tells self.new) name.now bytes.now) }
         ensures failed { IsErrOf result KeepFault.Failed → KeptPart (tells self.old) (tells self.new) name.now bytes.now }

@@ -2,10 +2,10 @@
 ghost use Rattle.std.specs.Prelude.{◌≤◌, IfOk};
 
 use std::alloc::{AllocError, Allocator, Global};
-use std::fs::{Metadata, OpenFile, OpenOptions};
+use std::fs::{Metadata, OpenFile, OpenOptions, Permissions};
 use std::io::{self, ErrorKind, SeekFrom};
 use std::mem::drop;
-use std::os::unix::fs::symlink;
+use std::os::unix::fs::{PermissionsExt, symlink};
 use std::process::Abort;
 use std::rt::Files;
 use std::time::SystemTime;
@@ -652,6 +652,59 @@ fn a_link_is_written_through(rt: HostRuntime) -> Result<(), test::Fail> {
     let mut shelf = FileShelf::new(rt.clone()?);
     let folder = own_folder(&rt, "link")?;
     let kept = links_in(&rt, &mut shelf, folder.as_str());
+    drop(folder);
+    drop(shelf);
+    Ok(kept?)
+}
+
+/// The mode of a file, without its type.
+fn mode_of(rt: &impl Files, name: &str) -> io::Result<u32> {
+    Ok(fs::metadata(rt, name)?.permissions().mode() & 0o777)
+}
+
+/// Keeps texts under the name of a file: first its own, and then one of its two. `left` is the name
+/// that the new file would have, and is taken.
+fn keeps_alike<H: Shelf>(
+    rt: &(impl Abort + AllocGlobal + Files + Clone + Drop),
+    shelf: &mut H,
+    folder: &str,
+    [name, left, other]: [&str; 3],
+) -> io::Result<()> {
+    fs::write(rt, name, "long text")?;
+    fs::write(rt, left, "left")?;
+    fs::set_permissions(rt, name, Permissions::from_mode(0o640))?;
+    keeps(rt, shelf, &[(name, "short", Ok(()))]);
+    assert!(rt; mode_of(rt, name)? == 0o640, "the mode stays");
+    fetches(rt, shelf, &[(name, 9, Ok("short")), (left, 9, Ok("left"))]);
+    fs::hard_link(rt, name, other)?;
+    keeps(rt, shelf, &[(other, "both", Ok(()))]);
+    fetches(rt, shelf, &[(name, 9, Ok("both")), (other, 9, Ok("both"))]);
+    holds(rt, folder, &["a", "a.new-0", "b"])?;
+    fs::remove_dir_all(rt, folder)
+}
+
+/// Keeps files that have a mode and two names in a folder, and then removes the folder.
+fn alike_in<H: Shelf>(
+    rt: &(impl Abort + AllocGlobal + Files + Clone + Drop),
+    shelf: &mut H,
+    folder: &str,
+) -> io::Result<()> {
+    let name = path_in(rt.alloc(), folder, "a")?;
+    let left = path_in(rt.alloc(), folder, "a.new-0")?;
+    let other = path_in(rt.alloc(), folder, "b")?;
+    let names = [name.as_str(), left.as_str(), other.as_str()];
+    let kept = keeps_alike(rt, shelf, folder, names);
+    drop(other);
+    drop(left);
+    drop(name);
+    kept
+}
+
+#[test]
+fn a_file_keeps_its_mode_and_its_names(rt: HostRuntime) -> Result<(), test::Fail> {
+    let mut shelf = FileShelf::new(rt.clone()?);
+    let folder = own_folder(&rt, "alike")?;
+    let kept = alike_in(&rt, &mut shelf, folder.as_str());
     drop(folder);
     drop(shelf);
     Ok(kept?)

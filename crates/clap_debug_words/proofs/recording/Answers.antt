@@ -8,8 +8,8 @@ use Rattle.clap_debug_words.proofs.recording.Goals as goal
 
 pub returns : goal.returns
 returns c =
-    let model_is : rule_of c.option-model.result ≡ spec.option (codes "model") (codes "sc") (parser.Names c.args.names) =
-    c.option-model.ensures.rule ∙ ap (spec.option (codes "model") (codes "sc")) c.from.ensures in
+    let model_is : rule_of c.option-model.result ≡ spec.option (codes "model") (codes "tso") (parser.Names c.args.names) =
+    c.option-model.ensures.rule ∙ ap (spec.option (codes "model") (codes "tso")) c.from.ensures in
     let seed_is : rule_of c.option-seed.result ≡ spec.option (codes "seed") (codes "0") (parser.Unsigned 0 18446744073709551615) =
     c.option-seed.ensures.rule ∙ ap (spec.option (codes "seed") (codes "0")) c.unsigned.ensures in
     let steps_is : rule_of c.option-steps.result ≡ spec.option (codes "steps") (codes "1000000") (parser.Unsigned 1 MOVES) =
