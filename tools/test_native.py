@@ -18,6 +18,7 @@ import sys
 import tempfile
 import time
 import unittest
+from pathlib import Path
 from typing import Callable, Dict, List, Tuple
 
 TOP = os.path.dirname(os.path.dirname(os.path.realpath(__file__)))
@@ -26,6 +27,7 @@ import machine  # noqa: E402
 from kept_files import run_main  # noqa: E402
 from native_trials import all_logs, faults, object_code, programs  # noqa: E402
 from native_trials.lab import TOOLS, End, Lab, Ran, plan, processors, told  # noqa: E402
+import native_cost  # noqa: E402
 
 MISSING = [what for what, is_there in (("x86-64", os.uname().machine == "x86_64"), ("gcc", shutil.which("gcc")),
                                        ("second processor", len(processors()) > 1)) if not is_there]
@@ -231,6 +233,53 @@ class Logs(Native):
         self.assertEqual({it.threads[()].outcomes for it in ends}, {"0"})
         for end in ends:
             lab.check(end)
+
+
+class Cost(Native):
+    """What bench/native_cost.py measures by."""
+
+    def compiled(self, text: str, hunts: bool) -> native_cost.Program:
+        return native_cost.compiled("p", self.lab(text).code, Path(self.room), hunts)
+
+    def test_what_is_recorded(self) -> None:
+        """One outcome that the code doesn't determine; the accesses of the thread, then main's; and the mutex as often as it is taken."""
+        program = self.compiled("int x; mutex m; thread f(int n) { while (n > 0) { lock(m); x = x + 1; unlock(m); n = n - 1; } } "
+                                "main { tid t; t = create f(1000); join(t); if (x == 1000) { x = 0; } }", hunts=False)
+        found = native_cost.measured(program, 2, PATIENCE)
+        self.assertEqual((found.paths[:3], found.order[:3]), ((1, 1, 3), (3002, 3002, 9)))
+        for way in native_cost.WAYS:
+            self.assertEqual(len(found.rounds[way.name]), 2)
+            self.assertTrue(all(it.processor > 0 and it.clock > 0 for it in found.rounds[way.name]), found)
+
+    def test_failures_are_counted(self) -> None:
+        for came in native_cost.hunted(self.compiled("int x; main { x = 1; assert(x == 2); }", hunts=True), 0.1):
+            self.assertGreater(came.runs, 0)
+            self.assertEqual(came.failures, came.runs)
+
+    def test_a_run_that_fails(self) -> None:
+        with self.assertRaisesRegex(native_cost.Refused, r"^p-0 is to make one run that ends well, and says: counts 1 1 0 0 0 "):
+            native_cost.measured(self.compiled("main { assert(0); }", hunts=False), 1, PATIENCE)
+
+    def test_lengths(self) -> None:
+        for entries, runs in ((b"", 0), (b"\0", 1), (b"\n\n\0", 2), (b"\1" * 65535, 1), (b"\1" * 65536 + b"\0", 3)):
+            with self.subTest(entries=len(entries)):
+                self.assertEqual((native_cost.bytes_of_accesses(entries), native_cost.bytes_of_outcomes(entries)),
+                                 (3 * runs, 2 * runs + (1 if entries else 0)))
+
+    def test_tables(self) -> None:
+        took = [native_cost.Took(*it) for it in ((1, 2), (1.5, 2.4), (3, 2), (2, 4))]
+        sizes = native_cost.Size(16, 2, 3, 9), native_cost.Size(1000, 1000, 6, 12)
+        found = [native_cost.Measured("p", {way.name: [it] for way, it in zip(native_cost.WAYS, took)}, *sizes)]
+        self.assertEqual(native_cost.cost(found)[2:], [
+            "| p | 1,000 | 1.50 | 1.20 | 2 | 3 | 2.0 | 2.0 | mutex | 1,000 | 6 |", "| geometric mean |  | 1.50 | 1.20 |  |  | 2.0 | 2.0 |  |  |  |",
+            "", "On average paths save 50 percent of the processor time that recording the order adds, 80 percent of what it adds by the clock, "
+            "and 100 percent of the bytes of the raw log."])
+        self.assertEqual(native_cost.times(found)[3], "| p | paths | 1 | 1,500.00 (1,500.00 to 1,500.00) | 1.50 (1.50 to 1.50) | 1.20 (1.20 to 1.20) |")
+        self.assertEqual(native_cost.sizes(found)[2:], ["| p | 16 | 2 | 3 | 9 | 1,000 | 1,000 | 6 | 12 |"])
+        self.assertEqual(native_cost.Hidden(200, 3).shown(), "3 of 200 (1.50 %)")
+
+    def test_pages_have_places(self) -> None:
+        native_cost.refuse_pages_without_places()
 
 
 @unittest.skipIf(MISSING, WHY)

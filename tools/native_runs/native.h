@@ -544,7 +544,7 @@ static void print_cost(double wall) {
 #ifdef DUMP
 static void dump(int number, const uint8_t *begin, size_t count) {
     char name[4096];
-    snprintf(name, sizeof name, DUMP ".%d", number);
+    snprintf(name, sizeof name, "%s.%d", DUMP, number);
     FILE *file = fopen(name, "w");
     if (!file || fwrite(begin, 1, count, file) != count || fclose(file)) give_up("can't dump");
 }
