@@ -204,6 +204,11 @@ def use_kit() -> bool:
     return folder is not None
 
 
+def no_program() -> str:
+    """Why an installed program can't be found, and what to do."""
+    return f"there is no program in {OUT}; install it again"
+
+
 def build(program: str) -> str:
     """The program of this name, built first where it isn't. Where it can't be built, that was said, and the caller ends with 125."""
     found = built(program)
@@ -211,6 +216,8 @@ def build(program: str) -> str:
         import build as builder
         builder.main([])
         found = built(program)
+    elif found is None:
+        print(f"{program}: {no_program()}", file=sys.stderr)
     if found is None:
         sys.exit(125)
     return found

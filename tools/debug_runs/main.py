@@ -5,15 +5,13 @@ import signal
 import sys
 from typing import Dict, List, Optional, Set, Union
 
-from built import TOP
-
 from . import lines, objects
 from .answers import KINDS, Answer, Excluded, Found, Native, Old, Question
 from .asking import Asking
 from .faults import Broken, Refused
 from .folder import Folder
 from .old import OldLog
-from .programs import load
+from .programs import load, no_proof
 from .session import Session
 from .source import read
 from .table import Table
@@ -124,7 +122,7 @@ def debug(words: Words) -> int:
         programs = load()
         source = read(words, folder, programs)
         if not programs.are_proved and not words.is_quiet and os.environ.get("CLAP_DEBUG_QUIET") != "1":
-            print(f"debug: not proved yet; {TOP}/prove proves the programs, in about an hour", file=sys.stderr)
+            print(f"debug: not proved yet; {no_proof()}", file=sys.stderr)
         shows_progress = sys.stderr.isatty() and not words.is_quiet
         slots = [*words.models, *([NATIVELY] if "tso" in words.models else []), *([OLD] if words.log else [])]
         table = Table(slots, words.is_json, shows_progress)

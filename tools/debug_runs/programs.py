@@ -3,7 +3,7 @@ import os
 import re
 from typing import List, NamedTuple, Optional
 
-from built import TOP, build, proved
+from built import TOP, build, is_checkout, proved
 
 from .faults import Broken, Refused
 from .running import Done, run
@@ -36,13 +36,18 @@ def is_proved(name: str, program: str) -> bool:
     return found is not None and os.path.realpath(found) == os.path.realpath(program)
 
 
+def no_proof() -> str:
+    """What is said where the programs aren't proved: an installed copy has nothing that could prove them."""
+    return f"{TOP}/prove proves the programs, in an hour or more" if is_checkout() else "the programs were installed without their proof"
+
+
 def load() -> Programs:
     """The three programs, built where they aren't yet."""
     names = ("clap_debug", "clap_debug_find", "clap_debug_show")
     try:
         found = [os.path.abspath(build(name)) for name in names]
     except SystemExit:
-        raise Refused("a program can't be built; the lines above say why") from None
+        raise Refused("a program is missing; the lines above say why") from None
     for name, program in zip(names, found):
         if not os.access(program, os.X_OK):
             raise Refused(f"there is no program {program}: {name.upper()} in the environment names it")
