@@ -233,10 +233,35 @@ def wrong_file(kind, name):
 
 def wrong_output(name):
     """Why nothing can be kept under the name of an output."""
-    folder = os.path.dirname(name) or "."
+    folder = os.path.dirname(os.path.realpath(name) if os.path.islink(name) else name) or "."
     if os.path.isdir(name):
         return f"{name} is a folder"
-    return None if os.path.isdir(folder) else f"there is no folder {folder}"
+    if not os.path.isdir(folder):
+        return f"there is no folder {folder}"
+    if is_full(folder) and is_replaced(name, folder):
+        return f"the disk of {name} is full"
+    return forbidden(name, folder)
+
+
+def forbidden(name, folder):
+    """Why the system doesn't let us write a file, or make it in its folder."""
+    if os.path.exists(name):
+        return None if os.access(name, os.W_OK) else f"{name} can't be written: no permission"
+    return None if os.access(folder, os.W_OK | os.X_OK) else f"{name} can't be made: its folder {folder} can't be written"
+
+
+def is_replaced(name, folder):
+    """Whether a new file takes the name, so that the disk must have room for it beside the old one. (docs/FORMATS.md says what is
+    written in place.)"""
+    if os.path.abspath(name).startswith(("/dev/", "/proc/")) or not os.access(folder, os.W_OK | os.X_OK):
+        return False
+    return not os.path.exists(name) or os.path.isfile(name) and os.stat(name).st_nlink == 1 and os.access(name, os.W_OK)
+
+
+def is_full(folder):
+    """Whether the disk has no block that this user may take. (What isn't a disk, as /proc, has no blocks at all.)"""
+    disk = os.statvfs(folder)
+    return disk.f_blocks > 0 and (disk.f_bfree if os.geteuid() == 0 else disk.f_bavail) == 0
 
 
 def wrong_files(program, words):

@@ -416,6 +416,20 @@ class Refusals(Tests):
         self.assertEqual(came.returncode, 2, came)
         self.assertRegex(came.stderr, r"^debug: it can't start with this Python, \S+: ModuleNotFoundError: ")
 
+    def test_full_disk(self) -> None:
+        """A write that the system refused, with its reason."""
+        self.file("p.tc", LOCK)
+        disk = f"{self.room}/disk"
+        os.mkdir(disk)
+        if subprocess.run(["mount", "-t", "tmpfs", "-o", "size=64k", "none", disk], capture_output=True, check=False).returncode:
+            self.skipTest("no file system can be mounted here")
+        self.addCleanup(subprocess.run, ["umount", disk], check=True)
+        fails = self.script("find", 'echo "write fault: $2"; exit 8')
+        words = ["p.tc", "--model", "sc", "--out", "disk/out"]
+        self.assertRegex(self.debug(*words, CLAP_DEBUG_FIND=fails).errors, r"debug: find says: write fault: \.new-\w+/p\.sc\S*\n\Z")
+        fills = self.script("find", 'cat /dev/zero >rest 2>/dev/null; echo "write fault: $2"; exit 8')
+        self.refused(", since the disk of disk/out/.new-", *words, CLAP_DEBUG_FIND=fills)
+
     def test_certificate_that_is_refused(self) -> None:
         self.file("p.tc", MENDED)
         wrong = self.script("find", f'case "$*" in *--check*) echo "line 2 refused"; exit 1 ;; esac\nexec {BUILT["CLAP_DEBUG_FIND"]} "$@"')

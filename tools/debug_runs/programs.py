@@ -3,6 +3,7 @@ import os
 import re
 from typing import List, NamedTuple, Optional
 
+import hint
 from built import TOP, build, is_checkout, proved
 
 from .faults import Broken, Refused
@@ -60,9 +61,19 @@ def answer(done: Done, pattern: str, words: List[str]) -> "re.Match[str]":
     if found:
         return found
     if REFUSALS.match(done.line):
-        raise Refused(f"{os.path.basename(words[0])} says: {done.line}")
+        raise Refused(f"{os.path.basename(words[0])} says: {done.line}{why_unwritten(done)}")
     said = done.line or (done.errors.strip().splitlines() or ["nothing"])[-1]
     raise Broken(f"{os.path.basename(words[0])} ended with status {done.status} and said: {said}")
+
+
+def why_unwritten(done: Done) -> str:
+    """Why the system refused a write, where that is still to be seen."""
+    name = re.fullmatch("write fault: (.+)", done.line)
+    try:
+        why = hint.wrong_output(os.path.join(done.folder, name[1])) if name else None
+    except OSError:
+        return ""
+    return f", since {why}" if why else ""
 
 
 async def ask(words: List[str], pattern: str, folder: str) -> "re.Match[str]":

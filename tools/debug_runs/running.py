@@ -16,9 +16,10 @@ LONGEST_POLL = 0.05
 
 
 class Done(NamedTuple):
-    """What became of a command: its status, or None where its time ended first, what it printed, and its seconds: of the processor, and
-    by the clock."""
+    """What became of a command: the folder that it ran in, its status, or None where its time ended first, what it printed, and its
+    seconds: of the processor, and by the clock."""
 
+    folder: str
     status: Optional[int]
     out: str
     errors: str
@@ -66,7 +67,7 @@ async def run(words: List[str], folder: str, seconds: float) -> Done:
         finally:
             kill(process)
         status = None if used is None or process.returncode == -signal.SIGXCPU else process.returncode
-        return Done(status, text_of(out), text_of(errors), used or seconds, time.monotonic() - start)
+        return Done(folder, status, text_of(out), text_of(errors), used or seconds, time.monotonic() - start)
 
 
 def limit(process: "subprocess.Popen[bytes]", seconds: float) -> None:
