@@ -98,6 +98,14 @@ class Pages(unittest.TestCase):
         self.assertEqual(status, 1, text)
         self.assertIn("-one\n+two", text.replace("- ", "-").replace("+ ", "+"))
 
+    def test_pattern_that_is_none(self):
+        """It is said in a line, and all other blocks are tried."""
+        status, text = self.tried(RIGHT.replace("```\n$ cat", "<!-- varies: [0-9 -->\n\n```\n$ cat").replace("$ true", "$ false"))
+        lines = text.split("\n")
+        self.assertEqual((status, lines[0]), (1, "docs/page.md:12: the pattern [0-9 is no regular expression: unterminated character set at "
+                                                 "position 0"), text)
+        self.assertIn("docs/page.md:24: $ false\nends with status 1\n1 pages: 3 links, 1 wrong; 1 commands, 1 print something else; 2 blocks", text)
+
     def test_varies_without_commands(self):
         self.spoilt("<!-- file a.txt -->", "<!-- varies: x -->", "docs/page.md:7: this comment has no block, or none with commands")
 
