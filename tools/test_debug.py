@@ -166,13 +166,22 @@ class Tests(unittest.TestCase):
         self.assertEqual((came.status, came.out), (2, ""), came)
         self.assertIn(said, came.errors)
         self.assertNotIn("Traceback", came.errors)
-        self.assertNotIn("mistake of ./debug", came.errors)
+        self.assertNotIn("a fault of this script", came.errors)
 
     def line(self, came: Came, label: str) -> str:
         """The one line with this label."""
         found = [it for it in came.out.splitlines() if it.startswith(f"{label} ")]
         self.assertEqual(len(found), 1, came)
         return found[0][10:]
+
+    def mounted(self, name: str) -> str:
+        """A folder with a file system of 64 kilobytes."""
+        folder = f"{self.room}/{name}"
+        os.mkdir(folder)
+        if subprocess.run(["mount", "-t", "tmpfs", "-o", "size=64k", "none", folder], capture_output=True, check=False).returncode:
+            self.skipTest("no file system can be mounted here")
+        self.addCleanup(subprocess.run, ["umount", folder], check=True)
+        return folder
 
     def kept(self, folder: str) -> List[str]:
         return sorted(it for it in os.listdir(os.path.join(self.room, folder)) if not it.startswith("."))
@@ -393,6 +402,29 @@ class Refusals(Tests):
         self.assertEqual(self.kept("mine"), ["diary"])
         self.refused("p.tc can't be used for the results: ", "p.tc", "--out", "p.tc")
 
+    def test_mark_that_is_a_link(self) -> None:
+        """A link in the place of the mark makes no folder ours, and isn't followed."""
+        self.file("p.tc", LOCK)
+        self.file("mine", "diary\n")
+        os.mkdir(f"{self.room}/out")
+        os.symlink("../mine", f"{self.room}/out/.made-by-debug")
+        self.file("out/diary", "dear")
+        self.refused("out has files that ./debug didn't make; name another folder with --out", "p.tc", "--out", "out")
+        self.assertEqual(self.kept("out"), ["diary"])
+        with open(f"{self.room}/mine", encoding="utf-8") as file:
+            self.assertEqual(file.read(), "diary\n")
+
+    def test_no_room(self) -> None:
+        """On a full disk it says so, leaves nothing half written, and uses the folder once there is room."""
+        self.file("p.tc", LOCK)
+        self.mounted("disk")
+        self.assertRaises(OSError, self.file, "disk/rest", "x" * 2**17)
+        self.refused("p.tc can't be written: No space left on device", "p.tc", "--out", "disk/out")
+        self.assertEqual(os.listdir(f"{self.room}/disk/out"), [".made-by-debug"])
+        os.remove(f"{self.room}/disk/rest")
+        self.refused("false ended with status 1 and said: nothing", "p.tc", "--out", "disk/out", CLAP_DEBUG_FIND="/bin/false")
+        self.assertEqual(self.kept("disk/out"), ["p.tc"])
+
     def test_input_in_the_folder(self) -> None:
         self.file("p.tc", MENDED)
         self.assertEqual(self.debug("p.tc", "--model", "sc").status, 0)
@@ -419,15 +451,11 @@ class Refusals(Tests):
     def test_full_disk(self) -> None:
         """A write that the system refused, with its reason."""
         self.file("p.tc", LOCK)
-        disk = f"{self.room}/disk"
-        os.mkdir(disk)
-        if subprocess.run(["mount", "-t", "tmpfs", "-o", "size=64k", "none", disk], capture_output=True, check=False).returncode:
-            self.skipTest("no file system can be mounted here")
-        self.addCleanup(subprocess.run, ["umount", disk], check=True)
+        self.mounted("disk")
         fails = self.script("find", 'echo "write fault: $2"; exit 8')
         words = ["p.tc", "--model", "sc", "--out", "disk/out"]
         self.assertRegex(self.debug(*words, CLAP_DEBUG_FIND=fails).errors, r"debug: find says: write fault: \.new-\w+/p\.sc\S*\n\Z")
-        fills = self.script("find", 'cat /dev/zero >rest 2>/dev/null; echo "write fault: $2"; exit 8')
+        fills = self.script("find", 'cat /dev/zero >>rest 2>/dev/null; echo "write fault: $2"; exit 8')
         self.refused(", since the disk of disk/out/.new-", *words, CLAP_DEBUG_FIND=fills)
 
     def test_certificate_that_is_refused(self) -> None:

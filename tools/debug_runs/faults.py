@@ -1,8 +1,7 @@
 """What ends ./debug without an answer."""
+from kept_files import Refused
 
-
-class Refused(Exception):
-    """Words or files that can't be used: what is wrong, where, and what to do."""
+__all__ = ["Broken", "Refused"]
 
 
 class Broken(Exception):

@@ -5,6 +5,8 @@ import signal
 import sys
 from typing import Dict, List, Optional, Set, Union
 
+from kept_files import reason
+
 from . import lines, objects
 from .answers import KINDS, Answer, Excluded, Found, Native, Old, Question
 from .asking import Asking
@@ -147,9 +149,6 @@ def main(arguments: List[str]) -> int:
         # (The reader of the output is gone: what is still to be written goes nowhere.)
         os.dup2(os.open(os.devnull, os.O_WRONLY), sys.stdout.fileno())
         return WRONG
-    except OSError as fault:
-        print(f"debug: {fault.filename or 'a file'}: {fault.strerror}", file=sys.stderr)
-        return WRONG
     except Exception as fault:  # pylint: disable=broad-except
-        print(f"debug: this is a mistake of ./debug: {type(fault).__name__}: {fault}", file=sys.stderr)
+        print(f"debug: {reason(fault)[0]}", file=sys.stderr)
         return WRONG
