@@ -25,7 +25,7 @@ PROGRAM = built("clap_debug")
 HAS_PYCPARSER = importlib.util.find_spec("pycparser") is not None
 OLD = "the old file\n"
 # Scripts that become another program or have no `main`.
-OTHERS = ("tools/hint.py", "tools/run", "tools/fewer_edges.py")
+OTHERS = ("tools/hint.py", "tools/run")
 # The words of calls of scripts, with the roles of their files: I is an input, O an output.
 CALLS: Dict[str, List[str]] = {
     "tools/fromc": ["I", "-o", "O", "--map", "O"],

@@ -1,8 +1,8 @@
 #!/usr/bin/env python3
 """Breaks lines of definitions that have more than 100 columns. usage: wrap_specs.py CRATE.. (all if none), at the top of a checkout"""
-import glob, os, re, sys
+import argparse, glob, os, re
 
-from kept_files import keep, run_main
+from kept_files import Refused, keep, run_main
 
 MOST = 100
 OPS = {"=": 0, "→": 1, "⊎": 2, "×": 2, "⇒": 1, "||": 3, "&&": 4, "then": 2, "else": 2, "in": 2, "↔": 2, "≡": 5, "++": 5, "∷": 6, "+": 7, ".": 9}
@@ -45,10 +45,15 @@ def wrap(line, indent, first):
     head, tail = line[:at].rstrip(), line[at:].lstrip()
     indent += 4 if depth > 0 and not first else 0
     return [head, *wrap(" " * indent + tail, indent, False)]
-def main():
+def main(words):
+    parser = argparse.ArgumentParser(prog="wrap_specs.py", description=__doc__)
+    parser.add_argument("crates", metavar="CRATE", nargs="*")
+    crates = parser.parse_args(words).crates
+    for it in crates:
+        if not os.path.isdir(f"crates/{it}"): raise Refused(f"there is no crate {it} in crates/ here")
     changed = 0
     for f in sorted(glob.glob("crates/*/specs/**/*.antt", recursive=True)):
-        if sys.argv[1:] and f.split("/")[1] not in sys.argv[1:]: continue
+        if crates and f.split("/")[1] not in crates: continue
         lines, out, head = open(f).read().split("\n"), [], 0
         for l in lines:
             s = l.lstrip(" "); own = len(l) - len(s)
@@ -62,4 +67,4 @@ def main():
         new = "\n".join(out)
         if new != "\n".join(lines): keep(f, new)
     print("broken", changed)
-if __name__ == "__main__": run_main("wrap_specs.py", lambda _: main())
+if __name__ == "__main__": run_main("wrap_specs.py", main)
