@@ -6,6 +6,7 @@ silent.
 
 CLAP_DEBUG, CLAP_DEBUG_FIND and CLAP_DEBUG_SHOW may name built programs; else this checkout's are used, and built if need be. Tests of C
 want gcc and pycparser, and are skipped by name without them."""
+import asyncio
 import importlib.util
 import json
 import os
@@ -18,15 +19,21 @@ import sys
 import tempfile
 import time
 import unittest
-from typing import Any, Dict, List, NamedTuple
+from typing import Any, Callable, Dict, List, NamedTuple, Tuple
+from unittest import mock
 
 sys.dont_write_bytecode = True
 TOP = os.path.dirname(os.path.dirname(os.path.abspath(__file__)))
 sys.path.insert(0, f"{TOP}/tools")
 from built import build  # noqa: E402
 from debug_runs import lines, reasons  # noqa: E402
-from debug_runs.answers import KINDS, Excluded, Question  # noqa: E402
-from debug_runs.source import CELL  # noqa: E402
+from debug_runs.answers import KINDS, Excluded, Question, Unsolved  # noqa: E402
+from debug_runs.asking import Asking  # noqa: E402
+from debug_runs.folder import Folder  # noqa: E402
+from debug_runs.programs import Programs  # noqa: E402
+from debug_runs.running import Done  # noqa: E402
+from debug_runs.session import Session  # noqa: E402
+from debug_runs.source import CELL, Source  # noqa: E402
 from kept_files import run_main  # noqa: E402
 
 NAMES = ("clap_debug", "clap_debug_find", "clap_debug_show")
@@ -290,6 +297,74 @@ class Answers(Tests):
         slow = self.script("solve", f'case "$*" in *--least*) exec sleep 1000 ;; esac\nexec {BUILT["CLAP_DEBUG"]} "$@"')
         came = self.debug("p.tc", "--model", "sc", "--seconds", "3", CLAP_DEBUG=slow)
         self.assertRegex(self.line(came, "sc"), r"^fails at line 19: \d+ moves, \d+ switches, maybe fewer +p.sc.html$")
+
+
+class Asked(Tests):
+    """How long each question is asked, and in which order: searches are stood in for, and what they find is solved at once."""
+
+    def asked(self, seconds: float, says: Callable[[str, str], str]) -> Tuple[List[Tuple[str, str, float]], Dict[Question, Any]]:
+        """The model, the kind and the seconds of each search in their order, and the answers. `says` gives the line of a search, or
+        nothing where it comes to no end."""
+        calls = []
+
+        async def run(words: List[str], folder: str, seconds: float) -> Done:
+            await asyncio.sleep(0)
+            if "--check" in words:
+                return Done(folder, 0, "accepted, none\n", "", 0, 0)
+            calls.append((words[4], "deadlock" if "--deadlock" in words else "failure", seconds))
+            line = says(*calls[-1][:2])
+            if line:
+                self.file(f"out/{words[2]}", "")
+            return Done(folder, 0 if line else None, f"{line}\n", "", 0.25 if line else seconds, seconds)
+
+        async def reproduce(session: Session, log: str, model: str, stem: str) -> Unsolved:
+            return Unsolved(f"{log} under {model}", "")
+
+        async def answers() -> Dict[Question, Any]:
+            asking = Asking(Session(Programs("", "", "", False), folder, source, seconds, "more"), ["sc", "tso", "pso"], None)
+            return {question: await task for question, task in asking.answers.items()}
+
+        source, folder = Source("p.tc", "p", frozenset(), b"", None), Folder(f"{self.room}/out", [])
+        self.addCleanup(folder.close)
+        with mock.patch.dict(os.environ, NO_NATIVE), mock.patch("debug_runs.search.run", run), mock.patch("debug_runs.asking.reproduce", reproduce):
+            return calls, asyncio.run(answers())
+
+    ALL = {(model, kind) for model in ("sc", "tso", "pso") for kind in KINDS}
+
+    def test_first_seconds_come_first(self) -> None:
+        """No question is asked for longer until each was asked for five seconds; together it is the time that was given."""
+        calls, answers = self.asked(20, lambda *_: "")
+        self.assertEqual({it[:2] for it in calls[:6]}, self.ALL)
+        self.assertEqual({it[:2] for it in calls[6:]}, self.ALL)
+        self.assertEqual([it[2] for it in calls], [5.0] * 6 + [15.0] * 6)
+        self.assertEqual({it.why for it in answers.values()}, {"no answer in 20 seconds"})
+
+    def test_little_time(self) -> None:
+        calls, answers = self.asked(2, lambda *_: "")
+        self.assertEqual([it[2] for it in calls], [2] * 6)
+        self.assertEqual({(it.why, it.cure) for it in answers.values()}, {("no answer in 2 seconds", "more")})
+
+    def test_what_is_known_after_the_first_seconds(self) -> None:
+        """A run that is found in them answers for the models that allow more, and for no deadlock more time is needed then."""
+        calls, answers = self.asked(20, lambda model, kind: "found after 3 logs" if (model, kind) == ("sc", "failure") else "")
+        self.assertEqual(({it[:2] for it in calls}, len(calls)), (self.ALL, 6))
+        self.assertEqual([answers[Question(model, "failure")].run.why for model in ("sc", "tso", "pso")],
+                         ["p.sc.log under sc", "p.sc.log under tso", "p.sc.log under pso"])
+        self.assertEqual({(answers[Question(model, "deadlock")].why, answers[Question(model, "deadlock")].cure) for model in ("sc", "tso", "pso")},
+                         {("no answer in 5 seconds", "mend what fails, and ask again")})
+
+    def test_rising_bounds(self) -> None:
+        """Each search begins with few outcomes and goes on where it was."""
+        answered = []
+
+        def says(model: str, kind: str) -> str:
+            answered.append((model, kind))
+            times = answered.count((model, kind))
+            return "" if times == 3 else "none in 9 logs" if times == 5 else "none in 9 logs, 3 outcomes"
+
+        calls, answers = self.asked(20, says)
+        self.assertEqual([it[2] for it in calls if it[:2] == ("sc", "failure")], [5, 4.75, 4.5, 15, 14.75])
+        self.assertEqual({(it.outcomes, it.beyond) for it in answers.values()}, {(None, None)})
 
 
 class Order(Tests):

@@ -2,18 +2,18 @@
 import asyncio
 import os
 import time
-from typing import Any, Dict, List, NamedTuple, Optional, Union
+from typing import Any, Dict, List, NamedTuple, Optional, Set, Union
 
 from .answers import DEADLOCK, FAILURE, MODELS, Answer, Excluded, Found, Native, Old, Open, Question, Run, Unsolved
 from .faults import Broken
 from .native import run_natively
 from .old import OldLog
 from .reproduce import reproduce
-from .search import Possible, search, stem
+from .search import Search, stem
 from .session import Session
 
-# How long a deadlock is looked for under a model under which some run fails.
-SECONDS_BESIDE_FAILURE = 5.0
+# How long each question is asked before any is asked for longer.
+FIRST_SECONDS = 5.0
 MEND = "mend what fails, and ask again"
 KIND_OF_NATIVE = {"failed": FAILURE, "deadlock": DEADLOCK}
 
@@ -35,6 +35,10 @@ class Asking:
         self.room = asyncio.Semaphore(len(os.sched_getaffinity(0)))
         self.native: Optional["asyncio.Task[Native]"] = None
         self.answers: Dict[Question, "asyncio.Task[Answer]"] = {}
+        # The log of each run that was found, and the questions that haven't had their first seconds yet.
+        self.logs: Dict[Question, str] = {}
+        self.unasked: Set[Question] = set()
+        self.all_were_asked = asyncio.Event()
         for model in models:
             self.begin(Question(model, FAILURE))
         if "tso" in models:
@@ -44,6 +48,7 @@ class Asking:
         self.old = asyncio.ensure_future(self.try_old(log)) if log else None
 
     def begin(self, question: Question) -> None:
+        self.unasked.add(question)
         self.answers[question] = asyncio.ensure_future(self.decide(question))
 
     def tasks(self) -> "List[asyncio.Task[Any]]":
@@ -76,58 +81,90 @@ class Asking:
             return await run_natively(self.session)
 
     async def decide(self, question: Question) -> Answer:
-        """The answer of a search. Where that isn't about all runs, a log that was found elsewhere may be."""
-        start = time.monotonic()
-        came = await self.searched(question)
-        if isinstance(came, Possible):
-            return await self.found(question, self.session.folder.keep_as(came.draft, f"{stem(self.session, question)}.log"), start)
-        if isinstance(came, Excluded) and came.outcomes is None:
+        """The answer of a search, or by a log that was found elsewhere where the search isn't about all runs. The search goes on after
+        its first seconds only if no such log is known by then, and for a deadlock only if no run is found that fails."""
+        search = Search(self.session, question)
+        await self.ask_shortly(search)
+        early = None if search.is_over else await self.tried(search, self.known_by_now(question))
+        if early:
+            return early
+        is_beside = not search.is_decided and await self.is_beside_failure(question)
+        if not is_beside:
+            await self.ask(search, search.left)
+        if search.possible:
+            return await self.found(search)
+        came = await self.judged(search)
+        if search.is_decided:
             return came
-        known = await self.known(question)
-        return await self.tried(question, known, came, start) if known else came
+        return await self.tried(search, await self.known(question)) or (beside_failure(came) if is_beside else came)
 
-    async def searched(self, question: Question) -> Union[Possible, Excluded, Open]:
-        """What a search says. A deadlock is looked for shortly at first, and for the whole time only if no run is found that fails."""
-        if question.kind == FAILURE:
-            return await self.search(self.session, question)
-        short = self.session._replace(seconds=min(self.session.seconds, SECONDS_BESIDE_FAILURE))
-        came = await self.search(short, question)
-        if isinstance(came, Possible) or isinstance(came, Excluded) and came.beyond is None:
-            return came
-        if isinstance(await asyncio.shield(self.answers[Question(question.model, FAILURE)]), Found):
-            return beside_failure(came)
-        return came if short.seconds == self.session.seconds else await self.search(self.session, question)
-
-    async def search(self, session: Session, question: Question) -> Union[Possible, Excluded, Open]:
+    async def ask(self, search: Search, seconds: float) -> None:
+        """Searches for so many seconds, unless the search is over, and keeps the log that is found."""
+        if search.is_over:
+            return
         async with self.room:
-            return await search(session, question)
+            await search.go_on(seconds)
+        if search.possible:
+            self.logs[search.question] = self.session.folder.keep_as(search.possible.draft, f"{stem(self.session, search.question)}.log")
 
-    async def found(self, question: Question, log: str, start: float) -> Found:
+    async def ask_shortly(self, search: Search) -> None:
+        """Searches for the first seconds. Where these weren't enough, it waits until each question had its own."""
+        try:
+            await self.ask(search, FIRST_SECONDS)
+        finally:
+            self.unasked.discard(search.question)
+            if not self.unasked:
+                self.all_were_asked.set()
+        if not search.is_over:
+            await self.all_were_asked.wait()
+
+    async def is_beside_failure(self, question: Question) -> bool:
+        """Whether a deadlock is in question under a model under which some run fails."""
+        return question.kind == DEADLOCK and isinstance(await asyncio.shield(self.answers[Question(question.model, FAILURE)]), Found)
+
+    async def judged(self, search: Search) -> Union[Excluded, Open]:
         async with self.room:
-            came = await reproduce(self.session, log, question.model, stem(self.session, question))
-        if not isinstance(came, (Run, Unsolved)):
+            return await search.judged()
+
+    async def found(self, search: Search) -> Found:
+        """The answer by the log that a search has found."""
+        question, log = search.question, self.logs[search.question]
+        answer = await self.tried(search, Known(log, True))
+        if answer is None:
             raise Broken(f"clap_debug_find found {log} under {question.model}, and clap_debug says that no schedule reproduces it")
-        return Found(question, log, came, time.monotonic() - start)
+        return answer
 
-    async def known(self, question: Question) -> Optional[Known]:
+    def known_by_now(self, question: Question) -> Optional[Known]:
         """The log of a run under a model that allows less, or of a native run, which should be one under TSO."""
         for model in MODELS[: MODELS.index(question.model)]:
-            other = self.answers.get(Question(model, question.kind))
-            answer = await asyncio.shield(other) if other else None
-            if isinstance(answer, Found):
-                return Known(answer.log, True)
-        native = await asyncio.shield(self.native) if self.native and question.model == "tso" else None
+            if Question(model, question.kind) in self.logs:
+                return Known(self.logs[Question(model, question.kind)], True)
+        native = self.native.result() if self.native and self.native.done() and question.model == "tso" else None
         if native and native.log and KIND_OF_NATIVE[native.outcome] == question.kind:
             return Known(native.log, False)
         return None
 
-    async def tried(self, question: Question, known: Known, came: Union[Excluded, Open], start: float) -> Answer:
-        """A known log under this model, or what the search said where that log isn't sure to be possible."""
+    async def known(self, question: Question) -> Optional[Known]:
+        """The same once all is answered that may say so."""
+        others = [self.answers.get(Question(it, question.kind)) for it in MODELS[: MODELS.index(question.model)]]
+        for other in filter(None, [*others, self.native if question.model == "tso" else None]):
+            await asyncio.shield(other)
+            found = self.known_by_now(question)
+            if found:
+                return found
+        return None
+
+    async def tried(self, search: Search, known: Optional[Known]) -> Optional[Found]:
+        """The answer by a known log, if it is one under this model."""
+        if known is None:
+            return None
+        question = search.question
         async with self.room:
             answer = await reproduce(self.session, known.log, question.model, stem(self.session, question))
-        if isinstance(answer, Run) or isinstance(answer, Unsolved) and known.is_sure:
-            return Found(question, known.log, answer, time.monotonic() - start)
-        return came
+        if not isinstance(answer, Run) and not (isinstance(answer, Unsolved) and known.is_sure):
+            return None
+        self.logs[question] = known.log
+        return Found(question, known.log, answer, time.monotonic() - search.start)
 
 
 def beside_failure(came: Union[Excluded, Open]) -> Union[Excluded, Open]:

@@ -44,6 +44,7 @@ def bounds() -> Iterator[int]:
     while bound < LAST_BOUND:
         yield bound
         bound = (bound * 3 + 1) // 2
+    yield LAST_BOUND
 
 
 def stem(session: Session, question: Question) -> str:
@@ -57,50 +58,77 @@ def words(session: Session, question: Question, bound: int, out: str) -> List[st
     return [session.programs.find, session.source.program, out, "--model", question.model, *kind, *limits]
 
 
-async def search(session: Session, question: Question) -> Union[Possible, Excluded, Open]:
-    """Asks with rising bounds until the answer is about all runs, or the time of the question ends."""
-    start, left = time.monotonic(), session.seconds
-    best: Optional[Bounded] = None
-    halt: Optional[Halt] = None
-    for bound in bounds():
-        came, used = await ask_once(session, question, bound, left)
-        left -= used
+class Search:
+    """The search for the answer to a question, which stops after some seconds and goes on where it was. It asks with rising bounds until
+    the answer is about all runs, or the time of the question ends."""
+
+    def __init__(self, session: Session, question: Question) -> None:
+        self.session, self.question = session, question
+        self.start, self.left = time.monotonic(), session.seconds
+        self.bounds = bounds()
+        self.bound = next(self.bounds)
+        self.possible: Optional[Possible] = None
+        self.best: Optional[Bounded] = None
+        self.halt: Optional[Halt] = None
+        self.is_over = False
+
+    @property
+    def is_decided(self) -> bool:
+        """Whether a run was found, or the answer is about all runs."""
+        return self.possible is not None or self.best is not None and self.best.outcomes is None
+
+    async def go_on(self, seconds: float) -> None:
+        """Asks for so many seconds more, as far as the question has them."""
+        left = max(0.0, self.left - seconds)
+        while not self.is_over and self.left > left:
+            came, used = await ask_once(self.session, self.question, self.bound, self.left - left)
+            if came is None:
+                self.left, self.halt = left, None
+            else:
+                self.left = max(left, self.left - used)
+                self.take(came)
+        self.is_over = self.is_over or self.left == 0
+
+    def take(self, came: Union[Possible, Bounded, Halt]) -> None:
+        """Takes an answer, and the next bound unless the search ends with it."""
         if isinstance(came, Possible):
-            return came
-        if isinstance(came, Bounded):
-            best, halt = came, None
+            self.possible, self.is_over = came, True
+        elif isinstance(came, Bounded):
+            self.best, self.halt, self.is_over = came, None, came.outcomes is None
         else:
-            halt = came
-        if isinstance(came, Bounded) and came.outcomes is None or halt and (halt.is_last or bound >= USUAL_BOUND):
-            break
-    return await judged(session, question, best, halt or Halt("", "", True), start)
+            self.halt, self.is_over = came, came.is_last or self.bound >= USUAL_BOUND
+        if not self.is_over and self.bound == LAST_BOUND:
+            self.halt, self.is_over = Halt("no more outcomes can be asked for", SMALLER, True), True
+        elif not self.is_over:
+            self.bound = next(self.bounds)
+
+    async def judged(self) -> Union[Excluded, Open]:
+        """The answer of a search that found nothing, once its certificate is accepted."""
+        session, question, best = self.session, self.question, self.best
+        halt = self.halt or Halt(f"no answer in {session.seconds - self.left:g} seconds", session.longer, True)
+        if best is None:
+            return Open(question, halt.why, halt.cure, time.monotonic() - self.start)
+        asked = [session.programs.find, session.source.program, best.draft, "--check"]
+        done = await run(asked, session.folder.path, session.seconds * CHECK_FACTOR)
+        if done.status is None:
+            return Open(question, "its certificate isn't checked in time", session.longer, time.monotonic() - self.start)
+        if answer(done, ACCEPTED, asked)[1] != (str(best.outcomes) if best.outcomes is not None else None):
+            raise Broken(f"the certificate for {question.model} is about other runs than the answer: {done.line}")
+        name = f"{session.source.name}.{question.model}.{question.kind}.cert"
+        beyond = None if best.outcomes is None else Open(question, halt.why, halt.cure, 0.0)
+        return Excluded(question, best.outcomes, beyond, session.folder.keep_as(best.draft, name), time.monotonic() - self.start)
 
 
-async def ask_once(session: Session, question: Question, bound: int, seconds: float) -> Tuple[Union[Possible, Bounded, Halt], float]:
-    """What clap_debug_find says with this bound within so many seconds, and how many it took."""
+async def ask_once(session: Session, question: Question, bound: int, seconds: float) -> Tuple[Union[Possible, Bounded, Halt, None], float]:
+    """What clap_debug_find says with this bound, if it does within so many seconds, and how many it took."""
     out = session.folder.draft(f"{stem(session, question)}.{bound}")
     asked = words(session, question, bound, out)
     done = await run(asked, session.folder.path, seconds)
     if done.status is None:
-        return Halt(f"no answer in {session.seconds:g} seconds", session.longer, True), done.used
+        return None, done.used
     found = answer(done, ANSWERS, asked)
     if found["found"]:
         return Possible(out), done.used
     if found["none"]:
         return Bounded(out, int(found["outcomes"]) if found["outcomes"] else None), done.used
     return Halt(done.line, SMALLER, found["limit"] is None), done.used
-
-
-async def judged(session: Session, question: Question, best: Optional[Bounded], halt: Halt, start: float) -> Union[Excluded, Open]:
-    """The answer of a search that found nothing, once its certificate is accepted."""
-    if best is None:
-        return Open(question, halt.why, halt.cure, time.monotonic() - start)
-    asked = [session.programs.find, session.source.program, best.draft, "--check"]
-    done = await run(asked, session.folder.path, session.seconds * CHECK_FACTOR)
-    if done.status is None:
-        return Open(question, "its certificate isn't checked in time", session.longer, time.monotonic() - start)
-    if answer(done, ACCEPTED, asked)[1] != (str(best.outcomes) if best.outcomes is not None else None):
-        raise Broken(f"the certificate for {question.model} is about other runs than the answer: {done.line}")
-    name = f"{session.source.name}.{question.model}.{question.kind}.cert"
-    beyond = None if best.outcomes is None else Open(question, halt.why, halt.cure, 0.0)
-    return Excluded(question, best.outcomes, beyond, session.folder.keep_as(best.draft, name), time.monotonic() - start)
