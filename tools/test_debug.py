@@ -12,6 +12,7 @@ import json
 import os
 import pty
 import re
+import select
 import shutil
 import signal
 import subprocess
@@ -39,6 +40,8 @@ from kept_files import run_main  # noqa: E402
 NAMES = ("clap_debug", "clap_debug_find", "clap_debug_show")
 BUILT = {name.upper(): os.path.abspath(build(name)) for name in NAMES}
 NO_NATIVE = {"CLAP_DEBUG_NATIVE": "/nowhere/native"}
+# How many seconds something that must come may take: far more than it does, also on a machine that is busy.
+PATIENCE = 600
 HAS_C = shutil.which("gcc") and (importlib.util.find_spec("pycparser") or os.path.exists("/usr/lib/python3/dist-packages/pycparser"))
 LOCK = """int held;
 int count;
@@ -164,7 +167,7 @@ class Tests(unittest.TestCase):
     def debug(self, *words: str, **others: str) -> Came:
         """Runs ./debug in the folder of the test; a name in upper case sets a variable of the environment."""
         done = subprocess.run([f"{TOP}/debug", *words], cwd=self.room, env=self.environment(others), stdin=subprocess.DEVNULL, text=True,
-                              capture_output=True, timeout=300, check=False)
+                              capture_output=True, timeout=PATIENCE, check=False)
         return Came(done.returncode, done.stdout, done.stderr)
 
     def refused(self, said: str, *words: str, **others: str) -> None:
@@ -263,8 +266,9 @@ class Answers(Tests):
     def test_deadlock_beside_a_long_search(self) -> None:
         """A deadlock is found while the search for a failure goes on."""
         self.file("p.tc", CROSSED)
-        slow = self.script("find", f'case "$*" in *--deadlock*) exec {BUILT["CLAP_DEBUG_FIND"]} "$@" ;; esac\nexec sleep 1000')
-        came = self.debug("p.tc", "--model", "sc", "--seconds", "2", CLAP_DEBUG_FIND=slow)
+        awaits = "until [ -e p.sc.deadlock.html ]; do sleep 0.1; done"
+        slow = self.script("find", f'case "$*" in *--deadlock*) ;; *) {awaits} ;; esac\nexec {BUILT["CLAP_DEBUG_FIND"]} "$@"')
+        came = self.debug("p.tc", "--model", "sc", "--seconds", "100", CLAP_DEBUG_FIND=slow)
         self.assertEqual(came.status, 1, came)
         self.assertRegex(self.line(came, "sc"), r"^deadlocks at lines 15 and 6: ")
 
@@ -287,7 +291,7 @@ class Answers(Tests):
         """A search that comes to no end under TSO needs none if a run fails under SC."""
         self.file("p.tc", LOCK)
         slow = self.script("find", f'case "$*" in *tso*) exec sleep 1000 ;; esac\nexec {BUILT["CLAP_DEBUG_FIND"]} "$@"')
-        came = self.debug("p.tc", "--model", "sc", "--model", "tso", "--seconds", "4", CLAP_DEBUG_FIND=slow)
+        came = self.debug("p.tc", "--model", "sc", "--model", "tso", "--seconds", "60", CLAP_DEBUG_FIND=slow)
         self.assertEqual(came.status, 1, came)
         self.assertRegex(came.out, r"(?m)^tso +fails at line 19: \d+ moves, \d+ switches +p.tso.html$")
 
@@ -373,24 +377,32 @@ class Order(Tests):
     def test_terminal_and_pipe(self) -> None:
         """On a terminal an answer doesn't wait for a slow one before it; elsewhere the order is always the same."""
         self.file("p.tc", LOCK)
-        slow = self.script("find", f'case "$*" in *"--model sc"*) exec sleep 1000 ;; esac\nexec {BUILT["CLAP_DEBUG_FIND"]} "$@"')
-        words = ["p.tc", "--model", "sc", "--model", "tso", "--seconds", "6"]
-        came = self.debug(*words, CLAP_DEBUG_FIND=slow)
+        words = ["p.tc", "--model", "sc", "--model", "tso", "--seconds", "100"]
+        came = self.debug(*words, CLAP_DEBUG_FIND=self.slow_about_sc("p.tso.html"))
         self.assertLess(came.out.index("sc   "), came.out.index("tso   "), came)
         self.assertNotIn("asking: ", came.errors)
-        shown = self.on_terminal(words, CLAP_DEBUG_FIND=slow)
+        shown = self.on_terminal(words, "tso   ", CLAP_DEBUG_FIND=self.slow_about_sc(f"{self.room}/seen"))
         self.assertLess(shown.index("tso   "), shown.index("sc   "), shown)
         self.assertIn("asking: sc failure", shown)
 
-    def on_terminal(self, words: List[str], **others: str) -> str:
-        """What ./debug shows on a terminal."""
+    def slow_about_sc(self, name: str) -> str:
+        """A search that answers about SC only once there is a file of this name."""
+        awaits = f"until [ -e {name} ]; do sleep 0.1; done"
+        return self.script("find", f'case "$*" in *"--model sc"*) {awaits} ;; esac\nexec {BUILT["CLAP_DEBUG_FIND"]} "$@"')
+
+    def on_terminal(self, words: List[str], awaited: str, **others: str) -> str:
+        """What ./debug shows on a terminal. Once a text is there, it makes the file `seen`."""
         ours, theirs = pty.openpty()
+        shown = b""
         with subprocess.Popen([f"{TOP}/debug", *words], cwd=self.room, env=self.environment(others), stdin=subprocess.DEVNULL, stdout=theirs,
                               stderr=theirs):
             os.close(theirs)
-            parts = list(iter(lambda: read_all(ours), b""))
+            for part in iter(lambda: read_all(ours), b""):
+                shown += part
+                if awaited.encode() in shown:
+                    self.file("seen", "")
         os.close(ours)
-        return b"".join(parts).decode()
+        return shown.decode()
 
     def test_proved(self) -> None:
         """Answers of proved programs are called proved, others aren't."""
@@ -681,7 +693,7 @@ class Natively(Tests):
 
     def test_finds_what_the_search_does_not(self) -> None:
         native, slow = self.native('echo "failed 0 line 23 in run 264, 15 events"'), self.script("find", "exec sleep 1000")
-        came = self.debug("p.tc", "--model", "tso", "--seconds", "2", CLAP_DEBUG_NATIVE=native, CLAP_DEBUG_FIND=slow)
+        came = self.debug("p.tc", "--model", "tso", "--seconds", "60", CLAP_DEBUG_NATIVE=native, CLAP_DEBUG_FIND=slow)
         self.assertEqual(came.status, 1, came)
         self.assertRegex(came.out, r"(?m)^tso +fails at line 23: \d+ moves, \d+ switches +p.tso.html$")
 
@@ -713,44 +725,65 @@ class Natively(Tests):
 class Stopped(Tests):
     """Signals."""
 
+    # What a search sleeps for, as no other process on the machine does.
+    SLEEP = f"sleep {10**7 + os.getpid()}"
+
     def stopped(self, by: int) -> Came:
-        """What comes of ./debug that gets a signal when the answer about PSO is there, and that about SC isn't, whose line is first."""
-        slow = self.script("find", f'case "$*" in *"--model sc"*) sleep 1234 ;; esac\nexec {BUILT["CLAP_DEBUG_FIND"]} "$@"')
+        """What comes of ./debug that gets a signal once only SC's answers are still to come, whose line is the first. Standard error is a
+        terminal, where it says what it asks, again and again: what it says for the second time it has taken."""
+        slow = self.script("find", f'case "$*" in *"--model sc"*) {self.SLEEP} ;; esac\nexec {BUILT["CLAP_DEBUG_FIND"]} "$@"')
         words = ["p.tc", "--model", "sc", "--model", "pso", "--seconds", "600", "--out", f"out{by}"]
-        going = subprocess.Popen([f"{TOP}/debug", *words], cwd=self.room, text=True, env=self.environment({"CLAP_DEBUG_FIND": slow}),
-                                 stdout=subprocess.PIPE, stderr=subprocess.PIPE)
-        kept = [f"{self.room}/out{by}/p.pso.{it}" for it in ("html", "txt", "deadlock.cert")]
-        while going.poll() is None and not all(map(os.path.exists, kept)):
-            time.sleep(0.05)
-        time.sleep(3)  # (the answer is taken some time after its last file is kept)
+        ours, theirs = pty.openpty()
+        going = subprocess.Popen([f"{TOP}/debug", *words], cwd=self.room, env=self.environment({"CLAP_DEBUG_FIND": slow}),
+                                 stdin=subprocess.DEVNULL, stdout=subprocess.PIPE, stderr=theirs)
+        os.close(theirs)
+        self.addCleanup(os.close, ours)
+        self.addCleanup(going.kill)
+        shown = b""
+        until = time.monotonic() + PATIENCE
+        while shown.count(b"asking: sc failure, sc deadlock") < 2 and select.select([ours], [], [], max(0.0, until - time.monotonic()))[0]:
+            more = read_all(ours)
+            shown += more or self.fail(f"./debug ended: {shown.decode()}")
         going.send_signal(by)
-        out, errors = going.communicate(timeout=60)
-        return Came(going.returncode, out, errors)
+        out = going.communicate(timeout=PATIENCE)[0]
+        shown += b"".join(iter(lambda: read_all(ours), b""))
+        return Came(going.returncode, out.decode(), shown.decode().replace("\r\n", "\n"))
 
     def test_signals(self) -> None:
         self.file("p.tc", LOCK)
         for by in (signal.SIGINT, signal.SIGTERM, signal.SIGHUP):
-            came = self.stopped(by)
-            self.assertEqual(came.status, 3, came)
-            self.assertRegex(came.out, r"^pso +fails at line 19: ")
-            self.assertTrue(came.errors.endswith("debug: stopped; what isn't said above isn't known\n"), came.errors)
-            self.assertNotIn("Traceback", came.errors)
-            self.assertEqual(left_over(f"{self.room}/find"), [])
-            self.assertEqual([it for it in os.listdir(f"{self.room}/out{by}") if it.startswith(".new")], [])
+            with self.subTest(signal=by):
+                came = self.stopped(by)
+                self.assertEqual(came.status, 3, came)
+                self.assertRegex(came.out, r"^pso +fails at line 19: ")
+                self.assertTrue(came.errors.endswith("debug: stopped; what isn't said above isn't known\n"), came.errors)
+                self.assertNotIn("Traceback", came.errors)
+                self.assertEqual([it for it in os.listdir(f"{self.room}/out{by}") if it.startswith(".new")], [])
+                self.ends(f"{self.room}/find", self.SLEEP)
+
+    def ends(self, *words: str) -> None:
+        """No process with one of these words is left, once those that were killed are gone."""
+        until = time.monotonic() + PATIENCE
+        while processes(*words) and time.monotonic() < until:
+            time.sleep(0.05)
+        self.assertEqual(processes(*words), [])
 
     def test_closed_pipe(self) -> None:
         self.file("p.tc", LOCK)
-        came = subprocess.run(["bash", "-c", f"{TOP}/debug p.tc --json --model sc | true; exit ${{PIPESTATUS[0]}}"], cwd=self.room, text=True,
-                              env=self.environment({}), capture_output=True, check=False)
+        reads, writes = os.pipe()
+        os.close(reads)
+        self.addCleanup(os.close, writes)
+        came = subprocess.run([f"{TOP}/debug", "p.tc", "--json", "--model", "sc"], cwd=self.room, text=True, env=self.environment({}),
+                              stdin=subprocess.DEVNULL, stdout=writes, stderr=subprocess.PIPE, check=False)
         self.assertEqual(came.returncode, 2)
         self.assertNotIn("Traceback", came.stderr)
         self.assertNotIn("Broken pipe", came.stderr)
 
 
-def left_over(script: str) -> List[str]:
-    """The processes that run a script."""
+def processes(*words: str) -> List[str]:
+    """The processes whose command has one of these."""
     found = subprocess.run(["ps", "-eo", "pid,args"], stdout=subprocess.PIPE, text=True, check=False).stdout.splitlines()
-    return [it for it in found if script in it or "sleep 1234" in it]
+    return [it for it in found if any(word in it for word in words)]
 
 
 class Reasons(unittest.TestCase):
