@@ -38,7 +38,8 @@ from debug_runs.source import CELL, Source  # noqa: E402
 from kept_files import run_main  # noqa: E402
 
 NAMES = ("clap_debug", "clap_debug_find", "clap_debug_show")
-BUILT = {name.upper(): os.path.abspath(build(name)) for name in NAMES}
+# The built programs, by the variables that name them.
+BUILT: Dict[str, str] = {}
 NO_NATIVE = {"CLAP_DEBUG_NATIVE": "/nowhere/native"}
 # How many seconds something that must come may take: far more than it does, also on a machine that is busy.
 PATIENCE = 600
@@ -129,6 +130,10 @@ main {
     join(a);
 }
 """
+
+
+def setUpModule() -> None:
+    BUILT.update((name.upper(), os.path.abspath(build(name))) for name in NAMES)
 
 
 class Came(NamedTuple):
