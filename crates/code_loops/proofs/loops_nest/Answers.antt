@@ -1,0 +1,9 @@
+use Rattle.code_loops.proofs.Nesting.{inside_or_apart}
+use Rattle.code_loops.proofs.Programs.{program_nests}
+use Rattle.code_loops.proofs.loops_nest.Goals as goal
+
+pub returns-clause-entered : goal.returns-clause-entered
+returns-clause-entered c = program_nests
+
+pub returns-clause-nested : goal.returns-clause-nested
+returns-clause-nested c = inside_or_apart
