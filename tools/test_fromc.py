@@ -316,6 +316,7 @@ class Warned(Tests):
         self.assertIn("from left to right", self.warnings("atomic_int a, b;", "int r = a + b; (void)r;", "", Options(None, True))[0])
         source = whole("pthread_t s; void *f(void *u) { return u; }", "pthread_create(&s, 0, f, 0);")
         self.assertIn("main joins fewer threads", translated(source)[2][0])
+        self.assertIn("the status that main returns", translated("int main(void) { return 1; }\n")[2][0])
         said = self.warnings("pthread_mutex_t m; pthread_cond_t c;", "", "pthread_mutex_lock(&m); pthread_cond_wait(&c, &m); pthread_mutex_unlock(&m);")
         self.assertIn("a wait outside a loop", said[0])
 

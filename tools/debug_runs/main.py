@@ -15,7 +15,7 @@ from .folder import Folder
 from .old import OldLog
 from .programs import load, no_proof
 from .session import Session
-from .source import read
+from .source import put, read
 from .table import Table
 from .words import Words, parse
 
@@ -121,6 +121,7 @@ def debug(words: Words) -> int:
     """Asks about a program, in a folder for the results."""
     folder = Folder(words.out, words.inputs)
     try:
+        put(words, folder)
         programs = load()
         source = read(words, folder, programs)
         if not programs.are_proved and not words.is_quiet and os.environ.get("CLAP_DEBUG_QUIET") != "1":

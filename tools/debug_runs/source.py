@@ -3,7 +3,7 @@ import os
 import re
 import subprocess
 import sys
-from typing import FrozenSet, List, NamedTuple, Optional
+from typing import FrozenSet, List, NamedTuple, Optional, Tuple
 
 import in_c
 from built import TOP
@@ -82,15 +82,25 @@ def copy(file: str, folder: Folder, name: str) -> None:
         raise Refused(f"{file} can't be read: {fault.strerror}") from None
 
 
-def read(words: Words, folder: Folder, programs: Programs) -> Source:
-    """Puts the program into the folder, and asks clap_debug_show whether it is one."""
-    file = words.file
-    name = os.path.splitext(os.path.basename(file))[0]
-    is_c = file.endswith(".c")
+def named(words: Words) -> Tuple[str, bool]:
+    """The program's name, and whether it is to be translated from C."""
+    return os.path.splitext(os.path.basename(words.file))[0], words.file.endswith(".c")
+
+
+def put(words: Words, folder: Folder) -> None:
+    """Puts the program into the folder. It asks none of the programs, which may take minutes to build: a C file that is refused is so
+    at once."""
+    name, is_c = named(words)
     if is_c:
         translate(words, folder, name)
     else:
-        copy(file, folder, name)
+        copy(words.file, folder, name)
+
+
+def read(words: Words, folder: Folder, programs: Programs) -> Source:
+    """The program that `put` has put into the folder, of which clap_debug_show says whether it is one."""
+    file = words.file
+    name, is_c = named(words)
     said = described(file, [programs.show, f"./{name}.tc"], folder.path)
     with open(folder.file(f"{name}.tc"), "rb") as it:
         text = it.read()

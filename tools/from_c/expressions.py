@@ -47,7 +47,7 @@ class Expressions(Body):
 
     def take_left_first(self, at: Place) -> None:
         if not self.unit.options.left_to_right:
-            raise Refusal(at, "operands of which C doesn't say which is evaluated first, where it matters",
+            raise Refusal(at, "operands of which C doesn't say which is evaluated first, and it matters here (such as two atomic loads)",
                           "put one of them into a statement before, or give --left-to-right")
         self.unit.notes.add("operands are evaluated from left to right, which C leaves open", at)
 

@@ -8,6 +8,14 @@ from .refusal import Place, Refusal
 
 INCLUDE = os.path.join(os.path.dirname(os.path.abspath(__file__)), "include")
 STRICT = ["implicit-function-declaration", "int-conversion", "incompatible-pointer-types", "return-type", "implicit-int"]
+# What is no C11, or a type that no header here has, and what to write in its place.
+NOT_C11 = (
+    (r"\b(__asm__|__asm|asm)\b", "it has inline assembly: use atomic_thread_fence, or an atomic access"),
+    (r"\b__attribute__\b", "leave the attribute out"),
+    (r"\bpthread_(barrier|rwlock)_t\b|\bsem_t\b", "write it with a mutex and a condition"),
+    (r"\batomic_u?(char|short|int_least\d+|int_fast\d+|intptr|intmax)(_t)?\b", "use atomic_int or atomic_uint"),
+    (r"\bpthread_spinlock_t\b", "write it with an atomic_flag"),
+)
 DIAGNOSTIC = re.compile(r"^(.+?):(\d+):(\d+): (?:fatal )?error: (.*)$", re.M)
 
 
@@ -62,7 +70,22 @@ def parse(path: str, defines: List[str], is_checked: bool = False) -> Any:
             raise
         found = re.match(r"(.+?):(\d+):(\d+): (.*)", str(fault))
         place = Place(found[1], int(found[2]), int(found[3])) if found else None
-        raise Refusal(place, f"pycparser doesn't read this ({found[4] if found else fault})", "write it in plain C11") from None
+        advice = next((advice for words, advice in NOT_C11 if place and re.search(words, line_at(text, place))), "write it in plain C11")
+        raise Refusal(place, f"pycparser doesn't read this ({found[4] if found else fault})", advice) from None
+
+
+def line_at(text: str, place: Place) -> str:
+    """A line of a file as it was preprocessed."""
+    file, number, found = "", 0, []
+    for line in text.splitlines():
+        mark = re.match(r'# (\d+) "(.*?)"', line)
+        if mark:
+            file, number = mark[2], int(mark[1])
+            continue
+        if (file, number) == (place.file, place.line):
+            found.append(line)
+        number += 1
+    return " ".join(found)
 
 
 def place_of(node: Any) -> Optional[Place]:

@@ -202,10 +202,17 @@ class Statements(Calls):
         if node.expr is None:
             return (self.leaving_frame(at),)
         if frame.result is None:
+            self.note_status(node.expr, at)
             return (*self.effect(node.expr), self.leaving_frame(at))
         assert isinstance(frame.type, Int)
         value = self.converted(self.value(node.expr), frame.type.kind, at)
         return (*value.before, Assign(frame.result, value.expression, at), self.leaving_frame(at))
+
+    def note_status(self, value: Any, at: Place) -> None:
+        """Warns of a status that main returns to say that something was wrong."""
+        is_main = len(self.frames) == 1 and self.frames[0].name == "main"
+        if is_main and not (isinstance(value, self.unit.c_ast.Constant) and value.value == "0"):
+            self.unit.notes.add("the status that main returns is left out, so it is no failure: use assert or abort", at)
 
     def leaving_frame(self, at: Place) -> Statement:
         return Leave(self.frames[-1].label, at)

@@ -2,6 +2,7 @@
 import dataclasses
 from typing import Any, Callable, Dict, Iterator, Optional, Tuple, Union
 
+from .front import INCLUDE
 from .refusal import Place, Refusal
 
 
@@ -121,7 +122,12 @@ class Types:
         if len(names) == 1 and names[0] in HANDLES:
             return Handle(HANDLES[names[0]])
         if len(names) == 1 and names[0] in self.typedefs:
-            return self.of(self.typedefs[names[0]])
+            try:
+                return self.of(self.typedefs[names[0]])
+            except Refusal as fault:
+                if fault.place and fault.place.file.startswith(INCLUDE):  # such as uint8_t, whose place tells the reader nothing
+                    raise Refusal(self.place(node), f"the type {names[0]}", fault.advice) from None
+                raise
         if names in SCALARS:
             return Int(SCALARS[names])
         if names == ("void",):

@@ -19,8 +19,8 @@ from .values import NULL, Value
 ADVICE = {
     "malloc": "use a file-scope array, and indexes in place of pointers",
     "calloc": "use a file-scope array, and indexes in place of pointers",
-    "free": "keep the element, or a list of free indexes", "exit": "return from main", "pthread_once": "use a mutex and an int",
-    "call_once": "use a mutex and an int",
+    "free": "keep the element, or a list of free indexes", "exit": "return from main, or abort() where that is a failure",
+    "pthread_once": "use a mutex and an int", "call_once": "use a mutex and an int",
 }
 FAMILIES = (
     ("pthread_rwlock_", "write it with a mutex and a condition"), ("pthread_barrier_", "write it with a mutex and a condition"),
