@@ -4,7 +4,7 @@
     bench/border.py PROGRAM [NAME..]
 
 PROGRAM is the built clap_debug; NAME is one of those below, and all but `asserts` where none is given, which takes some 10 GB.
-A log within the limits has fewer than 2,000,000,000 variables and clauses (`clauses_have_room` of formula_sizes), so none of
+A log within the limits has fewer than 2,000,000,000 variables and clauses (`clauses_have_room` of clap_solve::formula_sizes), so none of
 these may end in `no memory` while there is some. Prints a line for each and model; ends with 1 where one isn't posed.
 """
 import pathlib

@@ -4,7 +4,7 @@ use Rattle.tc_code.specs.Code.{Code}
 use Rattle.tc_compile.specs.Programs.{IsCodeOf}
 use Rattle.tc_compile.proofs.OnePrograms.{one_refusal, refused_no_code}
 use Rattle.tc_io.specs.Outside.{Files, ShelfTells, SinkTells, bytes_at}
-use Rattle.command_ends.proofs.Ended.{Reports, declines, reported, reported_or_declined, result_at}
+use Rattle.command_inputs.proofs.command_ends.Ended.{Reports, declines, reported, reported_or_declined, result_at}
 use Rattle.command_frame.specs.End.{End}
 use Rattle.command_frame.specs.Run.{Runs}
 use Rattle.command_frame.specs.declared.status.Status.TheVariants as status

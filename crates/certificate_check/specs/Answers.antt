@@ -3,7 +3,7 @@ use Rattle.std.specs.Prelude.{◌≡◌, ◌⊎◌, ℕ, List}
 use Rattle.tc_code.specs.Code.{Code}
 use Rattle.tc_compile.specs.Programs.{IsCodeOf}
 use Rattle.tc_io.specs.Outside.{Files, bytes_at}
-use Rattle.command_ends.specs.Ends.{AreShort, Declines, HasDeclined}
+use Rattle.command_inputs.specs.command_ends.Ends.{AreShort, Declines, HasDeclined}
 use Rattle.command_frame.specs.Answers.{IsFaultStatus, number_of}
 use Rattle.command_frame.specs.End.{End, LeavesNothing}
 use Rattle.none_certificates.specs.declared.header.Header.{Header}

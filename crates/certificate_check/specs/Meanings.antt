@@ -2,7 +2,7 @@
 use Rattle.std.specs.Prelude.{ℕ, List, [], ◌∷◌, Result, Ok, Err}
 use Rattle.tc_code.specs.Code.{Code}
 use Rattle.tc_compile.specs.Programs.{IsCodeOf, IsRefusal}
-use Rattle.command_ends.specs.Outcomes.{Report, command_of}
+use Rattle.command_inputs.specs.command_ends.Outcomes.{Report, command_of}
 use Rattle.command_frame.specs.Inputs.{InPieces, Texts, Wanted, Whole}
 use Rattle.command_frame.specs.Meaning.{Meaning}
 use Rattle.command_inputs.specs.Limits.{program_limit}

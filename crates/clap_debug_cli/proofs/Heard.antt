@@ -16,8 +16,9 @@ use Rattle.replay_command.specs.Meanings.{replay_of}
 use Rattle.solve_command.specs.Meanings.{solve_of}
 use Rattle.why_command.specs.Meanings.{why_of}
 use Rattle.workload_command.specs.Meanings.{workload_of}
-use Rattle.clap_debug_words.specs.Calls.{Called, Lists, Replays, Records, Migrates, Solves, Minimizes, Checks, Workloads, Exports, Imports, Explains}
+use Rattle.clap_debug_words.specs.Calls.{Called, Lists, Replays, Records, Migrates, Solves, Checks, Workloads, Exports, Imports, Explains}
 use Rattle.clap_debug_cli.specs.Call.{Does, RunsCall}
+use Rattle.clap_debug_cli.specs.Requests.{asked, imported, migrated, minimized, recorded, refuted, solved, worked}
 
 module _ (old : ShelfTells) (status : ℕ) (before after : SinkTells) (says : SaysNoMemory status before after) where
   without_memory : {A : Type 0} (m : Meaning A) → Runs m old old status before after
@@ -26,16 +27,16 @@ module _ (old : ShelfTells) (status : ℕ) (before after : SinkTells) (says : Sa
   unheard_call : (call : Called) → RunsCall call old old status before after
   unheard_call (Lists program) = without_memory (list_of program)
   unheard_call (Replays program log schedule) = without_memory (replay_of program log schedule)
-  unheard_call (Records call) = without_memory (record_of call)
-  unheard_call (Migrates call) = without_memory (migrate_of call)
-  unheard_call (Solves call) = without_memory (solve_of call)
-  unheard_call (Minimizes call) = without_memory (least_of call)
-  unheard_call (Checks call) = without_memory (check_of call)
-  unheard_call (Workloads call) = without_memory (workload_of call)
-  unheard_call (Exports call) = without_memory (cnf_of call)
-  unheard_call (Imports call) = without_memory (import_of call)
-  unheard_call (Explains call) = without_memory (why_of call)
+  unheard_call (Records program log model seed steps) = without_memory (record_of (recorded program log model seed steps))
+  unheard_call (Migrates program log out) = without_memory (migrate_of (migrated program log out))
+  unheard_call (Solves program log out model budget None) = without_memory (solve_of (solved program log out model budget))
+  unheard_call (Solves program log out model budget (Some refutation)) = without_memory (least_of (minimized (solved program log out model budget) refutation))
+  unheard_call (Checks program log refutation) = without_memory (check_of (refuted program log refutation))
+  unheard_call (Workloads workers seed) = without_memory (workload_of (worked workers seed))
+  unheard_call (Exports program log out model) = without_memory (cnf_of (asked program log out model))
+  unheard_call (Imports program log answer out model) = without_memory (import_of (imported program log answer out model))
+  unheard_call (Explains program log refutation) = without_memory (why_of (refuted program log refutation))
 
-  pub unheard : (asked : Option Called) → Does asked old old status before after
+  pub unheard : (heard : Option Called) → Does heard old old status before after
   unheard (Some call) = unheard_call call
   unheard None = (refl, inr (inr says))

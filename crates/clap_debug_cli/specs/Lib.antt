@@ -16,4 +16,5 @@ pub use Rattle.replay_command.specs.schedule_replay
 pub use Rattle.solve_command.specs as solve_command
 pub use Rattle.why_command.specs as why_command
 pub use Rattle.workload_command.specs as workload_command
+pub mod Requests
 pub mod Call

@@ -1,7 +1,7 @@
 //! The top call: from the words to the command that they ask for.
 #![tactic(auto)]
 
-ghost use Rattle.std.specs.Prelude.{◌≤◌, List, ℕ, Option, length, map, string_bytes};
+ghost use Rattle.std.specs.Prelude.{◌≤◌, List, ℕ, Option, length, map, option_map, string_bytes};
 ghost use Rattle.command_frame.specs.Answers.{SaysLine};
 ghost use Rattle.command_frame.specs.declared.status.Status.TheVariants.{Usage};
 ghost use Rattle.list_command.specs.command_inputs.Forms.{IsSchedule};
@@ -11,8 +11,11 @@ ghost use Rattle.replay_command.specs.Causes.{IsReplayed};
 ghost use Rattle.replay_command.specs.schedule_replay.declared.verdict.Verdict.TheVariants as verdict;
 ghost use Rattle.record_command.specs.tc_base.declared.moves.Move.{Move};
 ghost use Rattle.migrate_command.specs.tc_limits.declared.limits.TheConstants.{SCHEDULE_BYTES};
+ghost use Rattle.solve_command.specs.Calls.{plain_solve};
 ghost use Rattle.clap_debug_words.specs.Calls.{call_of, plain_call};
-ghost use Rattle.clap_debug_cli.specs.Call.{Answers, Does, IfTold, RunsCall, usage_text};
+ghost use Rattle.clap_debug_cli.specs.Call.{Answers, Does, IfTold, RunsCall, RunsSearch, usage_text};
+
+mod requests;
 
 use check_command::check_refutation;
 use clap_debug_words::{Call, call_of};
@@ -24,7 +27,11 @@ use list_command::list;
 use migrate_command::migrate_log;
 use record_command::record_run;
 use replay_command::replay_files;
-use solve_command::solve_log;
+use requests::{
+    checked, explained, exported, imported, listed, migrated, minimized, recorded, replayed,
+    solved, worked,
+};
+use solve_command::{Solve, solve_log};
 use std::alloc::Global;
 use tc_io::{Shelf, Sink};
 use why_command::explain_refutation;
@@ -68,18 +75,83 @@ pub fn clap_debug<H: Shelf, K: Sink>(
 fn run_call<H: Shelf, K: Sink>(alloc: Global, call: &Call<'_>, shelf: &mut H, sink: &mut K) -> u8
     ensures { RunsCall (plain_call call.now) (H.tells shelf.old) (H.tells shelf.new) result (K.tells sink.old) (K.tells sink.new) }
 {
-    match call {
-        Call::List(call) => list(alloc, call, shelf, sink),
-        Call::Replay(call) => replay_files(alloc, call, shelf, sink),
-        Call::Record(call) => record_run(alloc, call, shelf, sink),
-        Call::Migrate(call) => migrate_log(alloc, call, shelf, sink),
-        Call::Solve(call) => solve_log(alloc, call, shelf, sink),
-        Call::Least(call) => find_least(alloc, call, shelf, sink),
-        Call::Check(call) => check_refutation(alloc, call, shelf, sink),
-        Call::Workload(call) => try_workload(alloc, call, shelf, sink),
-        Call::Cnf(call) => export_clauses(alloc, call, shelf, sink),
-        Call::Import(call) => import_answer(alloc, call, shelf, sink),
-        Call::Why(call) => explain_refutation(alloc, call, shelf, sink),
+    match *call {
+        Call::List { program } => list(alloc, &listed(program), shelf, sink),
+        Call::Replay {
+            program,
+            log,
+            schedule,
+        } => replay_files(alloc, &replayed(program, log, schedule), shelf, sink),
+        Call::Record {
+            program,
+            log,
+            model,
+            seed,
+            steps,
+        } => {
+            let record = recorded(program, log, model, seed, steps);
+            record_run(alloc, &record, shelf, sink)
+        }
+        Call::Migrate { program, log, out } => {
+            migrate_log(alloc, &migrated(program, log, out), shelf, sink)
+        }
+        Call::Solve {
+            program,
+            log,
+            out,
+            model,
+            budget,
+            least,
+        } => {
+            let solve = solved(program, log, out, model, budget);
+            search(alloc, &solve, least, shelf, sink)
+        }
+        Call::Check {
+            program,
+            log,
+            refutation,
+        } => check_refutation(alloc, &checked(program, log, refutation), shelf, sink),
+        Call::Workload { workers, seed } => {
+            try_workload(alloc, &worked(workers, seed), shelf, sink)
+        }
+        Call::Cnf {
+            program,
+            log,
+            out,
+            model,
+        } => export_clauses(alloc, &exported(program, log, out, model), shelf, sink),
+        Call::Import {
+            program,
+            log,
+            answer,
+            out,
+            model,
+        } => {
+            let import = imported(program, log, answer, out, model);
+            import_answer(alloc, &import, shelf, sink)
+        }
+        Call::Why {
+            program,
+            log,
+            refutation,
+        } => explain_refutation(alloc, &explained(program, log, refutation), shelf, sink),
+    }
+}
+
+/// Solves a log, with the fewest switches if there is a name for the refutation of fewer.
+fn search<'a, H: Shelf, K: Sink>(
+    alloc: Global,
+    solve: &Solve<'a>,
+    refutation: Option<&'a str>,
+    shelf: &mut H,
+    sink: &mut K,
+) -> u8
+    ensures { RunsSearch (plain_solve solve.now) (option_map (λ s. s.now) refutation.entry)
+        (H.tells shelf.old) (H.tells shelf.new) result (K.tells sink.old) (K.tells sink.new) }
+{
+    match refutation {
+        Some(refutation) => find_least(alloc, &minimized(solve, refutation), shelf, sink),
+        None => solve_log(alloc, solve, shelf, sink),
     }
 }
 

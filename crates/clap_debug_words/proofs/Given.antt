@@ -1,354 +1,176 @@
--- Words that the command takes name a subcommand and each of its files.
-use Rattle.std.proofs.Common.{
-  ℕ,
-  ◌≡◌,
-  ap,
-  refl,
-  subst,
-  Bool,
-  true,
-  false,
-  not,
-  ◌||◌,
-  cond,
-  List,
-  [],
-  ◌∷◌,
-  Option,
-  Some,
-  None,
-  is_some,
-  find,
-  option_map,
-  codes,
-  slice_index_or,
-  unwrap_or,
-  inl,
-  inr,
-}
-use Rattle.std.specs.Prelude.{⊤, IfSome, IsSomeAnd, if◌then◌else◌, bytes_eq}
-use Rattle.std.specs.List.{list_all}
-use Rattle.std.specs.Option.{option_map_or}
-use Rattle.clap.specs.Words.{App, Row, Shape, Text, first_of, is_simple, subcommand_of}
-use Rattle.clap.specs.Simple.{argument_words, built, entered, label_of, names_of, rows_at}
-use Rattle.clap.specs.Takes.{built_takes, default_passes, entered_passes, level_passes, settle_passes, walk_passes}
-use Rattle.clap.specs.Walk.{answers_to, nothing_held, rows_after, stop_after, walk, walk_from}
+-- Words that the command takes name a subcommand with its files, numbers and values.
+use Rattle.std.proofs.Common.{◌≡◌, ℕ, refl, slice_index_or, Bool, true, false, ◌&&◌, cond, List, [], ◌∷◌, ◌++◌, Option, Some, None, is_some, option_and_then, option_map, codes}
+use Rattle.std.specs.Prelude.{IsSomeAnd, bytes_eq, find}
+use Rattle.std.specs.Option.{option_map_or, option_zip}
+use Rattle.std.proofs.lemmas.Bool.{and_from}
+use Rattle.clap.specs.Words.{Row, Text, fault_of, first_of, subcommand_of}
+use Rattle.clap.specs.Walk.{is_empty}
 use Rattle.clap.proofs.WalkLemmas.{both}
-use Rattle.clap.specs.ValueTests.{accepts, is_unsigned_in}
-use Rattle.clap.specs.declared.builder.value_parser.ValueParser.TheVariants as parser
+use Rattle.clap_debug_words.specs.CommandLine.{Form, command_line, forms, of_log}
 use Rattle.tc_limits.specs.declared.limits.TheConstants.{BUDGET, MOVES}
-use Rattle.workload_command.specs.declared.workers.TheConstants.{WORKERS}
-use Rattle.clap_debug_words.specs.CommandLine.{command_line, words_taken, last_seed, lent_texts, model_names}
-use Rattle.clap_debug_words.specs.Given.{HasFiles, HasValues}
-use Rattle.clap_debug_words.proofs.Fits.{AreSetters, Fitness, all_fit, level_fit, level_given, read_fit}
+use Rattle.clap_debug_words.specs.declared.call.TheConstants.{WORKERS}
+use Rattle.clap_debug_words.specs.Values.{budget_in, if_written, last_seed, model_in, model_named, number_named, seed_in, steps_in}
+use Rattle.clap_debug_words.specs.Calls.{Called, Lists, both_in, called, check_in, explain_in, export_in, import_in, list_in, migrate_in, record_in, replay_in}
+use Rattle.clap_debug_words.specs.Calls.{solve_in, three_in, words_taken, workload_in}
+use Rattle.clap_debug_words.specs.Given.{HasFiles, HasValues, IsOfForm, has_texts, has_values}
 
--- what fits each option
-abbrev fitness : Fitness
-fitness id v = if bytes_eq id (codes "model") then accepts false (parser.Names (lent_texts model_names)) v
-    else if bytes_eq id (codes "seed") then is_unsigned_in 0 last_seed v
-    else if bytes_eq id (codes "steps") then is_unsigned_in 1 MOVES v
-    else if bytes_eq id (codes "budget") then is_unsigned_in 1 BUDGET v
-    else if bytes_eq id (codes "workers") then is_unsigned_in 1 WORKERS v
-    else true
+map_some : {A B : Type 0} (f : A → B) (o : Option A) → is_some (option_map f o) ≡ true → is_some o ≡ true
+map_some f None e = cc
+map_some f (Some x) e = refl
 
--- the given files and values
-abbrev pub HasBoth : Text × List Row → Type 0
-HasBoth p = HasFiles p × HasValues p
+zip_some : {A B : Type 0} (a : Option A) (b : Option B) → is_some (option_zip a b) ≡ true → (is_some a ≡ true) × (is_some b ≡ true)
+zip_some None b e = cc
+zip_some (Some x) None e = cc
+zip_some (Some x) (Some y) e = (refl, refl)
 
-abbrev pub Has : Shape → Type 0
-Has s = (words : List Text) → level_passes s [] nothing_held words false ≡ true → HasBoth (s.name, rows_after s.rules [] words)
+any_name : (t : Option Text) → option_map_or (λ _. true) t true ≡ true
+any_name None = refl
+any_name (Some t) = refl
 
-abbrev pub AllHave : List Shape → Type 0
-AllHave [] = ⊤
-AllHave (s ∷ rest) = Has s × AllHave rest
+option_value : {T : Type 0} (named : Text → Option T) (t : Option Text) → is_some (if_written named t) ≡ true
+    → option_map_or (λ x. is_some (named x)) t true ≡ true
+option_value named None e = refl
+option_value named (Some x) e = map_some Some (named x) e
 
-found_has : (p : Shape → Bool) (subs : List Shape) (s : Shape) → AllHave subs → find p subs ≡ Some s → Has s
-found_has p [] s all e = cc
-found_has p (x ∷ xs) s all e = go (p x) e (λ f. found_has p xs s all.1 f)
-  where
-    go : (b : Bool) → cond b (Some x) (find p xs) ≡ Some s → (find p xs ≡ Some s → Has s) → Has s
-    go true e rec =
-        let same : x ≡ s = ap (λ (o : Option Shape). unwrap_or o x) e in
-        subst Has same all.0
-    go false e rec = rec e
+number_value : {T : Type 0} (named : Text → Option T) (t : Option Text) → is_some (option_and_then named t) ≡ true
+    → (is_some t ≡ true) × (option_map_or (λ x. is_some (named x)) t true ≡ true)
+number_value named None e = cc
+number_value named (Some x) e = (refl, e)
 
-entered_has : (a : App) (stop : Option (Text × List Text)) (p : Text × List Row) → AllHave a.subs → entered_passes a stop ≡ true
-    → entered a stop ≡ Some p → HasBoth p
-entered_has a None p all e at = cc
-entered_has a (Some q) p all e at = go (find (λ s. answers_to q.0 (label_of s)) a.subs) refl e at
-  where
-    go : (o : Option Shape) → find (λ s. answers_to q.0 (label_of s)) a.subs ≡ o → option_map_or (λ s. level_passes s [] nothing_held q.1 false) o true ≡ true
-        → option_map (λ s. rows_at s q.1) o ≡ Some p → HasBoth p
-    go None is e at = cc
-    go (Some s) is e at =
-        let same : (s.name, rows_after s.rules [] q.1) ≡ p = ap (λ (o : Option (Text × List Row)). unwrap_or o (s.name, rows_after s.rules [] q.1)) at in
-        subst HasBoth same (found_has _ a.subs s all is q.1 e)
+cons : {a b : Bool} → a ≡ true → b ≡ true → (a && b) ≡ true
+cons e f = and_from _ _ e f
 
-abbrev pub sub_at : ℕ → Shape
-sub_at k = slice_index_or (built command_line).subs k command_line.top
+-- the form's positionals have texts, and these and the options have values
+abbrev is_whole : Form → List Row → Bool
+is_whole f rows = has_texts f rows && has_values f rows
 
-abbrev pub given_in : Shape → List Row → Bool
-given_in s rows = list_all (λ a. not a.required || is_some (first_of a.id rows)) s.rules
+-- the form at a place
+abbrev form_at : ℕ → Form
+form_at k = slice_index_or forms k (of_log [] [] [])
 
-list_has : (rows : List Row) → given_in (sub_at 0) rows ≡ true → HasFiles (codes "list", rows)
-list_has rows e = inl (refl, (both (is_some (first_of (codes "program") rows)) _ e).0)
+name : (id : Text) (rows : List Row) → option_map_or (λ _. true) (first_of id rows) true ≡ true
+name id rows = any_name (first_of id rows)
 
-replay_has : (rows : List Row) → given_in (sub_at 1) rows ≡ true → HasFiles (codes "replay", rows)
-replay_has rows e =
-    let a = both (is_some (first_of (codes "program") rows)) _ e in
-    let b = both (is_some (first_of (codes "log") rows)) _ a.1 in
-    inr (inl (refl, a.0, b.0, (both (is_some (first_of (codes "schedule") rows)) _ b.1).0))
+list_whole : (rows : List Row) → is_some (list_in rows) ≡ true → is_whole (form_at 0) rows ≡ true
+list_whole rows e = cons (cons (map_some Lists (first_of (codes "program") rows) e) refl) (cons (name (codes "program") rows) refl)
 
-record_has : (rows : List Row) → given_in (sub_at 2) rows ≡ true → HasFiles (codes "record", rows)
-record_has rows e =
-    let a = both (is_some (first_of (codes "program") rows)) _ e in
-    inr (inr (inl (refl, a.0, (both (is_some (first_of (codes "log") rows)) _ a.1).0)))
+three_texts : (id : Text) (rows : List Row) → is_some (three_in id rows) ≡ true → (is_some (first_of (codes "program") rows) ≡ true)
+    × (is_some (first_of (codes "log") rows) ≡ true) × (is_some (first_of id rows) ≡ true)
+three_texts id rows e =
+    let x = zip_some (both_in rows) (first_of id rows) e in
+    let y = zip_some (first_of (codes "program") rows) (first_of (codes "log") rows) x.0 in
+    (y.0, y.1, x.1)
 
-migrate_has : (rows : List Row) → given_in (sub_at 3) rows ≡ true → HasFiles (codes "migrate", rows)
-migrate_has rows e =
-    let a = both (is_some (first_of (codes "program") rows)) _ e in
-    let b = both (is_some (first_of (codes "log") rows)) _ a.1 in
-    inr (inr (inr (inl (refl, a.0, b.0, (both (is_some (first_of (codes "out") rows)) _ b.1).0))))
+two_texts : (rows : List Row) → is_some (both_in rows) ≡ true
+    → (is_some (first_of (codes "program") rows) ≡ true) × (is_some (first_of (codes "log") rows) ≡ true)
+two_texts rows = zip_some (first_of (codes "program") rows) (first_of (codes "log") rows)
 
-solve_has : (rows : List Row) → given_in (sub_at 4) rows ≡ true → HasFiles (codes "solve", rows)
-solve_has rows e =
-    let a = both (is_some (first_of (codes "program") rows)) _ e in
-    let b = both (is_some (first_of (codes "log") rows)) _ a.1 in
-    inr (inr (inr (inr (inl (refl, a.0, b.0, (both (is_some (first_of (codes "out") rows)) _ b.1).0)))))
+-- a command of a program, its log and one more file
+three_whole : (id : Text) (rows : List Row) (mk : (Text × Text) × Text → Called) → is_some (option_map mk (three_in id rows)) ≡ true
+    → ((is_some (first_of (codes "program") rows) && (is_some (first_of (codes "log") rows) && (is_some (first_of id rows) && true)))
+    && (option_map_or (λ _. true) (first_of (codes "program") rows) true && (option_map_or (λ _. true) (first_of (codes "log") rows) true
+    && (option_map_or (λ _. true) (first_of id rows) true && true)))) ≡ true
+three_whole id rows mk e =
+    let t = three_texts id rows (map_some mk (three_in id rows) e) in
+    cons (cons t.0 (cons t.1 (cons t.2 refl))) (cons (name (codes "program") rows) (cons (name (codes "log") rows) (cons (name id rows) refl)))
 
-check_has : (rows : List Row) → given_in (sub_at 5) rows ≡ true → HasFiles (codes "check", rows)
-check_has rows e =
-    let a = both (is_some (first_of (codes "program") rows)) _ e in
-    let b = both (is_some (first_of (codes "log") rows)) _ a.1 in
-    inr (inr (inr (inr (inr (inl (refl, a.0, b.0, (both (is_some (first_of (codes "refutation") rows)) _ b.1).0))))))
+model_value : (rows : List Row) → is_some (model_in rows) ≡ true → option_map_or (λ x. is_some (model_named x)) (first_of (codes "model") rows) true ≡ true
+model_value rows = option_value model_named (first_of (codes "model") rows)
 
-workload_has : (rows : List Row) → given_in (sub_at 6) rows ≡ true → HasFiles (codes "workload", rows)
-workload_has rows e =
-    let a = both (is_some (first_of (codes "workers") rows)) _ e in
-    inr (inr (inr (inr (inr (inr (inl (refl, a.0, (both (is_some (first_of (codes "seed") rows)) _ a.1).0)))))))
+record_whole : (rows : List Row) → is_some (record_in rows) ≡ true → is_whole (form_at 2) rows ≡ true
+record_whole rows e =
+    let numbers = option_zip (seed_in rows) (steps_in rows) in
+    let x = zip_some (both_in rows) (option_zip (model_in rows) numbers) (map_some _ (option_zip (both_in rows) (option_zip (model_in rows) numbers)) e) in
+    let t = two_texts rows x.0 in
+    let y = zip_some (model_in rows) numbers x.1 in
+    let z = zip_some (seed_in rows) (steps_in rows) y.1 in
+    cons (cons t.0 (cons t.1 refl))
+    (cons (name (codes "program") rows) (cons (name (codes "log") rows) (cons (model_value rows y.0)
+    (cons (option_value (number_named 0 last_seed) (first_of (codes "seed") rows) z.0) (cons (option_value (number_named 1 MOVES) (first_of (codes "steps") rows) z.1) refl)))))
 
-cnf_has : (rows : List Row) → given_in (sub_at 7) rows ≡ true → HasFiles (codes "cnf", rows)
-cnf_has rows e =
-    let a = both (is_some (first_of (codes "program") rows)) _ e in
-    let b = both (is_some (first_of (codes "log") rows)) _ a.1 in
-    inr (inr (inr (inr (inr (inr (inr (inl (refl, a.0, b.0, (both (is_some (first_of (codes "out") rows)) _ b.1).0))))))))
+solve_whole : (rows : List Row) → is_some (solve_in rows) ≡ true → is_whole (form_at 4) rows ≡ true
+solve_whole rows e =
+    let options = option_zip (model_in rows) (budget_in rows) in
+    let x = zip_some (three_in (codes "out") rows) options (map_some _ (option_zip (three_in (codes "out") rows) options) e) in
+    let t = three_texts (codes "out") rows x.0 in
+    let y = zip_some (model_in rows) (budget_in rows) x.1 in
+    cons (cons t.0 (cons t.1 (cons t.2 refl)))
+    (cons (name (codes "program") rows) (cons (name (codes "log") rows) (cons (name (codes "out") rows) (cons (model_value rows y.0)
+    (cons (option_value (number_named 1 BUDGET) (first_of (codes "budget") rows) y.1) (cons (name (codes "least") rows) refl))))))
 
-import_has : (rows : List Row) → given_in (sub_at 8) rows ≡ true → HasFiles (codes "import", rows)
-import_has rows e =
-    let a = both (is_some (first_of (codes "program") rows)) _ e in
-    let b = both (is_some (first_of (codes "log") rows)) _ a.1 in
-    let c = both (is_some (first_of (codes "answer") rows)) _ b.1 in
-    inr (inr (inr (inr (inr (inr (inr (inr (inl (refl, a.0, b.0, c.0, (both (is_some (first_of (codes "out") rows)) _ c.1).0)))))))))
+workload_whole : (rows : List Row) → is_some (workload_in rows) ≡ true → is_whole (form_at 6) rows ≡ true
+workload_whole rows e =
+    let workers = option_and_then (number_named 1 WORKERS) (first_of (codes "workers") rows) in
+    let seed = option_and_then (number_named 0 last_seed) (first_of (codes "seed") rows) in
+    let x = zip_some workers seed (map_some _ (option_zip workers seed) e) in
+    let w = number_value (number_named 1 WORKERS) (first_of (codes "workers") rows) x.0 in
+    let s = number_value (number_named 0 last_seed) (first_of (codes "seed") rows) x.1 in
+    cons (cons w.0 (cons s.0 refl)) (cons w.1 (cons s.1 refl))
 
-why_has : (rows : List Row) → given_in (sub_at 9) rows ≡ true → HasFiles (codes "why", rows)
-why_has rows e =
-    let a = both (is_some (first_of (codes "program") rows)) _ e in
-    let b = both (is_some (first_of (codes "log") rows)) _ a.1 in
-    inr (inr (inr (inr (inr (inr (inr (inr (inr (refl, a.0, b.0, (both (is_some (first_of (codes "refutation") rows)) _ b.1).0)))))))))
+cnf_whole : (rows : List Row) → is_some (export_in rows) ≡ true → is_whole (form_at 7) rows ≡ true
+cnf_whole rows e =
+    let x = zip_some (three_in (codes "out") rows) (model_in rows) (map_some _ (option_zip (three_in (codes "out") rows) (model_in rows)) e) in
+    let t = three_texts (codes "out") rows x.0 in
+    cons (cons t.0 (cons t.1 (cons t.2 refl)))
+    (cons (name (codes "program") rows) (cons (name (codes "log") rows) (cons (name (codes "out") rows) (cons (model_value rows x.1) refl))))
 
-if_some : (o : Option Text) (P : Text → Type 0) → ((v : Text) → o ≡ Some v → P v) → IfSome o P
-if_some None P h = tt
-if_some (Some v) P h = h v refl
+import_whole : (rows : List Row) → is_some (import_in rows) ≡ true → is_whole (form_at 8) rows ≡ true
+import_whole rows e =
+    let more = option_zip (first_of (codes "out") rows) (model_in rows) in
+    let x = zip_some (three_in (codes "answer") rows) more (map_some _ (option_zip (three_in (codes "answer") rows) more) e) in
+    let t = three_texts (codes "answer") rows x.0 in
+    let y = zip_some (first_of (codes "out") rows) (model_in rows) x.1 in
+    cons (cons t.0 (cons t.1 (cons t.2 (cons y.0 refl))))
+    (cons (name (codes "program") rows) (cons (name (codes "log") rows) (cons (name (codes "answer") rows) (cons (name (codes "out") rows)
+    (cons (model_value rows y.1) refl)))))
 
--- fitting values are values that the options take
-fit_values : (name : Text) (rows : List Row) → all_fit fitness rows ≡ true → HasValues (name, rows)
-fit_values name rows fit = record {
-  model = if_some _ _ (λ v at. read_fit fitness (codes "model") rows v fit at);
-  seed = if_some _ _ (λ v at. read_fit fitness (codes "seed") rows v fit at);
-  steps = if_some _ _ (λ v at. read_fit fitness (codes "steps") rows v fit at);
-  budget = if_some _ _ (λ v at. read_fit fitness (codes "budget") rows v fit at);
-  workers = if_some _ _ (λ v at. read_fit fitness (codes "workers") rows v fit at);
-}
+-- one more command before the others
+chosen : (rows : List Row) (b : Bool) (f : Form) (call rest : Option Called) (found : Option Form) → (is_some call ≡ true → is_whole f rows ≡ true)
+    → (is_some rest ≡ true → IsSomeAnd found (λ g. is_whole g rows ≡ true)) → is_some (cond b call rest) ≡ true
+    → IsSomeAnd (cond b (Some f) found) (λ g. is_whole g rows ≡ true)
+chosen rows true f call rest found this later e = this e
+chosen rows false f call rest found this later e = later e
 
-list_sets : AreSetters fitness (sub_at 0).rules
-list_sets = (record { sets = refl; least = refl; test = λ v. refl; reads = refl }, tt)
+none_left : (P : Form → Type 0) → false ≡ true → IsSomeAnd None P
+none_left P e = cc
 
-replay_sets : AreSetters fitness (sub_at 1).rules
-replay_sets = (
-  record { sets = refl; least = refl; test = λ v. refl; reads = refl },
-  (record { sets = refl; least = refl; test = λ v. refl; reads = refl }, (record { sets = refl; least = refl; test = λ v. refl; reads = refl }, tt)),
-)
+of_form : (p : Text × List Row) → is_some (called p) ≡ true → IsOfForm is_whole p
+of_form p =
+    let rows = p.1 in
+    chosen rows (bytes_eq p.0 (codes "list")) (form_at 0) (list_in rows) _ _ (list_whole rows)
+    (chosen rows (bytes_eq p.0 (codes "replay")) (form_at 1) (replay_in rows) _ _ (three_whole (codes "schedule") rows _)
+    (chosen rows (bytes_eq p.0 (codes "record")) (form_at 2) (record_in rows) _ _ (record_whole rows)
+    (chosen rows (bytes_eq p.0 (codes "migrate")) (form_at 3) (migrate_in rows) _ _ (three_whole (codes "out") rows _)
+    (chosen rows (bytes_eq p.0 (codes "solve")) (form_at 4) (solve_in rows) _ _ (solve_whole rows)
+    (chosen rows (bytes_eq p.0 (codes "check")) (form_at 5) (check_in rows) _ _ (three_whole (codes "refutation") rows _)
+    (chosen rows (bytes_eq p.0 (codes "workload")) (form_at 6) (workload_in rows) _ _ (workload_whole rows)
+    (chosen rows (bytes_eq p.0 (codes "cnf")) (form_at 7) (export_in rows) _ _ (cnf_whole rows)
+    (chosen rows (bytes_eq p.0 (codes "import")) (form_at 8) (import_in rows) _ _ (import_whole rows)
+    (chosen rows (bytes_eq p.0 (codes "why")) (form_at 9) (explain_in rows) None None (three_whole (codes "refutation") rows _)
+    (none_left (λ g. is_whole g rows ≡ true)))))))))))
 
-migrate_sets : AreSetters fitness (sub_at 3).rules
-migrate_sets = (
-  record { sets = refl; least = refl; test = λ v. refl; reads = refl },
-  (record { sets = refl; least = refl; test = λ v. refl; reads = refl }, (record { sets = refl; least = refl; test = λ v. refl; reads = refl }, tt)),
-)
+some_weaker : {A : Type 0} (P Q : A → Type 0) → ((x : A) → P x → Q x) → (o : Option A) → IsSomeAnd o P → IsSomeAnd o Q
+some_weaker P Q h None p = p
+some_weaker P Q h (Some x) p = h x p
 
-check_sets : AreSetters fitness (sub_at 5).rules
-check_sets = (
-  record { sets = refl; least = refl; test = λ v. refl; reads = refl },
-  (record { sets = refl; least = refl; test = λ v. refl; reads = refl }, (record { sets = refl; least = refl; test = λ v. refl; reads = refl }, tt)),
-)
+-- what holds of what a call is made of holds of what accepted words say
+accepted : (P : Text × List Row → Type 0) → ((p : Text × List Row) → is_some (called p) ≡ true → P p) → (b : Bool) (o : Option (Text × List Row))
+    → is_some (cond b (option_and_then called o) None) ≡ true → IsSomeAnd o P
+accepted P h true None e = cc
+accepted P h true (Some p) e = h p e
+accepted P h false o e = cc
 
-why_sets : AreSetters fitness (sub_at 9).rules
-why_sets = (
-  record { sets = refl; least = refl; test = λ v. refl; reads = refl },
-  (record { sets = refl; least = refl; test = λ v. refl; reads = refl }, (record { sets = refl; least = refl; test = λ v. refl; reads = refl }, tt)),
-)
+narrowed : (has : Form → List Row → Bool) → ((f : Form) (rows : List Row) → is_whole f rows ≡ true → has f rows ≡ true) → (p : Text × List Row)
+    → IsOfForm is_whole p → IsOfForm has p
+narrowed has narrows p =
+    some_weaker (λ f. is_whole f p.1 ≡ true) (λ f. has f p.1 ≡ true) (λ f. narrows f p.1) (find (λ f. bytes_eq p.0 f.name) forms)
 
-workload_sets : AreSetters fitness (sub_at 6).rules
-workload_sets = (
-  record { sets = refl; least = refl; test = λ v. refl; reads = refl },
-  (record { sets = refl; least = refl; test = λ v. refl; reads = refl }, tt),
-)
+pub taken_has_files : (words : List Text) → words_taken words ≡ true → IsSomeAnd (subcommand_of command_line words) HasFiles
+taken_has_files words =
+    accepted HasFiles (λ p e. narrowed has_texts (λ f rows h. (both (has_texts f rows) (has_values f rows) h).0) p (of_form p e))
+    (is_empty (fault_of command_line words)) (subcommand_of command_line words)
 
-cnf_sets : AreSetters fitness (sub_at 7).rules
-cnf_sets = (
-  record { sets = refl; least = refl; test = λ v. refl; reads = refl },
-  (
-    record { sets = refl; least = refl; test = λ v. refl; reads = refl },
-    (record { sets = refl; least = refl; test = λ v. refl; reads = refl }, (record { sets = refl; least = refl; test = λ v. refl; reads = refl }, tt)),
-  ),
-)
-
-import_sets : AreSetters fitness (sub_at 8).rules
-import_sets = (
-  record { sets = refl; least = refl; test = λ v. refl; reads = refl },
-  (
-    record { sets = refl; least = refl; test = λ v. refl; reads = refl },
-    (
-      record { sets = refl; least = refl; test = λ v. refl; reads = refl },
-      (record { sets = refl; least = refl; test = λ v. refl; reads = refl }, (record { sets = refl; least = refl; test = λ v. refl; reads = refl }, tt)),
-    ),
-  ),
-)
-
-solve_sets : AreSetters fitness (sub_at 4).rules
-solve_sets = (
-  record { sets = refl; least = refl; test = λ v. refl; reads = refl },
-  (
-    record { sets = refl; least = refl; test = λ v. refl; reads = refl },
-    (
-      record { sets = refl; least = refl; test = λ v. refl; reads = refl },
-      (
-        record { sets = refl; least = refl; test = λ v. refl; reads = refl },
-        (record { sets = refl; least = refl; test = λ v. refl; reads = refl }, (record { sets = refl; least = refl; test = λ v. refl; reads = refl }, tt)),
-      ),
-    ),
-  ),
-)
-
-record_sets : AreSetters fitness (sub_at 2).rules
-record_sets = (
-  record { sets = refl; least = refl; test = λ v. refl; reads = refl },
-  (
-    record { sets = refl; least = refl; test = λ v. refl; reads = refl },
-    (
-      record { sets = refl; least = refl; test = λ v. refl; reads = refl },
-      (
-        record { sets = refl; least = refl; test = λ v. refl; reads = refl },
-        (record { sets = refl; least = refl; test = λ v. refl; reads = refl }, tt),
-      ),
-    ),
-  ),
-)
-
-all_have : AllHave (built command_line).subs
-all_have = (
-  λ words e. (
-    list_has (rows_after (sub_at 0).rules [] words) (level_given fitness (sub_at 0) words list_sets e refl),
-    fit_values (codes "list") _ (level_fit fitness (sub_at 0) [] words false list_sets e),
-  ),
-  (
-    λ words e. (
-      replay_has (rows_after (sub_at 1).rules [] words) (level_given fitness (sub_at 1) words replay_sets e refl),
-      fit_values (codes "replay") _ (level_fit fitness (sub_at 1) [] words false replay_sets e),
-    ),
-    (
-      λ words e. (
-        record_has (rows_after (sub_at 2).rules [] words) (level_given fitness (sub_at 2) words record_sets e refl),
-        fit_values (codes "record") _ (level_fit fitness (sub_at 2) [] words false record_sets e),
-      ),
-      (
-        λ words e. (
-          migrate_has (rows_after (sub_at 3).rules [] words) (level_given fitness (sub_at 3) words migrate_sets e refl),
-          fit_values (codes "migrate") _ (level_fit fitness (sub_at 3) [] words false migrate_sets e),
-        ),
-        (
-          λ words e. (
-            solve_has (rows_after (sub_at 4).rules [] words) (level_given fitness (sub_at 4) words solve_sets e refl),
-            fit_values (codes "solve") _ (level_fit fitness (sub_at 4) [] words false solve_sets e),
-          ),
-          (
-            λ words e. (
-              check_has (rows_after (sub_at 5).rules [] words) (level_given fitness (sub_at 5) words check_sets e refl),
-              fit_values (codes "check") _ (level_fit fitness (sub_at 5) [] words false check_sets e),
-            ),
-            (
-              λ words e. (
-                workload_has (rows_after (sub_at 6).rules [] words) (level_given fitness (sub_at 6) words workload_sets e refl),
-                fit_values (codes "workload") _ (level_fit fitness (sub_at 6) [] words false workload_sets e),
-              ),
-              (
-                λ words e. (
-                  cnf_has (rows_after (sub_at 7).rules [] words) (level_given fitness (sub_at 7) words cnf_sets e refl),
-                  fit_values (codes "cnf") _ (level_fit fitness (sub_at 7) [] words false cnf_sets e),
-                ),
-                (
-                  λ words e. (
-                    import_has (rows_after (sub_at 8).rules [] words) (level_given fitness (sub_at 8) words import_sets e refl),
-                    fit_values (codes "import") _ (level_fit fitness (sub_at 8) [] words false import_sets e),
-                  ),
-                  (
-                    λ words e. (
-                      why_has (rows_after (sub_at 9).rules [] words) (level_given fitness (sub_at 9) words why_sets e refl),
-                      fit_values (codes "why") _ (level_fit fitness (sub_at 9) [] words false why_sets e),
-                    ),
-                    tt,
-                  ),
-                ),
-              ),
-            ),
-          ),
-        ),
-      ),
-    ),
-  ),
-)
-
-taken_in : (a : App) (words : List Text) (p : Text × List Row) → AllHave a.subs → built_takes a nothing_held words ≡ true
-    → entered a (stop_after a.top.rules (names_of a) words) ≡ Some p → HasBoth p
-taken_in a words p all e at =
-    entered_has a (stop_after a.top.rules (names_of a) words) p all (both (entered_passes a (stop_after a.top.rules (names_of a) words)) _ e).0 at
-
--- a built command that requires a subcommand enters one
-wanted : (required has : Bool) → required ≡ true → (not required || has) ≡ true → has ≡ true
-wanted true has r e = e
-wanted false has r e = cc
-
-enters : (a : App) (words : List Text) → a.top.subcommand_required ≡ true → built_takes a nothing_held words ≡ true
-    → is_some (entered a (stop_after a.top.rules (names_of a) words)) ≡ true
-enters a words required e =
-    let w = walk a.top.rules (names_of a) nothing_held words in
-    let level = (both (entered_passes a w.stopped) _ e).1 in
-    let after_walk = (both (walk_passes a.top (names_of a) (walk_from nothing_held) words) _ level).1 in
-    let after_settle = (both (settle_passes a.top.rules a.top.args_override_self w.held) _ after_walk).1 in
-    let valid = (both (list_all default_passes a.top.rules) _ after_settle).1 in
-    let wants = (both _ _ (both _ _ valid).1).0 in
-    wanted a.top.subcommand_required _ required wants
-
-there : (o : Option (Text × List Row)) → is_some o ≡ true → ((p : Text × List Row) → o ≡ Some p → HasBoth p) → IsSomeAnd o HasBoth
-there None some has = cc
-there (Some p) some has = has p refl
-
--- words that the command takes enter a subcommand
-pub taken_enters : (words : List Text) → words_taken words ≡ true → is_some (subcommand_of command_line words) ≡ true
-taken_enters words e = enters (built command_line) (argument_words command_line words) refl (both (is_simple command_line) _ e).1
-
-both_taken : (words : List Text) → words_taken words ≡ true → IsSomeAnd (subcommand_of command_line words) HasBoth
-both_taken words e =
-    there (subcommand_of command_line words) (taken_enters words e)
-    (λ p at. taken_in (built command_line) (argument_words command_line words) p all_have (both (is_simple command_line) _ e).1 at)
-
-weaken : (o : Option (Text × List Row)) (P : Text × List Row → Type 0) → ((p : Text × List Row) → HasBoth p → P p) → IsSomeAnd o HasBoth → IsSomeAnd o P
-weaken None P f h = absurd h
-weaken (Some p) P f h = f p h
-
--- words that the command takes have the files of their subcommand
-pub taken_has : (words : List Text) → words_taken words ≡ true → IsSomeAnd (subcommand_of command_line words) HasFiles
-taken_has words e = weaken (subcommand_of command_line words) HasFiles (λ p h. h.0) (both_taken words e)
-
--- words that the command takes have values that its options take
 pub taken_has_values : (words : List Text) → words_taken words ≡ true → IsSomeAnd (subcommand_of command_line words) HasValues
-taken_has_values words e = weaken (subcommand_of command_line words) HasValues (λ p h. h.1) (both_taken words e)
+taken_has_values words =
+    accepted HasValues (λ p e. narrowed has_values (λ f rows h. (both (has_texts f rows) (has_values f rows) h).1) p (of_form p e))
+    (is_empty (fault_of command_line words)) (subcommand_of command_line words)

@@ -1,8 +1,5 @@
-pub mod PlainWords
-pub mod Quiet
-pub mod Fits
-pub mod Bare
-pub mod Numbers
 pub mod Taken
-pub mod Given
+pub mod Numbers
+pub mod PlainWords
 pub mod Plain
+pub mod Given

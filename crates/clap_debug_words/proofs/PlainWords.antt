@@ -1,36 +1,15 @@
 -- A walk over words of which some are plain, that is, aren't flags.
-use Rattle.std.proofs.Common.{◌≡◌, ℕ, refl, ap, ap₂, ◌∙◌, Bool, true, false, List, [], ◌∷◌, Option, Some, None, fold, is_some, ◌&&◌, ◌||◌, sym, map, cond}
-use Rattle.std.specs.Prelude.{⊤}
-use Rattle.std.specs.List.{list_all}
+use Rattle.std.proofs.Common.{◌≡◌, ℕ, refl, ap, ap₂, ◌∙◌, Bool, true, false, List, [], ◌∷◌, Option, Some, None, fold, is_some, sym, map, cond}
+use Rattle.std.specs.Prelude.{⊤, option_and_then}
+use Rattle.std.specs.Option.{option_map_or}
 use Rattle.std.specs.Str.{bytes_eq}
 use Rattle.clap.specs.Lexer.{long_of, long_of_rest, short_of, short_of_rest, strip_byte}
-use Rattle.std.specs.Prelude.{option_and_then}
-use Rattle.std.specs.Option.{option_map_or}
-use Rattle.clap.specs.Walk.{long_or_other, short_or_plain, subcommand_or_other, trailing}
-use Rattle.clap.specs.Takes.{bundle_passes, flag_word_passes, other_passes}
-use Rattle.clap.specs.Walk.{
-  Held,
-  Rule,
-  Step,
-  Text,
-  Waiting,
-  Walk,
-  after_step,
-  finished,
-  idle,
-  option,
-  plain_word,
-  positional,
-  value,
-  walk_from,
-  walked,
-  walked_from,
-  word_met,
-  nothing_held,
-  rows_after,
-}
+use Rattle.clap.specs.Walk.{Held, Rule, Step, Text, Waiting, Walk, after_step, finished, idle, long_or_other, nothing_held, option, plain_word, positional}
+use Rattle.clap.specs.Walk.{rows_after, settled, short_or_plain, subcommand_or_other, trailing, value, walk_from, walked, walked_from, word_met}
 use Rattle.clap.specs.Simple.{Shape}
-use Rattle.clap.specs.Takes.{default_passes, word_passes, is_valid, level_passes, settle_passes, step_passes, turn_passes, walk_passes}
+use Rattle.clap.specs.Kinds.{Kinds, or_else}
+use Rattle.clap.specs.Faults.{bundle_fault, check_fault, defaults_fault, flag_word_fault, level_fault, other_fault, settle_fault, step_fault}
+use Rattle.clap.specs.Faults.{turn_fault, walk_fault, word_fault}
 
 -- the word isn't a flag
 pub record IsPlainWord (p : Text) : Type 0 where
@@ -85,34 +64,34 @@ plain_walked c None w p is at =
     ap (λ s. walked_from c [] s w p) (sym at)
     ∙ ap (λ (m : Held × Step). after_step c p w m.0 m.1) (plain_meets c w.is_trailing w.waiting w.position w.held p is)
 
-other_passes_plain : (s : Shape) (h : Held) (p : Text) → IsPlainWord p → other_passes s None p h ≡ true
-other_passes_plain s h p is =
-    ap₂ (λ (b : Bool) (o : Option (Text × Option Text)). b || flag_word_passes s.rules s.args_override_self o p h) is.no_end (no_long p is)
-    ∙ ap (λ (o : Option Text). option_map_or (λ flags. bundle_passes s.rules s.args_override_self flags h) o true) (no_short p is)
+other_quiet : (s : Shape) (h : Held) (p : Text) → IsPlainWord p → other_fault s None p h ≡ []
+other_quiet s h p is =
+    ap₂ (λ (b : Bool) (o : Option (Text × Option Text)). cond b [] (flag_word_fault s.rules s.args_override_self o p h)) is.no_end (no_long p is)
+    ∙ ap (λ (o : Option Text). option_map_or (λ flags. bundle_fault s.rules s.args_override_self flags h) o []) (no_short p is)
 
-word_passes_plain : (s : Shape) (is_trailing : Bool) (waiting : Waiting) (h : Held) (p : Text) → IsPlainWord p → word_passes s [] is_trailing waiting p h ≡ true
-word_passes_plain s true waiting h p is = refl
-word_passes_plain s false idle h p is = other_passes_plain s h p is
-word_passes_plain s false (option id) h p is = other_passes_plain s h p is
-word_passes_plain s false positional h p is = other_passes_plain s h p is
+word_quiet : (s : Shape) (is_trailing : Bool) (waiting : Waiting) (h : Held) (p : Text) → IsPlainWord p → word_fault s [] is_trailing waiting p h ≡ []
+word_quiet s true waiting h p is = refl
+word_quiet s false idle h p is = other_quiet s h p is
+word_quiet s false (option id) h p is = other_quiet s h p is
+word_quiet s false positional h p is = other_quiet s h p is
 
--- whether a plain word passes at its turn
-abbrev pub plain_turn : Shape → Walk → Text → Bool
-plain_turn s w p = is_some w.stopped
-    || step_passes s w.position (plain_met s.rules w.is_trailing w.waiting p w.held).0 (plain_met s.rules w.is_trailing w.waiting p w.held).1
+-- the fault of a plain word at its turn
+abbrev pub plain_fault : Shape → Walk → Text → Kinds
+plain_fault s w p = cond (is_some w.stopped) []
+    (step_fault s w.position (plain_met s.rules w.is_trailing w.waiting p w.held).0 (plain_met s.rules w.is_trailing w.waiting p w.held).1)
 
-plain_turns : (s : Shape) (w : Walk) (p : Text) → IsPlainWord p → turn_passes s [] w p ≡ plain_turn s w p
+plain_turns : (s : Shape) (w : Walk) (p : Text) → IsPlainWord p → turn_fault s [] w p ≡ plain_fault s w p
 plain_turns s w p is =
-    ap₂ (λ (a : Bool) (m : Held × Step). is_some w.stopped || (a && step_passes s w.position m.0 m.1))
-    (word_passes_plain s w.is_trailing w.waiting w.held p is) (plain_meets s.rules w.is_trailing w.waiting w.position w.held p is)
+    ap₂ (λ (k : Kinds) (m : Held × Step). cond (is_some w.stopped) [] (or_else k (step_fault s w.position m.0 m.1)))
+    (word_quiet s w.is_trailing w.waiting w.held p is) (plain_meets s.rules w.is_trailing w.waiting w.position w.held p is)
 
-abbrev pub marked_turn : Shape → Walk → Marked → Bool
-marked_turn s w (true, p) = plain_turn s w p
-marked_turn s w (false, p) = turn_passes s [] w p
+abbrev pub marked_turn : Shape → Walk → Marked → Kinds
+marked_turn s w (true, p) = plain_fault s w p
+marked_turn s w (false, p) = turn_fault s [] w p
 
-abbrev pub marked_passes : Shape → Walk → List Marked → Bool
-marked_passes s w [] = true
-marked_passes s w (m ∷ rest) = marked_turn s w m && marked_passes s (marked_walk s.rules w m) rest
+abbrev pub marked_faults : Shape → Walk → List Marked → Kinds
+marked_faults s w [] = []
+marked_faults s w (m ∷ rest) = or_else (marked_turn s w m) (marked_faults s (marked_walk s.rules w m) rest)
 
 abbrev pub all_walk : List Rule → Walk → List Marked → Walk
 all_walk c w [] = w
@@ -127,31 +106,31 @@ ArePlain [] = ⊤
 ArePlain ((true, p) ∷ rest) = IsPlainWord p × ArePlain rest
 ArePlain ((false, p) ∷ rest) = ArePlain rest
 
-pub walk-marked : (c : List Rule) (w : Walk) (ms : List Marked) → ArePlain ms → fold (walked c []) w (words_in ms) ≡ all_walk c w ms
+walk-marked : (c : List Rule) (w : Walk) (ms : List Marked) → ArePlain ms → fold (walked c []) w (words_in ms) ≡ all_walk c w ms
 walk-marked c w [] h = refl
 walk-marked c w ((true, p) ∷ rest) h =
     ap (λ (x : Walk). fold (walked c []) x (words_in rest)) (plain_walked c w.stopped w p h.0 refl) ∙ walk-marked c (plain_from c w.stopped w p) rest h.1
 walk-marked c w ((false, p) ∷ rest) h = walk-marked c (walked c [] w p) rest h
 
-pub passes-marked : (s : Shape) (w : Walk) (ms : List Marked) → ArePlain ms → walk_passes s [] w (words_in ms) ≡ marked_passes s w ms
-unfolding walk_passes
-passes-marked s w [] h = refl
-passes-marked s w ((true, p) ∷ rest) h =
-    ap₂ (λ (b : Bool) (x : Walk). b && walk_passes s [] x (words_in rest)) (plain_turns s w p h.0) (plain_walked s.rules w.stopped w p h.0 refl)
-    ∙ ap (λ b. plain_turn s w p && b) (passes-marked s (plain_from s.rules w.stopped w p) rest h.1)
-passes-marked s w ((false, p) ∷ rest) h = ap (λ b. turn_passes s [] w p && b) (passes-marked s (walked s.rules [] w p) rest h)
+faults-marked : (s : Shape) (w : Walk) (ms : List Marked) → ArePlain ms → walk_fault s [] w (words_in ms) ≡ marked_faults s w ms
+unfolding walk_fault
+faults-marked s w [] h = refl
+faults-marked s w ((true, p) ∷ rest) h =
+    ap₂ (λ (k : Kinds) (x : Walk). or_else k (walk_fault s [] x (words_in rest))) (plain_turns s w p h.0) (plain_walked s.rules w.stopped w p h.0 refl)
+    ∙ ap (or_else (plain_fault s w p)) (faults-marked s (plain_from s.rules w.stopped w p) rest h.1)
+faults-marked s w ((false, p) ∷ rest) h = ap (or_else (turn_fault s [] w p)) (faults-marked s (walked s.rules [] w p) rest h)
 
--- a level of the parse, over marked words
-abbrev pub level_at : Shape → Bool → Held → Bool → Bool
-level_at s passed end has_subcommand = passed && (settle_passes s.rules s.args_override_self end
-    && (list_all default_passes s.rules && is_valid s (finished s.rules end) has_subcommand))
+-- the fault of a level of the parse, by that of its words and what is held after them
+abbrev pub fault_at : Shape → Kinds → Held → Kinds
+fault_at s words end = or_else words (or_else [] (or_else (settle_fault s.rules s.args_override_self end)
+    (or_else (defaults_fault (settled s.rules end).rows s.rules) (check_fault s (finished s.rules end) false))))
 
-abbrev pub marked_level : Shape → List Marked → Bool
-marked_level s ms = level_at s (marked_passes s (walk_from nothing_held) ms) (all_walk s.rules (walk_from nothing_held) ms).held false
+abbrev pub end_of : Shape → List Marked → Held
+end_of s ms = (all_walk s.rules (walk_from nothing_held) ms).held
 
-pub level-marked : (s : Shape) (ms : List Marked) → ArePlain ms → level_passes s [] nothing_held (words_in ms) false ≡ marked_level s ms
-level-marked s ms h = ap₂ (λ (b : Bool) (w : Walk). level_at s b w.held false) (passes-marked s _ ms h) (walk-marked s.rules _ ms h)
+pub level-marked : (s : Shape) (ms : List Marked) → ArePlain ms
+    → level_fault s [] nothing_held (words_in ms) false [] ≡ fault_at s (marked_faults s (walk_from nothing_held) ms) (end_of s ms)
+level-marked s ms h = ap₂ (λ (k : Kinds) (w : Walk). fault_at s k w.held) (faults-marked s _ ms h) (walk-marked s.rules _ ms h)
 
-pub rows-marked : (s : Shape) (ms : List Marked) → ArePlain ms →
-    rows_after s.rules [] (words_in ms) ≡ finished s.rules (all_walk s.rules (walk_from nothing_held) ms).held
+pub rows-marked : (s : Shape) (ms : List Marked) → ArePlain ms → rows_after s.rules [] (words_in ms) ≡ finished s.rules (end_of s ms)
 rows-marked s ms h = ap (λ (w : Walk). finished s.rules w.held) (walk-marked s.rules _ ms h)

@@ -1,4 +1,6 @@
 pub mod CommandLine
+pub mod Values
 pub mod Calls
 pub mod PlainWords
 pub mod Given
+pub mod helpers

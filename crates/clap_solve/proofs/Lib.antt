@@ -10,7 +10,7 @@ pub use Rattle.orders_are_runs.proofs as orders_are_runs
 pub use Rattle.clap_system.proofs.read_write
 pub use Rattle.refute_check.proofs as refute_check
 pub use Rattle.schedule_file.proofs as schedule_file
-pub use Rattle.formula_sizes.proofs.switch_order
+pub use Rattle.clap_solve.proofs.formula_sizes.switch_order
 pub use Rattle.clap_system.proofs.sym_events
 pub use Rattle.schedule_decode.proofs.sym_laws
 pub use Rattle.clap_system.proofs.sync_order

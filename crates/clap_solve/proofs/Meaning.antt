@@ -45,8 +45,8 @@ use Rattle.bit_blast.specs.Drafts.{Draft, DraftMeans, KeepsWorlds, drafted}
 use Rattle.bit_blast.proofs.Completed.{contended_within}
 use Rattle.bit_blast.proofs.Posed.{drafts-mean, drafts-tell}
 use Rattle.mutex_clauses.proofs.mutex_states.Keeping.{states_keep}
-use Rattle.mutex_rules.proofs.Stated.{states_rules}
-use Rattle.mutex_rules.proofs.Worlds.{has_worlds}
+use Rattle.clap_solve.proofs.mutex_rules.Stated.{states_rules}
+use Rattle.clap_solve.proofs.mutex_rules.Worlds.{has_worlds}
 use Rattle.refute_check.specs.Refutations.{IsClosed}
 use Rattle.refute_check.specs.declared.line.Line.{Line}
 use Rattle.refute_check.proofs.Sound.{closed-means-unsatisfiable}

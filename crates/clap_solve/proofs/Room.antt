@@ -37,8 +37,8 @@ use Rattle.first_run.proofs.order_events.Whole.{whole}
 use Rattle.schedule_decode.specs.Decodable.{HaveRoom}
 use Rattle.store_buffers.specs.Pending.{Binding}
 use Rattle.clap_system.specs.Systems.{system_of}
-use Rattle.formula_sizes.specs.Small.{ClausesHaveRoom}
-use Rattle.formula_sizes.proofs.Room as sizes
+use Rattle.clap_solve.specs.formula_sizes.Small.{ClausesHaveRoom}
+use Rattle.clap_solve.proofs.formula_sizes.Room as sizes
 use Rattle.clap_solve.specs.Solved.{IsWithin}
 
 -- if a search finds nothing, no element passes

@@ -17,7 +17,7 @@ pub use Rattle.run_log.specs as run_log
 pub use Rattle.schedule_decode.specs as schedule_decode
 pub use Rattle.schedule_file.specs as schedule_file
 pub use Rattle.store_buffers.specs as store_buffers
-pub use Rattle.formula_sizes.specs.switch_order
+pub use Rattle.clap_solve.specs.formula_sizes.switch_order
 pub use Rattle.clap_system.specs.sym_exec as sym_exec
 pub use Rattle.order_formula.specs.sym_terms as sym_terms
 pub use Rattle.clap_system.specs.sync_order
@@ -29,3 +29,5 @@ pub mod Imported
 pub mod Posed
 pub mod Solved
 pub mod helpers
+pub mod mutex_rules
+pub mod formula_sizes

@@ -3,9 +3,11 @@
 
 mod checking;
 mod fault;
+pub mod formula_sizes;
 mod imported;
 mod importing;
 pub mod laws;
+pub mod mutex_rules;
 mod posed;
 mod solving;
 

@@ -5,7 +5,7 @@ use Rattle.tc_io.specs.Outside.{Files, ShelfTells, SinkTells, Wrote, bytes_at, p
 use Rattle.command_frame.specs.End.{End}
 use Rattle.command_frame.specs.Run.{Runs}
 use Rattle.command_frame.specs.declared.status.Status.TheVariants.{Done}
-use Rattle.command_ends.proofs.Ended.{Reports, declines, reported, reported_or_declined, result_at}
+use Rattle.command_inputs.proofs.command_ends.Ended.{Reports, declines, reported, reported_or_declined, result_at}
 use Rattle.log_tasks.specs.Asked.{Asked, ComesTo, inputs_of}
 use Rattle.log_tasks.proofs.Tasks.{one_unsearched, task_or_refusal}
 use Rattle.cnf_command.specs.Answers.{CnfAnswers, LeavesClauses}

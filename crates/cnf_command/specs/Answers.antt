@@ -6,7 +6,7 @@ use Rattle.run_log.specs.tc_base.declared.moves.Move.{Move}
 use Rattle.tc_io.specs.Outside.{Files}
 use Rattle.command_frame.specs.ByStatus.{IsStatus}
 use Rattle.command_frame.specs.End.{End, Leaves}
-use Rattle.command_ends.specs.Ends.{AreShort, Declines, HasDeclined}
+use Rattle.command_inputs.specs.command_ends.Ends.{AreShort, Declines, HasDeclined}
 use Rattle.log_tasks.specs.Asked.{Asked, IsRefused, TaskOf, inputs_of}
 use Rattle.log_tasks.specs.Tasks.{Reproduces, clauses_of}
 use Rattle.cnf_command.specs.Lines.{clauses_line}

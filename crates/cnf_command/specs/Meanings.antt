@@ -8,7 +8,7 @@ use Rattle.tc_code.specs.Code.{Code}
 use Rattle.command_frame.specs.Meaning.{Meaning}
 use Rattle.command_frame.specs.declared.status.Status.TheVariants.{Done}
 use Rattle.command_inputs.specs.declared.refusal.Refusal.{Refusal}
-use Rattle.command_ends.specs.Outcomes.{Report, command_of}
+use Rattle.command_inputs.specs.command_ends.Outcomes.{Report, command_of}
 use Rattle.log_tasks.specs.Asked.{Asked, ComesTo, inputs_of}
 use Rattle.cnf_command.specs.Lines.{clauses_line}
 use Rattle.cnf_command.specs.declared.export.Exported.{Exported}

@@ -10,3 +10,4 @@ pub mod Refusals
 pub mod Forms
 pub mod Outcomes
 pub mod helpers
+pub mod command_ends

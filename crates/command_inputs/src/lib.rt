@@ -2,6 +2,7 @@
 //! refused.
 #![tactic(auto)]
 
+pub mod command_ends;
 mod file;
 mod limits;
 mod reading;

@@ -7,7 +7,7 @@ use Rattle.tc_code.specs.Code.{Code}
 use Rattle.tc_compile.specs.Programs.{IsCodeOf}
 use Rattle.tc_io.specs.Outside.{Files, bytes_at}
 use Rattle.kept_logs.specs.run_log.Logs.{StoredLog}
-use Rattle.command_ends.specs.Ends.{AreShort, Declines, HasDeclined}
+use Rattle.command_inputs.specs.command_ends.Ends.{AreShort, Declines, HasDeclined}
 use Rattle.command_frame.specs.ByStatus.{IsStatus}
 use Rattle.command_frame.specs.End.{End, Leaves, LeavesNothing}
 use Rattle.find_failures.specs.Found.{AreMany, IsRefuted, IsUnknown}

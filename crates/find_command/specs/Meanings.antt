@@ -1,7 +1,7 @@
 -- What a search means.
 use Rattle.std.specs.Prelude.{ℕ, List, [], ◌∷◌, Result, Ok, Err}
 use Rattle.tc_compile.specs.Programs.{IsRefusal}
-use Rattle.command_ends.specs.Outcomes.{Report, command_of}
+use Rattle.command_inputs.specs.command_ends.Outcomes.{Report, command_of}
 use Rattle.command_frame.specs.Inputs.{Texts}
 use Rattle.command_frame.specs.Keeps.{Keep}
 use Rattle.command_frame.specs.Meaning.{Meaning}

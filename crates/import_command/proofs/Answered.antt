@@ -11,7 +11,7 @@ use Rattle.command_frame.specs.declared.status.Status.TheVariants.{Done, Fails}
 use Rattle.command_inputs.specs.Forms.{IsSchedule}
 use Rattle.log_tasks.specs.Asked.{LeavesSchedule}
 use Rattle.log_tasks.specs.Tasks.{Reproduces, clauses_of}
-use Rattle.command_ends.proofs.Ended.{Reports, declines, reported, reported_or_declined, result_at}
+use Rattle.command_inputs.proofs.command_ends.Ended.{Reports, declines, reported, reported_or_declined, result_at}
 use Rattle.import_command.specs.Answers.{ImportAnswers}
 use Rattle.import_command.specs.Calls.{AnsweredIn, Import, inputs_of}
 use Rattle.import_command.specs.Lines.{imported_said}

@@ -4,7 +4,7 @@ use Rattle.run_log.specs.tc_base.declared.moves.Move.{Move}
 use Rattle.tc_io.specs.Outside.{Files}
 use Rattle.command_frame.specs.ByStatus.{IsStatus}
 use Rattle.command_frame.specs.End.{End, LeavesNothing}
-use Rattle.command_ends.specs.Ends.{AreShort, Declines, HasDeclined}
+use Rattle.command_inputs.specs.command_ends.Ends.{AreShort, Declines, HasDeclined}
 use Rattle.log_tasks.specs.Asked.{LeavesSchedule}
 use Rattle.log_tasks.specs.Tasks.{Reproduces}
 use Rattle.import_command.specs.Calls.{AnsweredIn, Import, IsRefused, inputs_of}

@@ -8,7 +8,7 @@ use Rattle.command_frame.specs.Keeps.{Keep}
 use Rattle.command_frame.specs.Meaning.{Meaning}
 use Rattle.command_inputs.specs.Forms.{IsSchedule}
 use Rattle.command_inputs.specs.declared.refusal.Refusal.{Refusal}
-use Rattle.command_ends.specs.Outcomes.{Report, command_of}
+use Rattle.command_inputs.specs.command_ends.Outcomes.{Report, command_of}
 use Rattle.log_tasks.specs.Tasks.{Reproduces, clauses_of, model_of}
 use Rattle.import_command.specs.Calls.{Answered, Import, IsUntaken, inputs_of}
 use Rattle.import_command.specs.Lines.{imported_said}

@@ -9,7 +9,7 @@ use Rattle.command_frame.specs.Answers.{number_of}
 use Rattle.command_frame.specs.End.{End}
 use Rattle.command_frame.specs.Run.{Runs}
 use Rattle.command_frame.specs.declared.status.Status.TheVariants.{Done, Fails, Open}
-use Rattle.command_ends.proofs.Ended.{Reports, declines, reported, reported_or_declined, result_at}
+use Rattle.command_inputs.proofs.command_ends.Ended.{Reports, declines, reported, reported_or_declined, result_at}
 use Rattle.log_tasks.specs.Asked.{ComesTo, inputs_of}
 use Rattle.log_tasks.proofs.Tasks.{one_unsearched, task_or_refusal}
 use Rattle.least_command.specs.Answers.{LeastAnswers, Leaves}

@@ -11,7 +11,7 @@ use Rattle.tc_io.specs.Outside.{Files, Wrote}
 use Rattle.command_frame.specs.ByStatus.{IsStatus}
 use Rattle.command_frame.specs.End.{End}
 use Rattle.command_frame.specs.Keeps.{put_all}
-use Rattle.command_ends.specs.Ends.{AreShort, Declines, HasDeclined}
+use Rattle.command_inputs.specs.command_ends.Ends.{AreShort, Declines, HasDeclined}
 use Rattle.log_tasks.specs.Asked.{IsRefused, TaskOf, inputs_of}
 use Rattle.log_tasks.specs.Tasks.{model_of}
 use Rattle.log_tasks.specs.Texts.{IsTextOf}

@@ -18,7 +18,7 @@ use Rattle.command_frame.specs.declared.status.Status.{Status}
 use Rattle.command_frame.specs.declared.status.Status.TheVariants as status
 use Rattle.command_inputs.specs.declared.refusal.Refusal.{Refusal}
 use Rattle.log_tasks.specs.Lines.{impossible_line, spent_line}
-use Rattle.command_ends.specs.Outcomes.{Report, command_of}
+use Rattle.command_inputs.specs.command_ends.Outcomes.{Report, command_of}
 use Rattle.log_tasks.specs.Asked.{ComesTo, inputs_of}
 use Rattle.log_tasks.specs.Texts.{IsRefutation, IsTextOf}
 use Rattle.least_command.specs.Calls.{Least, keeps_of}

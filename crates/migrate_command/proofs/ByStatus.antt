@@ -13,8 +13,8 @@ use Rattle.command_inputs.proofs.Pairs.{at_pair}
 use Rattle.command_inputs.specs.Forms.{Pair}
 use Rattle.tc_io.specs.Outside.{Files, ShelfTells, SinkTells, bytes_at}
 use Rattle.command_inputs.specs.tc_parser.declared.fault.TextFault.{TextFault}
-use Rattle.command_ends.specs.Ends.{AreShort}
-use Rattle.command_ends.proofs.Ended.{declines, reported, reported_or_declined, result_at}
+use Rattle.command_inputs.specs.command_ends.Ends.{AreShort}
+use Rattle.command_inputs.proofs.command_ends.Ended.{declines, reported, reported_or_declined, result_at}
 use Rattle.command_frame.specs.ByStatus.{IsStatus}
 use Rattle.command_frame.specs.End.{End}
 use Rattle.command_frame.specs.Run.{Runs}

@@ -1,7 +1,7 @@
 -- The headline: what `migrate` answers to files that are known.
 use Rattle.std.specs.Prelude.{◌≡◌, ◌⊎◌, ℕ, List}
 use Rattle.tc_io.specs.Outside.{Files, bytes_at}
-use Rattle.command_ends.specs.Ends.{AreShort, Declines, HasDeclined}
+use Rattle.command_inputs.specs.command_ends.Ends.{AreShort, Declines, HasDeclined}
 use Rattle.command_frame.specs.ByStatus.{IsStatus}
 use Rattle.command_frame.specs.End.{End, Leaves}
 use Rattle.command_inputs.specs.declared.refusal.Refusal.{Refusal}

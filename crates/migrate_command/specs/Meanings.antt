@@ -1,6 +1,6 @@
 -- What `migrate` means.
 use Rattle.std.specs.Prelude.{ℕ, List, [], ◌∷◌, Result, Ok, Err, codes}
-use Rattle.command_ends.specs.Outcomes.{Report, command_of}
+use Rattle.command_inputs.specs.command_ends.Outcomes.{Report, command_of}
 use Rattle.command_frame.specs.Inputs.{Texts, Wanted, Whole}
 use Rattle.command_frame.specs.Meaning.{Meaning}
 use Rattle.command_frame.specs.declared.status.Status.TheVariants.{Done}

@@ -8,8 +8,8 @@ use Rattle.tc_io.specs.Outside.{Files, ShelfTells, SinkTells, bytes_at}
 use Rattle.tc_code.specs.tc_limits.declared.limits.TheConstants.{PROGRAM_BYTES}
 use Rattle.tc_record.specs.Seeded.{Ended}
 use Rattle.tc_record.specs.declared.end.Which.{Which}
-use Rattle.command_ends.specs.Ends.{Declines, HasDeclined}
-use Rattle.command_ends.proofs.Ended.{Reports, declines, reported, reported_or_declined, result_at}
+use Rattle.command_inputs.specs.command_ends.Ends.{Declines, HasDeclined}
+use Rattle.command_inputs.proofs.command_ends.Ended.{Reports, declines, reported, reported_or_declined, result_at}
 use Rattle.command_frame.specs.Answers.{number_of}
 use Rattle.command_frame.specs.ByStatus.{IsStatus}
 use Rattle.command_frame.specs.End.{End}

@@ -5,7 +5,7 @@ use Rattle.tc_compile.specs.Programs.{IsCodeOf}
 use Rattle.tc_io.specs.Outside.{Files, bytes_at}
 use Rattle.tc_code.specs.tc_limits.declared.limits.TheConstants.{PROGRAM_BYTES}
 use Rattle.tc_record.specs.declared.end.Which.{Which}
-use Rattle.command_ends.specs.Ends.{Declines, HasDeclined}
+use Rattle.command_inputs.specs.command_ends.Ends.{Declines, HasDeclined}
 use Rattle.command_frame.specs.Answers.{number_of}
 use Rattle.command_frame.specs.ByStatus.{IsStatus}
 use Rattle.command_frame.specs.End.{End, Leaves, LeavesNothing}

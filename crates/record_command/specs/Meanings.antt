@@ -4,7 +4,7 @@ use Rattle.memory_models.specs.declared.model.Model.{Model}
 use Rattle.tc_code.specs.Code.{Code}
 use Rattle.tc_compile.specs.Programs.{IsCodeOf, IsRefusal}
 use Rattle.tc_record.specs.Seeded.{Ended}
-use Rattle.command_ends.specs.Outcomes.{Report, command_of}
+use Rattle.command_inputs.specs.command_ends.Outcomes.{Report, command_of}
 use Rattle.command_frame.specs.Inputs.{Texts, Wanted, Whole}
 use Rattle.command_frame.specs.Keeps.{Keep}
 use Rattle.command_frame.specs.Meaning.{Meaning}

@@ -1,6 +1,6 @@
 -- A refutation is judged, or there is one reason why it isn't.
 use Rattle.std.proofs.Common.{◌≡◌, ◌∙◌, ℕ, true, List, [], ◌∷◌, ap, refl, sym, subst}
-use Rattle.command_ends.proofs.path_log.Logs.{log_or_fault}
+use Rattle.command_inputs.proofs.path_log.Logs.{log_or_fault}
 use Rattle.refute_check.proofs.Cuts.{Step}
 use Rattle.refute_check.proofs.Pieces.{broken-is-no-text}
 use Rattle.refute_check.proofs.Wholes.{reads-agree, text-has-one-value}
@@ -10,13 +10,13 @@ use Rattle.refute_check.specs.Refutations.{check}
 use Rattle.refute_check.specs.declared.head.Head.{Head}
 use Rattle.refute_check.specs.declared.line.Line.{Line}
 use Rattle.log_tasks.specs.run_log.Logs.{StoredLog}
-use Rattle.command_ends.proofs.tc_compile.OnePrograms.{refused_no_code}
+use Rattle.command_inputs.proofs.tc_compile.OnePrograms.{refused_no_code}
 use Rattle.std.specs.Prelude.{is_some, nat_eq}
 use Rattle.std.proofs.lemmas.Option.{same_Some}
-use Rattle.command_ends.specs.command_inputs.Forms.{IsUnread}
-use Rattle.command_ends.specs.command_inputs.declared.refusal.LogRefusal.TheVariants.{Form}
-use Rattle.command_ends.specs.command_inputs.declared.refusal.Refusal.{Refusal}
-use Rattle.command_ends.specs.command_inputs.declared.refusal.Refusal.TheVariants as refusal
+use Rattle.command_inputs.specs.Forms.{IsUnread}
+use Rattle.command_inputs.specs.declared.refusal.LogRefusal.TheVariants.{Form}
+use Rattle.command_inputs.specs.declared.refusal.Refusal.{Refusal}
+use Rattle.command_inputs.specs.declared.refusal.Refusal.TheVariants as refusal
 use Rattle.log_tasks.proofs.Tasks.{at_pair, one_unsearched, task_or_refusal}
 use Rattle.log_tasks.specs.Refused.{IsUnsearched}
 use Rattle.log_tasks.specs.Tasks.{Task}

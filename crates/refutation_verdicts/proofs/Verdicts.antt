@@ -2,10 +2,10 @@
 use Rattle.std.proofs.Common.{◌≡◌, ◌∙◌, ◌⊎◌, inl, inr, ap, refl, sym, ℕ, List, [], Result, Ok, Err}
 use Rattle.refute_check.specs.declared.verdict.CheckFault.{CheckFault}
 use Rattle.refute_check.specs.declared.verdict.Checked.{Checked}
-use Rattle.command_ends.specs.Outcomes.{outcome_keeps}
+use Rattle.command_inputs.specs.command_ends.Outcomes.{outcome_keeps}
 use Rattle.command_frame.specs.Answers.{number_of}
 use Rattle.command_frame.specs.Keeps.{Keep}
-use Rattle.command_ends.specs.command_inputs.declared.refusal.Refusal.{Refusal}
+use Rattle.command_inputs.specs.declared.refusal.Refusal.{Refusal}
 use Rattle.refutation_verdicts.specs.Verdicts.{IsVerdict, found_status, verdict_status}
 use Rattle.refutation_verdicts.specs.declared.verdict.Verdict.{Verdict}
 use Rattle.refutation_verdicts.specs.declared.verdict.Verdict.TheVariants.{Closed, Open, LineRefused}

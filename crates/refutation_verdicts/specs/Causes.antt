@@ -1,9 +1,9 @@
 -- Why a refutation isn't judged.
 use Rattle.std.specs.Prelude.{ℕ, List}
-use Rattle.command_ends.specs.command_inputs.Forms.{IsUnread}
-use Rattle.command_ends.specs.command_inputs.declared.refusal.LogRefusal.TheVariants.{Form}
-use Rattle.command_ends.specs.command_inputs.declared.refusal.Refusal.{Refusal}
-use Rattle.command_ends.specs.command_inputs.declared.refusal.Refusal.TheVariants as refusal
+use Rattle.command_inputs.specs.Forms.{IsUnread}
+use Rattle.command_inputs.specs.declared.refusal.LogRefusal.TheVariants.{Form}
+use Rattle.command_inputs.specs.declared.refusal.Refusal.{Refusal}
+use Rattle.command_inputs.specs.declared.refusal.Refusal.TheVariants as refusal
 use Rattle.log_tasks.specs.Refused.{IsUnsearched}
 use Rattle.log_tasks.specs.Tasks.{Pair}
 

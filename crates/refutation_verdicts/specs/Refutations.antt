@@ -9,7 +9,7 @@ use Rattle.log_tasks.specs.run_log.Logs.{Log}
 use Rattle.switch_clauses.specs.store_buffers.Buffers.{buffer_of}
 use Rattle.switch_clauses.specs.Clauses.{switch_clauses}
 use Rattle.switch_clauses.specs.switch_runs.Switches.{switches}
-use Rattle.command_ends.specs.tc_base.declared.moves.Move.{Move}
+use Rattle.command_inputs.specs.tc_base.declared.moves.Move.{Move}
 use Rattle.log_tasks.specs.tc_code.Code.{Code}
 use Rattle.log_tasks.specs.Tasks.{Task}
 use Rattle.log_tasks.specs.Texts.{IsRefutation}

@@ -7,7 +7,7 @@ use Rattle.refute_check.specs.declared.verdict.Checked.{Checked}
 use Rattle.refute_check.specs.declared.verdict.Checked.TheVariants as checked
 use Rattle.command_frame.specs.declared.status.Status.{Status}
 use Rattle.command_frame.specs.declared.status.Status.TheVariants as status
-use Rattle.command_ends.specs.Outcomes.{Report}
+use Rattle.command_inputs.specs.command_ends.Outcomes.{Report}
 use Rattle.refutation_verdicts.specs.declared.verdict.Verdict.{Verdict}
 use Rattle.refutation_verdicts.specs.declared.verdict.Verdict.TheVariants.{Closed, Open, LineRefused}
 

@@ -16,7 +16,7 @@ use Rattle.command_frame.specs.declared.status.Status.TheVariants.{Done, Fails, 
 use Rattle.command_inputs.specs.Forms.{IsSchedule}
 use Rattle.log_tasks.specs.Tasks.{model_of}
 use Rattle.log_tasks.specs.Texts.{IsTextOf}
-use Rattle.command_ends.proofs.Ended.{Reports, declines, reported, reported_or_declined, result_at}
+use Rattle.command_inputs.proofs.command_ends.Ended.{Reports, declines, reported, reported_or_declined, result_at}
 use Rattle.log_tasks.specs.Asked.{ComesTo, inputs_of}
 use Rattle.log_tasks.proofs.Tasks.{one_unsearched, task_or_refusal}
 use Rattle.solve_command.specs.Answers.{SolveAnswers}

@@ -8,7 +8,7 @@ use Rattle.run_log.specs.tc_base.declared.moves.Move.{Move}
 use Rattle.tc_io.specs.Outside.{Files}
 use Rattle.command_frame.specs.ByStatus.{IsStatus}
 use Rattle.command_frame.specs.End.{End, Leaves}
-use Rattle.command_ends.specs.Ends.{AreShort, Declines, HasDeclined}
+use Rattle.command_inputs.specs.command_ends.Ends.{AreShort, Declines, HasDeclined}
 use Rattle.log_tasks.specs.Asked.{IsRefused, LeavesSchedule, TaskOf, inputs_of}
 use Rattle.log_tasks.specs.Lines.{impossible_line, spent_line}
 use Rattle.log_tasks.specs.Tasks.{Reproduces, clauses_of, model_of}

@@ -8,16 +8,16 @@ use Rattle.std.proofs.lemmas.List.{length-map}
 use Rattle.std.proofs.lemmas.List.Elements.{All-cons, All-contains, All-map}
 use Rattle.std.proofs.lemmas.List.Folds.{list_any-append}
 use Rattle.std.proofs.lemmas.Option.{none-some, same_Some}
-use Rattle.switch_runs.specs.tc_base.Buffers.{BufferOps}
+use Rattle.switch_clauses.specs.switch_runs.tc_base.Buffers.{BufferOps}
 use Rattle.clap_solve.specs.run_log.Logs.{Log}
-use Rattle.switch_runs.specs.memory_models.declared.model.Model.{Model}
-use Rattle.switch_runs.specs.tc_base.declared.moves.Move.{Move}
+use Rattle.switch_clauses.specs.switch_runs.memory_models.declared.model.Model.{Model}
+use Rattle.switch_clauses.specs.switch_runs.tc_base.declared.moves.Move.{Move}
 use Rattle.clap_solve.specs.tc_code.Code.{Code}
 use Rattle.clap_solve.specs.tc_code.Lawful.{IsLawful}
 use Rattle.clap_solve.specs.tc_code.Run.{Reproduces}
 use Rattle.clap_solve.specs.store_buffers.Laws.{Laws}
 use Rattle.clap_solve.specs.store_buffers.Pending.{Binding}
-use Rattle.switch_runs.specs.run_follows.Follow.{moves_for}
+use Rattle.switch_clauses.specs.switch_runs.run_follows.Follow.{moves_for}
 use Rattle.clap_solve.specs.run_log.Logs.{is_log}
 use Rattle.clap_solve.specs.path_walk.Paths.{Paths, paths_of}
 use Rattle.clap_solve.specs.path_walk.declared.event.Event.{Event}
@@ -29,13 +29,13 @@ use Rattle.clap_solve.specs.order_formula.declared.read.Candidate.{Candidate}
 use Rattle.clap_solve.specs.order_formula.Orders.{BodyIsAsked, BodyIsIn, ConjunctIsAsked, ConjunctIsIn, Grows, IsOrder, Order, pair_of, same_pair}
 use Rattle.clap_solve.specs.order_formula.Worlds.{World}
 use Rattle.clap_solve.proofs.order_formula.Asked.{formula_stays}
-use Rattle.switch_runs.specs.lawful_order.Events.{Placed, all_events, number_of}
-use Rattle.switch_runs.proofs.order_events.Lists as lists
-use Rattle.switch_runs.proofs.order_events.Numbers.{has_number}
-use Rattle.switch_runs.proofs.order_events.Parts.{each_in}
-use Rattle.switch_runs.proofs.order_events.Whole as paths_are
-use Rattle.switch_runs.specs.world_plan.Plan.{is_failure, plan}
-use Rattle.switch_runs.proofs.world_plan.Numbers.{event_numbered, of_find}
+use Rattle.switch_clauses.specs.switch_runs.lawful_order.Events.{Placed, all_events, number_of}
+use Rattle.switch_clauses.proofs.switch_runs.order_events.Lists as lists
+use Rattle.switch_clauses.proofs.switch_runs.order_events.Numbers.{has_number}
+use Rattle.switch_clauses.proofs.switch_runs.order_events.Parts.{each_in}
+use Rattle.switch_clauses.proofs.switch_runs.order_events.Whole as paths_are
+use Rattle.switch_clauses.specs.switch_runs.world_plan.Plan.{is_failure, plan}
+use Rattle.switch_clauses.proofs.switch_runs.world_plan.Numbers.{event_numbered, of_find}
 use Rattle.clap_solve.specs.cnf_core.Clauses.{Formula, Valuation, satisfies}
 use Rattle.clap_solve.specs.bit_order.Laws.{IsWorldFor, PairIsAsked}
 use Rattle.clap_solve.specs.bit_order.Layouts.{Layout}
@@ -57,22 +57,22 @@ use Rattle.clap_solve.proofs.refute_check.Sound.{closed-means-unsatisfiable}
 use Rattle.clap_solve.specs.switch_order.Laws.{IsReady, LevelsMean}
 use Rattle.clap_solve.specs.switch_order.Levels.{level_clauses}
 use Rattle.clap_solve.proofs.switch_order.Levels.{levels_mean}
-use Rattle.switch_runs.specs.Switches as runs
-use Rattle.switch_runs.specs.Worlds.{failing_of, threads_of, world_switches}
-use Rattle.switch_runs.proofs.Laws as of_runs
+use Rattle.switch_clauses.specs.switch_runs.Switches as runs
+use Rattle.switch_clauses.specs.switch_runs.Worlds.{failing_of, threads_of, world_switches}
+use Rattle.switch_clauses.proofs.switch_runs.Laws as of_runs
 use Rattle.clap_solve.specs.clap_system.Systems.{System, system_of}
 use Rattle.clap_solve.proofs.clap_system.Choices.{choices_are_enders}
 use Rattle.clap_solve.specs.orders_are_runs.Possible.{IsPossible}
 use Rattle.clap_solve.proofs.orders_are_runs.Systems.{possible_is_lawful}
-use Rattle.switch_runs.proofs.plan_runs.Laws as plans
-use Rattle.switch_runs.proofs.plan_runs.Runs.{plan_reproduces}
+use Rattle.switch_clauses.proofs.switch_runs.plan_runs.Laws as plans
+use Rattle.switch_clauses.proofs.switch_runs.plan_runs.Runs.{plan_reproduces}
 use Rattle.clap_solve.specs.Solved.{IsWithin}
 use Rattle.clap_solve.proofs.Meaning as solve
 use Rattle.clap_solve.proofs.Ordered.{completed_lawful}
 use Rattle.switch_clauses.specs.Clauses.{asked_of_all, switch_clauses, clauses_with_levels}
 use Rattle.switch_clauses.proofs.Same.{same_few}
 use Rattle.switch_clauses.proofs.Whole as stands
-use Rattle.switch_runs.specs.path_laws.Setting.{Setting, setting_of}
+use Rattle.switch_clauses.specs.switch_runs.path_laws.Setting.{Setting, setting_of}
 
 -- a question stays in an order that grows
 still_asked : (o p : Order) (q : Pair) → Grows o p → IsTrue (list_any (same_pair q) o.pairs) → IsTrue (list_any (same_pair q) p.pairs)

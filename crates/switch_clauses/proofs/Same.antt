@@ -4,8 +4,8 @@ use Rattle.std.specs.List.{All}
 use Rattle.std.proofs.lemmas.Bool.{ltb-true}
 use Rattle.std.proofs.lemmas.List.Elements.{All-get_or}
 use Rattle.clap_solve.specs.order_formula.Worlds.{World, IsWorld, is_before, position}
-use Rattle.switch_runs.specs.order_switches.Switches.{end_at, switches}
-use Rattle.switch_runs.proofs.order_switches.Levels as levels
+use Rattle.switch_clauses.specs.switch_runs.order_switches.Switches.{end_at, switches}
+use Rattle.switch_clauses.proofs.switch_runs.order_switches.Levels as levels
 
 module _ (threads : List ℕ) (failing : Option ℕ) (most : ℕ) (w x : World) (is : IsWorld w) (is_too : IsWorld x)
     (long : length threads ≡ length w.positions) (long_too : length threads ≡ length x.positions)

@@ -10,7 +10,7 @@ use Rattle.clap_solve.specs.cnf_core.Clauses.{Formula}
 use Rattle.clap_solve.specs.bit_order.Comparators.{completed}
 use Rattle.clap_solve.specs.bit_blast.Blasted.{Blasted, blast, impossible}
 use Rattle.clap_solve.specs.switch_order.Levels.{with_levels}
-use Rattle.switch_runs.specs.Worlds.{failing_of, threads_of}
+use Rattle.switch_clauses.specs.switch_runs.Worlds.{failing_of, threads_of}
 use Rattle.clap_solve.specs.clap_system.Systems.{System, system_of}
 
 -- an order that asks about every two of its events

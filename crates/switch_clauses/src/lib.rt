@@ -3,10 +3,10 @@
 #![tactic(auto)]
 
 ghost use Rattle.std.specs.Prelude.{◌≡◌, ◌≤◌, ◌<◌, ◌↔◌, ℕ, true, List, IsTrue};
-ghost use Rattle.switch_runs.specs.tc_base.Buffers.{BufferOps};
+ghost use Rattle.switch_clauses.specs.switch_runs.tc_base.Buffers.{BufferOps};
 ghost use Rattle.clap_solve.specs.run_log.Logs.{Log};
-ghost use Rattle.switch_runs.specs.memory_models.declared.model.Model.{Model};
-ghost use Rattle.switch_runs.specs.tc_base.declared.moves.Move.{Move};
+ghost use Rattle.switch_clauses.specs.switch_runs.memory_models.declared.model.Model.{Model};
+ghost use Rattle.switch_clauses.specs.switch_runs.tc_base.declared.moves.Move.{Move};
 ghost use Rattle.clap_solve.specs.tc_code.Code.{Code};
 ghost use Rattle.clap_solve.specs.tc_code.Lawful.{IsLawful};
 ghost use Rattle.clap_solve.specs.tc_code.Run.{Reproduces};
@@ -16,7 +16,7 @@ ghost use Rattle.clap_solve.specs.run_log.Logs.{is_log};
 ghost use Rattle.clap_solve.specs.cnf_core.Clauses.{Valuation, satisfies};
 ghost use Rattle.clap_solve.specs.refute_check.Refutations.{IsClosed};
 ghost use Rattle.clap_solve.specs.refute_check.declared.line.Line.{Line};
-ghost use Rattle.switch_runs.specs.Switches.{switches};
+ghost use Rattle.switch_clauses.specs.switch_runs.Switches.{switches};
 ghost use Rattle.clap_solve.specs.Solved.{IsWithin};
 ghost use Rattle.switch_clauses.specs.Clauses.{switch_clauses};
 
@@ -36,3 +36,5 @@ pub fn closed_is_more_switches<B>()
         → Laws ops model bound → IsLawful code → is_log log ≡ true → IsWithin code log
         → IsClosed (switch_clauses ops.buffered bound code log most) lines → Reproduces ops code log moves → most < switches ops code moves }
 {}
+
+pub mod switch_runs;

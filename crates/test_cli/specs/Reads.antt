@@ -3,5 +3,5 @@ use Rattle.clap_debug_cli.specs.clap_debug_words.Calls.{Called, Explains}
 
 -- `why` alone reads such an input
 abbrev pub ReadsEntire : Called → Type 0
-ReadsEntire (Explains _) = Unit {0}
+ReadsEntire (Explains _ _ _) = Unit {0}
 ReadsEntire _ = ⊥

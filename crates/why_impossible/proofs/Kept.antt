@@ -19,12 +19,12 @@ use Rattle.clap_solve.specs.sym_exec.declared.symbolic.Access.{Access}
 use Rattle.order_formula.specs.Worlds.{World}
 use Rattle.order_formula.specs.declared.group.Group.{Group}
 use Rattle.order_formula.specs.declared.group.Group.TheVariants.{Own, Child, Read, Mutex, Condition, Test, Stuck}
-use Rattle.reached_groups.specs.lawful_order.Children.{ChildRule}
-use Rattle.reached_groups.specs.lawful_order.Conditions.{ConditionRule, IsBroadcast, IsSignal, IsSleep, Waits, is_broadcast, is_signal}
-use Rattle.reached_groups.specs.lawful_order.Events.{Placed, all_events, all_sleeps, ender_of}
-use Rattle.reached_groups.specs.lawful_order.Lawful.{IsWorldOf, MeetsRule}
-use Rattle.reached_groups.specs.lawful_order.Reads.{ReadRule, Sees, TakesFirst, TakesFrom}
-use Rattle.reached_groups.specs.lawful_order.Stuck.{CannotGoOn}
+use Rattle.why_impossible.specs.reached_groups.lawful_order.Children.{ChildRule}
+use Rattle.why_impossible.specs.reached_groups.lawful_order.Conditions.{ConditionRule, IsBroadcast, IsSignal, IsSleep, Waits, is_broadcast, is_signal}
+use Rattle.why_impossible.specs.reached_groups.lawful_order.Events.{Placed, all_events, all_sleeps, ender_of}
+use Rattle.why_impossible.specs.reached_groups.lawful_order.Lawful.{IsWorldOf, MeetsRule}
+use Rattle.why_impossible.specs.reached_groups.lawful_order.Reads.{ReadRule, Sees, TakesFirst, TakesFrom}
+use Rattle.why_impossible.specs.reached_groups.lawful_order.Stuck.{CannotGoOn}
 use Rattle.why_impossible.specs.Enders.{EnderRule}
 
 module _ (paths : Paths) (w : World) where

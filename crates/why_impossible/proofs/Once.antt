@@ -18,10 +18,10 @@ use Rattle.tc_base.proofs.Names.{same_refl, same_true}
 use Rattle.path_walk.specs.Paths.{Paths, Walk}
 use Rattle.order_formula.specs.declared.group.Group.{Group}
 use Rattle.order_formula.specs.declared.group.Group.TheVariants as group
-use Rattle.reached_groups.proofs.order_events.Lists.{in_map, of_map}
-use Rattle.reached_groups.proofs.order_events.Parts.{each_in}
+use Rattle.why_impossible.proofs.reached_groups.order_events.Lists.{in_map, of_map}
+use Rattle.why_impossible.proofs.reached_groups.order_events.Parts.{each_in}
 use Rattle.clap_solve.proofs.read_write.Formulas.{mapped}
-use Rattle.reached_groups.specs.Groups.{group_cmp, place_of}
+use Rattle.why_impossible.specs.reached_groups.Groups.{group_cmp, place_of}
 use Rattle.why_impossible.specs.Reasons.{name_at, reason_line, reason_of}
 use Rattle.why_impossible.specs.declared.reason.Reason.{Reason}
 use Rattle.why_impossible.specs.declared.reason.Reason.TheVariants.{Own, Child, Read, Mutex, Condition, Test, Stuck, Dead}

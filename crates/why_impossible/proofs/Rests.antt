@@ -22,9 +22,9 @@ use Rattle.order_formula.specs.Groups.{HoldsIn}
 use Rattle.order_formula.specs.Worlds.{IsWorld, World}
 use Rattle.order_formula.specs.declared.group.Group.{Group}
 use Rattle.order_formula.specs.declared.group.Group.TheVariants as group
-use Rattle.reached_groups.specs.lawful_order.Lawful.{IsWorldOf, MeetsRule}
-use Rattle.reached_groups.proofs.order_events.Lists.{at_in, in_map, of_map}
-use Rattle.reached_groups.proofs.order_events.Parts.{each_in}
+use Rattle.why_impossible.specs.reached_groups.lawful_order.Lawful.{IsWorldOf, MeetsRule}
+use Rattle.why_impossible.proofs.reached_groups.order_events.Lists.{at_in, in_map, of_map}
+use Rattle.why_impossible.proofs.reached_groups.order_events.Parts.{each_in}
 use Rattle.clap_solve.proofs.read_write.Formulas.{mapped}
 use Rattle.clap_solve.specs.clap_system.Systems.{System, system_of, with_needs}
 use Rattle.clap_solve.proofs.clap_system.Choices.{choices_are_enders}
@@ -32,7 +32,7 @@ use Rattle.clap_solve.proofs.clap_system.Exact.{group_exact}
 use Rattle.clap_solve.proofs.clap_system.Needs.{parts_exact}
 use Rattle.clap_solve.proofs.orders_are_runs.Terms.{system_terms}
 use Rattle.dead_paths.specs.Causes.{cause_of}
-use Rattle.reached_groups.specs.bit_blast.Blasted.{Blasted, impossible}
+use Rattle.why_impossible.specs.reached_groups.bit_blast.Blasted.{Blasted, impossible}
 use Rattle.refute_check.specs.Refutations.{IsClosed}
 use Rattle.refute_check.specs.declared.line.Line.{Line}
 use Rattle.clap_solve.specs.Clauses.{blasted_by, blasted_of}
@@ -40,9 +40,9 @@ use Rattle.clap_solve.specs.Posed.{IsGiven, Posed, posed_of}
 use Rattle.clap_solve.proofs.Drafted.{system_roots}
 use Rattle.clap_solve.proofs.Meaning as meaning
 use Rattle.clap_solve.proofs.Room.{have_room}
-use Rattle.reached_groups.specs.Groups.{AreReachedGroups}
-use Rattle.reached_groups.specs.Laws.{IsWorldIn}
-use Rattle.reached_groups.proofs.Binds.{groups_bind}
+use Rattle.why_impossible.specs.reached_groups.Groups.{AreReachedGroups}
+use Rattle.why_impossible.specs.reached_groups.Laws.{IsWorldIn}
+use Rattle.why_impossible.proofs.reached_groups.Binds.{groups_bind}
 use Rattle.why_impossible.specs.Explained.{IsClosedFor, IsExplained, MeetsRules, RestsOn, TellsCause}
 use Rattle.why_impossible.specs.declared.explained.Explained.{Explained}
 use Rattle.why_impossible.specs.declared.explained.Explained.TheVariants.{Closed, Open}

@@ -13,11 +13,11 @@ use Rattle.clap_solve.specs.sym_exec.Executed.{Symbolic, executed}
 use Rattle.clap_solve.proofs.sym_events.Whole.{is_executed}
 use Rattle.order_formula.specs.declared.formula.Conjunct.{Conjunct}
 use Rattle.order_formula.specs.declared.group.Group.{Group}
-use Rattle.reached_groups.specs.lawful_order.Events.{Placed, all_events}
-use Rattle.reached_groups.specs.lawful_order.Whole.{IsExecutedBy}
-use Rattle.reached_groups.proofs.order_events.Lists.{of_map}
-use Rattle.reached_groups.proofs.order_events.Numbers.{of_all_from}
-use Rattle.reached_groups.proofs.order_events.Parts.{each_in, in_of_each}
+use Rattle.why_impossible.specs.reached_groups.lawful_order.Events.{Placed, all_events}
+use Rattle.why_impossible.specs.reached_groups.lawful_order.Whole.{IsExecutedBy}
+use Rattle.why_impossible.proofs.reached_groups.order_events.Lists.{of_map}
+use Rattle.why_impossible.proofs.reached_groups.order_events.Numbers.{of_all_from}
+use Rattle.why_impossible.proofs.reached_groups.order_events.Parts.{each_in, in_of_each}
 use Rattle.clap_solve.specs.condition_order.Conditions.{condition_formula}
 use Rattle.clap_solve.proofs.condition_order.Groups.{have_their_group}
 use Rattle.clap_solve.specs.memory_order.Own.{own_formula}
@@ -35,10 +35,10 @@ use Rattle.clap_solve.proofs.read_write.Numbers.{access_of}
 use Rattle.clap_solve.specs.clap_system.Systems.{rules_of, system_by, with_needs}
 use Rattle.clap_solve.specs.clap_system.Tests.{test_formula}
 use Rattle.clap_solve.proofs.clap_system.Tests.{of_test}
-use Rattle.reached_groups.specs.Groups.{AreReachedGroups}
-use Rattle.reached_groups.specs.bit_blast.Blasted.{Blasted}
+use Rattle.why_impossible.specs.reached_groups.Groups.{AreReachedGroups}
+use Rattle.why_impossible.specs.reached_groups.bit_blast.Blasted.{Blasted}
 use Rattle.refute_check.specs.declared.line.Line.{Line}
-use Rattle.reached_groups.proofs.order_events.Lists.{at_in}
+use Rattle.why_impossible.proofs.reached_groups.order_events.Lists.{at_in}
 use Rattle.why_impossible.specs.helpers.There.{IsThere}
 
 module _ (paths : Paths) where

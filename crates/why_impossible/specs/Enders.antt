@@ -3,8 +3,8 @@ use Rattle.std.specs.Prelude.{◌≡◌, ◌⊎◌, ℕ, Some}
 use Rattle.path_walk.specs.Paths.{Paths}
 use Rattle.path_walk.specs.declared.event.Sleep.{Sleep}
 use Rattle.order_formula.specs.Worlds.{World}
-use Rattle.reached_groups.specs.lawful_order.Conditions.{IsBroadcast, IsSignal, IsSleep}
-use Rattle.reached_groups.specs.lawful_order.Events.{Placed, ender_of}
+use Rattle.why_impossible.specs.reached_groups.lawful_order.Conditions.{IsBroadcast, IsSignal, IsSleep}
+use Rattle.why_impossible.specs.reached_groups.lawful_order.Events.{Placed, ender_of}
 
 module _ (paths : Paths) (w : World) where
   -- only its signals and broadcasts end them, and its signals end no other sleep

@@ -9,14 +9,14 @@ use Rattle.store_buffers.specs.Pending.{Binding}
 use Rattle.order_formula.specs.Worlds.{IsWorld, World}
 use Rattle.order_formula.specs.declared.group.Group.{Group}
 use Rattle.order_formula.specs.declared.group.Group.TheVariants.{Condition}
-use Rattle.reached_groups.specs.lawful_order.Events.{all_events, all_sleeps}
-use Rattle.reached_groups.specs.lawful_order.Lawful.{MeetsRule}
+use Rattle.why_impossible.specs.reached_groups.lawful_order.Events.{all_events, all_sleeps}
+use Rattle.why_impossible.specs.reached_groups.lawful_order.Lawful.{MeetsRule}
 use Rattle.dead_paths.specs.Causes.{cause_of}
 use Rattle.refute_check.specs.Refutations.{IsClosed, IsOpen}
 use Rattle.refute_check.specs.declared.line.Line.{Line}
 use Rattle.clap_solve.specs.Posed.{Posed, posed_of}
 use Rattle.clap_solve.specs.Solved.{IsImpossible}
-use Rattle.reached_groups.specs.Groups.{AreReachedGroups}
+use Rattle.why_impossible.specs.reached_groups.Groups.{AreReachedGroups}
 use Rattle.why_impossible.specs.Enders.{EnderRule}
 use Rattle.why_impossible.specs.Reasons.{cause_reason, reason_line, reason_of}
 use Rattle.why_impossible.specs.declared.explained.Explained.{Explained}

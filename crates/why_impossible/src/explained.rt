@@ -12,9 +12,9 @@ ghost use Rattle.why_impossible.specs.helpers.There.{IsThere};
 
 use crate::Reasons;
 use crate::naming::{caused, named};
+use crate::reached_groups::reached_groups;
 use clap_solve::{CheckImpossibleFault, Posed, pose};
 use dead_paths::cause_of;
-use reached_groups::reached_groups;
 use refute_check::{Checked, Derivation, check};
 use run_log::Log;
 use std::alloc::{AllocError, Global};

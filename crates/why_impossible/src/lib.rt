@@ -3,8 +3,10 @@
 
 mod explained;
 mod naming;
+pub mod reached_groups;
 mod reason;
 mod reasons;
+pub mod refute_core;
 
 pub use explained::{Explained, why};
 pub use reason::Reason;

@@ -6,8 +6,8 @@ use Rattle.tc_compile.specs.Programs.{IsCodeOf, IsRefusal}
 use Rattle.tc_compile.proofs.OnePrograms.{one_code, one_refusal, refused_no_code}
 use Rattle.tc_io.specs.Outside.{Files, ShelfTells, SinkTells}
 use Rattle.tc_compile.specs.tc_parser.declared.fault.TextFault.{TextFault}
-use Rattle.command_ends.specs.Ends.{HasDeclined}
-use Rattle.command_ends.proofs.Ended.{declines, reported, reported_or_declined, result_at}
+use Rattle.command_inputs.specs.command_ends.Ends.{HasDeclined}
+use Rattle.command_inputs.proofs.command_ends.Ended.{declines, reported, reported_or_declined, result_at}
 use Rattle.command_frame.specs.Answers.{number_of}
 use Rattle.command_frame.specs.ByStatus.{IsStatus}
 use Rattle.command_frame.specs.End.{End}

@@ -2,7 +2,7 @@
 use Rattle.std.specs.Prelude.{◌≡◌, ◌⊎◌, [], true, false}
 use Rattle.tc_code.specs.Code.{Code}
 use Rattle.tc_io.specs.Outside.{Files}
-use Rattle.command_ends.specs.Ends.{Declines, HasDeclined}
+use Rattle.command_inputs.specs.command_ends.Ends.{Declines, HasDeclined}
 use Rattle.command_frame.specs.ByStatus.{IsStatus}
 use Rattle.command_frame.specs.End.{End, LeavesNothing}
 use Rattle.workload_command.specs.Lines.{has_spent, work_line}

@@ -1,6 +1,6 @@
 -- What `workload` means.
 use Rattle.std.specs.Prelude.{[], Result, Ok, Err}
-use Rattle.command_ends.specs.Outcomes.{Report, command_of}
+use Rattle.command_inputs.specs.command_ends.Outcomes.{Report, command_of}
 use Rattle.command_frame.specs.Inputs.{Texts}
 use Rattle.command_frame.specs.Meaning.{Meaning}
 use Rattle.command_inputs.specs.declared.refusal.Refusal.{Refusal}

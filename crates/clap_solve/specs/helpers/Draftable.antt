@@ -7,7 +7,7 @@ use Rattle.bit_blast.specs.bit_terms.Laws.{IsIntNode}
 use Rattle.mutex_clauses.specs.Loads.{LoadsAreBelow}
 use Rattle.clap_system.specs.Ready.{IsSound}
 use Rattle.clap_system.specs.Systems.{System}
-use Rattle.formula_sizes.specs.Small.{ClausesHaveRoom}
+use Rattle.clap_solve.specs.formula_sizes.Small.{ClausesHaveRoom}
 
 pub record IsDraftable (s : System) : Type 0 where
   pub sound : IsSound s

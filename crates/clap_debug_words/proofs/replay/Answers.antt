@@ -1,7 +1,0 @@
-use Rattle.std.proofs.Common.{ap}
-use Rattle.std.proofs.lemmas.Result.{IfOk-weaker}
-use Rattle.clap.specs.Words.{App}
-use Rattle.clap_debug_words.proofs.replay.Goals as goal
-
-pub returns : goal.returns
-returns c = IfOk-weaker c.with.result _ _ (λ _ h. ap (λ (a : App). a.top) h) (c.with.ensures _ _ c.of_log.ensures c.positional.ensures.rule)

@@ -1,8 +1,0 @@
-//! The rules behind an impossibility: groups of conjuncts whose clauses a derivation reaches.
-#![tactic(auto)]
-
-mod groups;
-pub mod laws;
-mod order;
-
-pub use groups::reached_groups;

@@ -1,5 +1,0 @@
-use Rattle.switch_runs.proofs.Laws.{runs}
-use Rattle.switch_runs.proofs.runs_switch_as_worlds.Goals as goal
-
-pub returns : goal.returns
-returns g c = λ setting nodes moves few again. runs setting nodes moves again few
