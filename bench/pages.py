@@ -119,6 +119,11 @@ FAULTS = [
     ("buffering/p", "reading", "aria-pressed=\"false\">order", "tabindex=\"-1\">order"),
     ("buffering/p", "reading", "${spoken(why)}", ""),
     ("buffering/p", "narrow", "max-height: 34%", "height: 90%"),
+    ("late", "look", ".sort(byName)", ""),
+    ("odd", "program", "`&#${c.charCodeAt(0)};`", "c"),
+    ("buffering/p", "reasons", "store.number : writers[cell] ?? 0", "store.number : 0"),
+    ("buffering/p", "reasons", "it.step === step", "true"),
+    ("buffering/p", "walks", "before >= 0 && before !== lane", "false"),
 ]
 
 # Requests of events, but for a store, and the failing step.

@@ -1,7 +1,39 @@
-//! The parts that every page of a schedule has, whatever its moves.
+//! The parts that every page has, whatever its list.
 
-/// The buttons for the moves.
-pub(crate) const TOOLS: &str = r#"<div class="tools">
+/// The beginning of a page, up to its style.
+pub(crate) const HEAD: &str = r#"<!DOCTYPE html>
+<html lang="en">
+<head>
+<meta charset="utf-8">
+<meta name="viewport" content="width=device-width">
+<title>clap_debug_show</title>
+<style>"#;
+
+/// What lies between the style and the list.
+pub(crate) const LIST: &str = r#"</style>
+</head>
+<body>
+<noscript><p>This page is made by a script of its own: allow JavaScript to see it.</p></noscript>
+<h1></h1>
+<pre></pre>
+<script type="application/json" id="list">[
+"#;
+
+/// The end of the list, whose last entry is none.
+pub(crate) const END_OF_LIST: &str = "[]]</script>\n";
+
+/// What lies before the script.
+pub(crate) const BEGIN_SCRIPT: &str = "<script>\n(() => {\n  'use strict';\n";
+
+/// The end of a page, behind its script.
+pub(crate) const END_SCRIPT: &str = "})();\n</script>\n</body>\n</html>\n";
+
+/// The body of a log's page.
+pub(crate) const WAYS: &str = "<div class=\"lanes\"></div>\n";
+
+/// The body of a schedule's page: the buttons for the moves; the program, the lanes and the state
+/// side by side; and the list of keys.
+pub(crate) const MOVES: &str = r#"<div class="tools">
 <label>show <select id="filter"><option value="">all moves</option></select></label>
 <button type="button" id="each" aria-pressed="false">each step <kbd>m</kbd></button>
 <button type="button" id="orders" aria-pressed="false">order <kbd>h</kbd></button>
@@ -9,19 +41,46 @@ pub(crate) const TOOLS: &str = r#"<div class="tools">
 <button type="button" id="help">keys <kbd>?</kbd></button>
 <p>Point at a move, click to pin it, or step by <kbd>j</kbd> and <kbd>k</kbd>.</p>
 </div>
-"#;
-
-/// The meaning of the arrows.
-pub(crate) const ARROWS: &str = r#"<h2>arrows</h2>
+<main>
+<section id="program" aria-label="program" tabindex="0" hidden>
+<ol></ol>
+</section>
+<div id="run" role="region" aria-label="moves" tabindex="0">
+<div id="sheet">
+<div class="row head"><div class="n"></div></div>
+<ol id="moves"></ol>
+<svg id="arrows" aria-hidden="true"></svg>
+</div>
+</div>
+<aside aria-label="state">
+<div>
+<p id="at"></p>
+<p id="said" role="status" aria-live="polite"></p>
+<div id="why"></div>
+</div>
+<div class="held">
+<h2>memory</h2>
+<table id="memory"></table>
+<h2>buffers</h2>
+<div id="buffers"></div>
+<h2>mutexes</h2>
+<table id="mutexes"></table>
+<h2>conditions</h2>
+<table id="conditions"></table>
+</div>
+<div>
+<h2>threads</h2>
+<table id="threads"></table>
+<h2>arrows</h2>
 <div class="key">
 <span><svg viewBox="0 0 35 11"><path class="take" d="M1 5H34M29 1L34 5L29 9"/></svg>value that is taken</span>
 <span><svg viewBox="0 0 35 11"><path class="drain" d="M1 5H34M29 1L34 5L29 9"/></svg>store that reaches memory</span>
 <span class="orders"><svg viewBox="0 0 35 11"><path class="order" d="M1 5H34M29 1L34 5L29 9"/></svg>happens before</span>
 </div>
-"#;
-
-/// The list of keys.
-pub(crate) const KEYS: &str = r#"<dialog id="keys" aria-labelledby="keys-title">
+</div>
+</aside>
+</main>
+<dialog id="keys" aria-labelledby="keys-title">
 <h2 id="keys-title">keys</h2>
 <table>
 <tr><th><kbd>j</kbd> <kbd>&darr;</kbd></th><td>next move</td></tr>

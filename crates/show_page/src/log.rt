@@ -1,10 +1,11 @@
 //! The page of a log.
 
-use crate::escape::push_text;
-use crate::frame::{push_bottom, push_end, push_top};
+use crate::fixed::WAYS;
+use crate::list::{Item, begin_page, end_page, push_entry};
+use crate::script::WAYS_SCRIPT;
 use path_walk::{Paths, Walk};
 use run_log::Log;
-use show_words::{Program, Went, ending_words, walk_title, walk_words};
+use show_words::{Program, push_ending, push_title, walk_words};
 use std::alloc::{AllocError, Global};
 
 /// The page of a log: a lane for each thread, with the lines of its path and the outcomes of its
@@ -16,52 +17,44 @@ pub fn log_page(
     log: &Log,
     paths: &Paths,
 ) -> Result<String, AllocError> {
-    let mut out = String::new(alloc);
-    let model = log.model().name();
-    let title = format!(in alloc; "{name}: a log recorded under {model}")?;
-    push_top(&mut out, "ways", title.as_str())?;
-    push_end(
-        &mut out,
-        true,
-        ending_words(alloc, program, paths)?.as_str(),
-    )?;
-    out.push_str("<div class=\"lanes\">\n")?;
+    let mut out = begin_page(alloc)?;
+    let mut end = String::new(alloc);
+    push_ending(&mut end, program, paths)?;
+    let items = [
+        Item::Text(name),
+        Item::Text(log.model().name()),
+        Item::Text(end.as_str()),
+    ];
+    push_entry(&mut out, "log", &items)?;
     for walk in paths.threads() {
-        push_lane(alloc, &mut out, program, walk)?;
+        push_walk(alloc, &mut out, program, walk)?;
     }
-    out.push_str("</div>\n")?;
-    push_bottom(&mut out)?;
+    end_page(&mut out, WAYS, &WAYS_SCRIPT)?;
     Ok(out)
 }
 
-/// Adds a thread with its lines.
-fn push_lane(
+/// Adds a thread with the lines that it went along, and the outcome of a branch there.
+fn push_walk(
     alloc: Global,
     out: &mut String,
     program: Program<'_>,
     walk: &Walk,
 ) -> Result<(), AllocError> {
-    out.push_str("<section>\n<h2>")?;
-    push_text(out, walk_title(alloc, program, walk)?.as_str())?;
-    out.push_str("</h2>\n<ol>\n")?;
+    let mut title = String::new(alloc);
+    push_title(&mut title, program, walk)?;
+    push_entry(out, "walk", &[Item::Text(title.as_str())])?;
     let lines = walk_words(alloc, program, walk)?;
     for went in lines.as_slice() {
-        push_line(alloc, out, went)?;
+        let items = [
+            Item::Number(i64::from(went.line)),
+            Item::Text(went.source),
+            Item::Text(match went.outcome {
+                Some(true) => "true",
+                Some(false) => "false",
+                None => "",
+            }),
+        ];
+        push_entry(out, "went", &items)?;
     }
-    out.push_str("</ol>\n</section>\n")
-}
-
-/// Adds a line, and the outcome of a branch there.
-fn push_line(alloc: Global, out: &mut String, went: &Went<'_>) -> Result<(), AllocError> {
-    let line = went.line;
-    let open = format!(in alloc; "<li class=\"deed\"><span class=\"line\">{line}</span><code>")?;
-    out.push_str(open.as_str())?;
-    push_text(out, went.source)?;
-    out.push_str("</code>")?;
-    out.push_str(match went.outcome {
-        Some(true) => "<span class=\"went\">true</span>",
-        Some(false) => "<span class=\"went\">false</span>",
-        None => "",
-    })?;
-    out.push_str("</li>\n")
+    Ok(())
 }

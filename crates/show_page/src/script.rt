@@ -1,48 +1,33 @@
-//! The script of a page.
+//! The script of a page, which makes the page from its list.
 
 mod arrows;
+mod begin;
 mod links;
+mod list;
+mod moves;
 mod page;
 mod reasons;
 mod select;
 mod show;
 mod sift;
 mod state;
+mod ways;
 
-use arrows::ARROWS;
-use links::LINKS;
-use page::PAGE;
-use reasons::REASONS;
-use select::SELECT;
-use show::SHOW;
-use sift::SIFT;
-use state::STATE;
-use std::alloc::AllocError;
+/// The script of a schedule's page. It steps through the moves, shows the state after each with its
+/// reasons, and draws the arrows.
+pub(crate) const MOVES_SCRIPT: [&str; 11] = [
+    list::LIST,
+    moves::MOVES,
+    page::PAGE,
+    state::STATE,
+    links::LINKS,
+    reasons::REASONS,
+    show::SHOW,
+    select::SELECT,
+    sift::SIFT,
+    arrows::ARROWS,
+    begin::BEGIN,
+];
 
-/// Adds the script, which steps through the moves, shows the state after each with its reasons, and
-/// draws the arrows.
-pub(crate) fn push_script(out: &mut String) -> Result<(), AllocError> {
-    out.push_str("<script>\n(() => {\n  'use strict';\n")?;
-    for part in [
-        PAGE, STATE, LINKS, REASONS, SHOW, SELECT, SIFT, ARROWS, BEGIN,
-    ] {
-        out.push_str(part)?;
-    }
-    out.push_str("})();\n</script>\n")
-}
-
-/// Decides whether a page opens with the program's text: if the window is wide and the lanes keep
-/// their room, or have none anyway.
-const BEGIN: &str = r#"
-  const size = (element, property) => parseFloat(getComputedStyle(element)[property]);
-  function hasRoom() {
-    const need = size(sheet, 'minWidth'), room = run.clientWidth, less = size(by('program'), 'flexBasis') + size(run.parentNode, 'columnGap');
-    return matchMedia('(min-width: 75rem)').matches && (need <= room - less || need > room);
-  }
-  offer('thread', lanes, 'lane');
-  offer('cell', cells.map(cell => cell.name), 'cell');
-  press('text', hasRoom());
-  by('program').hidden = !isOn('text');
-  sieve();
-  visit();
-"#;
+/// The script of a log's page.
+pub(crate) const WAYS_SCRIPT: [&str; 2] = [list::LIST, ways::WAYS];

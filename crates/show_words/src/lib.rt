@@ -1,23 +1,23 @@
-//! Schedules and logs in the words of their program.
+//! Schedules and logs in the words of their program, and as text.
 #![tactic(auto)]
 
-mod blocked;
 mod counts;
-mod deeds;
+mod effects;
 mod ends;
 mod folds;
+mod moves;
 mod program;
-mod rows;
 mod sites;
+mod table;
 mod terms;
 mod values;
-mod wakes;
 mod walks;
+mod wording;
 
-pub use blocked::{Waits, waits_of};
-pub use counts::{Counts, counts_of, is_event};
-pub use ends::end_words;
-pub use folds::{Folded, folded_words};
+pub use counts::{Counts, counts_of};
+pub use effects::Effect;
+pub use ends::push_end;
+pub use moves::{Shown, show_moves};
 pub use program::Program;
-pub use rows::{Words, issue_of, row_words};
-pub use walks::{Went, ending_words, walk_title, walk_words};
+pub use table::{Detail, log_text, schedule_text};
+pub use walks::{Went, push_ending, push_title, walk_words};

@@ -5,6 +5,7 @@ use show_names::Names;
 use show_rows::Row;
 use std::alloc::{AllocError, Global};
 use std::slice::EscapeAscii;
+use tc_base::ThreadName;
 use tc_code::{Code, Expr, Instr, Node};
 
 /// A program's code, with the names of its parts in the text.
@@ -22,21 +23,28 @@ pub(crate) struct Choice<'a> {
     pub(crate) left: &'a Expr,
 }
 
+impl<'a> Choice<'a> {
+    /// The operator.
+    pub(crate) fn sign(&self) -> &'static str {
+        if self.is_or { "||" } else { "&&" }
+    }
+}
+
 impl<'a> Program<'a> {
     /// The number of an instruction's line, from 1, or 0 if there is none.
     pub fn line(&self, function: usize, instruction: usize) -> u32 {
         self.code.line(function, instruction).unwrap_or(0)
     }
 
-    /// The number of the line at which a row's thread is.
-    pub fn line_of(&self, row: &Row) -> u32 {
-        self.line(row.function, row.instruction)
-    }
-
-    /// The name of a function.
-    pub fn function(&self, alloc: Global, function: usize) -> Result<String, AllocError> {
-        let name = self.called(function);
-        format!(in alloc; "{name}")
+    /// The name of a thread, and that of its function.
+    pub fn title(
+        &self,
+        alloc: Global,
+        thread: &ThreadName,
+        function: usize,
+    ) -> Result<String, AllocError> {
+        let called = self.called(function);
+        format!(in alloc; "{thread} {called}")
     }
 
     /// The letters of a function's name, which are ASCII; none if there is no such function.
@@ -74,6 +82,22 @@ impl<'a> Program<'a> {
             (Node::Number(_), Node::Unary(_, left)) => Some(Choice { is_or: true, left }),
             _ => None,
         }
+    }
+
+    /// The `&&` or `||` of a slot, if the first instruction before a row's that sets the slot does
+    /// so for its left side.
+    pub(crate) fn choice_of(&self, row: &Row, slot: u32) -> Option<Choice<'a>> {
+        for place in 0..row.instruction {
+            if self.sets(row.function, place, slot) {
+                return self.choice(row.function, place);
+            }
+        }
+        None
+    }
+
+    /// Whether an instruction sets a slot.
+    pub(crate) fn sets(&self, function: usize, instruction: usize, slot: u32) -> bool {
+        matches!(self.code.instr(function, instruction), Some(Instr::Set { slot: to, .. }) if *to == slot)
     }
 
     /// The `&&` or `||` on whose left side an instruction branches.

@@ -1,230 +1,155 @@
-//! Steps that ask for nothing, and sites that fail, in words.
+//! Steps that ask for nothing, and steps that fail, by their instructions.
 
-use crate::program::{Choice, Program};
-use crate::terms::{named, value_over, valued};
-use show_names::Names;
+use crate::program::Program;
 use show_rows::Row;
-use std::alloc::{AllocError, Global};
 use tc_code::{Expr, Instr};
 
-/// A step that asked for nothing, in words.
-pub(crate) fn silent_words(
-    alloc: Global,
-    program: Program<'_>,
-    row: &Row,
-) -> Result<String, AllocError> {
-    match program.instr(row) {
-        Some(Instr::Set { slot, value }) => set_words(alloc, program, row, *slot, value),
-        Some(Instr::Branch { condition, .. }) => branch_words(alloc, program, row, condition),
-        Some(Instr::Goto { target }) => {
-            let line = program.line(row.function, *target as usize);
-            format!(in alloc; "goes on at line {line}")
-        }
-        Some(Instr::Assert(e)) => {
-            let values = valued(alloc, program, row, e)?;
-            format!(in alloc; "assertion holds: {values}")
-        }
-        Some(site) => passed_words(alloc, program.names, row, site),
-        None => Ok(String::new(alloc)),
-    }
-}
-
-/// A site that didn't fail, in words; an assertion is none of these.
-fn passed_words(
-    alloc: Global,
-    names: &Names,
-    row: &Row,
-    site: &Instr,
-) -> Result<String, AllocError> {
-    let slots = row.slots.as_slice();
-    match site {
-        Instr::Inside { length, index } => {
-            let index = value_over(slots, index);
-            format!(in alloc; "index {index} is inside, length {length}")
-        }
-        Instr::Holds { mutex } => {
-            let mutex = names.mutex(*mutex);
-            format!(in alloc; "holds {mutex}")
-        }
-        Instr::Ready { handle } => {
-            let handle = names.handle(row.function, *handle);
-            format!(in alloc; "{handle} can be joined")
-        }
-        Instr::Nonzero(e) => {
-            let divisor = value_over(slots, e);
-            format!(in alloc; "divisor is {divisor}")
-        }
-        Instr::InRange(e) => {
-            let distance = value_over(slots, e);
-            format!(in alloc; "distance is {distance}")
-        }
-        _ => Ok(String::new(alloc)),
-    }
-}
-
-/// A step that asked for nothing, in words, if it is worth reading where the steps of its statement
-/// are one row: an int's new value, a condition's outcome, and an assertion that holds.
-pub(crate) fn brief_words(
-    alloc: Global,
-    program: Program<'_>,
-    row: &Row,
-) -> Result<Option<String>, AllocError> {
-    let is_wanted = match program.instr(row) {
-        Some(Instr::Set { slot, .. }) => program.names.int(row.function, *slot).is_some(),
-        Some(Instr::Branch { .. }) => program.branched(row.function, row.instruction).is_none(),
-        Some(Instr::Assert(_)) => true,
-        _ => false,
-    };
-    if is_wanted {
-        Ok(Some(silent_words(alloc, program, row)?))
-    } else {
-        Ok(None)
-    }
-}
-
-/// A slot that takes a value: an int of the text, or a side of `&&` or `||`.
-fn set_words(
-    alloc: Global,
-    program: Program<'_>,
-    row: &Row,
-    slot: u32,
-    value: &Expr,
-) -> Result<String, AllocError> {
-    let slots = row.slots.as_slice();
-    if let Some(name) = program.names.int(row.function, slot) {
-        let value = value_over(slots, value);
-        return format!(in alloc; "{name} = {value}");
-    }
-    let Some(side) = side_of(program, row, slot) else {
-        return Ok(String::new(alloc));
-    };
-    let (which, sign) = (side.which, side.sign);
-    let words = condition_words(alloc, program, row, side.condition)?;
-    format!(in alloc; "{which} of {sign}: {words}")
-}
-
-/// A side of `&&` or `||`.
+/// The instruction of a step that asks for nothing or fails, with its words.
 #[derive(Clone, Copy)]
-struct Side<'a> {
-    /// `left` or `right`.
-    which: &'static str,
-    /// The operator.
-    sign: &'static str,
-    condition: &'a Expr,
+pub(crate) struct Site<'a> {
+    /// Its words, with the name of each part that differs in braces.
+    pub(crate) words: &'static str,
+    /// The int that it sets, the mutex or thread variable that it tests, or an operator.
+    pub(crate) name: &'a str,
+    /// The length of an array, or the number of a line.
+    pub(crate) number: u32,
+    /// The expression whose value it uses.
+    pub(crate) used: Option<&'a Expr>,
+    /// Whether its words are worth reading where the steps of a statement are one row: an int's new
+    /// value, a condition's outcome, or an assertion.
+    pub(crate) is_brief: bool,
 }
 
-/// The side of `&&` or `||` that a row's step keeps in a slot.
-fn side_of<'a>(program: Program<'a>, row: &Row, slot: u32) -> Option<Side<'a>> {
-    if let Some(choice) = program.choice(row.function, row.instruction) {
-        return Some(Side {
-            which: "left",
-            sign: choice.sign(),
-            condition: choice.left,
-        });
-    }
-    Some(Side {
-        which: "right",
-        condition: program.right_side(row.function, row.instruction)?,
-        sign: sign_of(program, row, slot),
-    })
-}
-
-impl<'a> Choice<'a> {
-    /// The operator.
-    fn sign(&self) -> &'static str {
-        if self.is_or { "||" } else { "&&" }
-    }
-}
-
-/// The operator whose right side a row's step keeps in a slot.
-fn sign_of(program: Program<'_>, row: &Row, slot: u32) -> &'static str {
-    for place in 0..row.instruction {
-        if let Some(choice) = program.choice(row.function, place)
-            && matches!(program.code.instr(row.function, place), Some(Instr::Set { slot: to, .. }) if *to == slot)
-        {
-            return choice.sign();
+impl<'a> Site<'a> {
+    /// The instruction of a row's step, and whether the step fails there.
+    pub(crate) fn of(program: Program<'a>, row: &Row, fails: bool) -> Site<'a> {
+        let Some(instr) = program.instr(row) else {
+            return Site::plain("");
+        };
+        match instr {
+            Instr::Set { slot, value } => Site::of_set(program, row, *slot, value),
+            Instr::Branch { condition, .. } => Site::of_branch(program, row, condition),
+            Instr::Goto { target } => Site::of_goto(program, row, *target),
+            _ => Site::of_test(program, row, instr, fails),
         }
     }
-    "?"
-}
 
-/// A branch: on the condition of a statement, or on the left side of `&&` or `||`.
-fn branch_words(
-    alloc: Global,
-    program: Program<'_>,
-    row: &Row,
-    condition: &Expr,
-) -> Result<String, AllocError> {
-    match program.branched(row.function, row.instruction) {
-        Some(choice) => {
-            let sign = choice.sign();
-            let truth = truth_of(row, choice.left);
-            format!(in alloc; "left of {sign} is {truth}")
+    /// A slot that takes a value: an int of the text, or a side of `&&` or `||`.
+    fn of_set(program: Program<'a>, row: &Row, slot: u32, value: &'a Expr) -> Site<'a> {
+        if let Some(name) = program.names.int(row.function, slot) {
+            return Site {
+                name,
+                is_brief: true,
+                ..Site::using("{name} = {value}", value)
+            };
         }
-        None => condition_words(alloc, program, row, condition),
+        if let Some(choice) = program.choice(row.function, row.instruction) {
+            return Site {
+                name: choice.sign(),
+                ..Site::using("left of {name}: {names}: {values}, {truth}", choice.left)
+            };
+        }
+        let Some(right) = program.right_side(row.function, row.instruction) else {
+            return Site::plain("");
+        };
+        Site {
+            name: match program.choice_of(row, slot) {
+                Some(choice) => choice.sign(),
+                None => "?",
+            },
+            ..Site::using("right of {name}: {names}: {values}, {truth}", right)
+        }
     }
-}
 
-/// A condition with its names, with their values, and whether it is true.
-fn condition_words(
-    alloc: Global,
-    program: Program<'_>,
-    row: &Row,
-    condition: &Expr,
-) -> Result<String, AllocError> {
-    let names = named(alloc, program, row, condition)?;
-    let values = valued(alloc, program, row, condition)?;
-    let truth = truth_of(row, condition);
-    format!(in alloc; "{names}: {values}, {truth}")
-}
-
-/// Whether a condition is true.
-fn truth_of(row: &Row, condition: &Expr) -> bool {
-    value_over(row.slots.as_slice(), condition) != 0
-}
-
-/// A site that failed, in words.
-pub(crate) fn failed_words(
-    alloc: Global,
-    program: Program<'_>,
-    row: &Row,
-) -> Result<String, AllocError> {
-    match program.instr(row) {
-        Some(Instr::Assert(e)) => {
-            let values = valued(alloc, program, row, e)?;
-            format!(in alloc; "assertion fails: {values}")
+    /// A branch: on the condition of a statement, or on the left side of `&&` or `||`.
+    fn of_branch(program: Program<'a>, row: &Row, condition: &'a Expr) -> Site<'a> {
+        match program.branched(row.function, row.instruction) {
+            Some(choice) => Site {
+                name: choice.sign(),
+                ..Site::using("left of {name} is {truth}", choice.left)
+            },
+            None => Site {
+                is_brief: true,
+                ..Site::using("{names}: {values}, {truth}", condition)
+            },
         }
-        Some(site) => refused_words(alloc, program.names, row, site),
-        None => String::from_str(alloc, "fails"),
     }
-}
 
-/// A site that failed, in words; an assertion is none of these.
-fn refused_words(
-    alloc: Global,
-    names: &Names,
-    row: &Row,
-    site: &Instr,
-) -> Result<String, AllocError> {
-    let slots = row.slots.as_slice();
-    match site {
-        Instr::Inside { length, index } => {
-            let index = value_over(slots, index);
-            format!(in alloc; "fails: index {index} is outside, length {length}")
+    /// A jump.
+    fn of_goto(program: Program<'a>, row: &Row, target: u32) -> Site<'a> {
+        Site {
+            number: program.line(row.function, target as usize),
+            ..Site::plain("goes on at line {number}")
         }
-        Instr::Holds { mutex } => {
-            let mutex = names.mutex(*mutex);
-            format!(in alloc; "fails: doesn't hold {mutex}")
+    }
+
+    /// A test, and whether it fails.
+    fn of_test(program: Program<'a>, row: &Row, test: &'a Instr, fails: bool) -> Site<'a> {
+        if fails {
+            Site::failed(program, row, test)
+        } else {
+            Site::passed(program, row, test)
         }
-        Instr::Ready { handle } => {
-            let handle = names.handle(row.function, *handle);
-            format!(in alloc; "fails: {handle} can't be joined")
+    }
+
+    /// A test that passes.
+    fn passed(program: Program<'a>, row: &Row, test: &'a Instr) -> Site<'a> {
+        match test {
+            Instr::Assert(e) => Site {
+                is_brief: true,
+                ..Site::using("assertion holds: {values}", e)
+            },
+            Instr::Inside { length, index } => Site {
+                number: *length,
+                ..Site::using("index {value} is inside, length {number}", index)
+            },
+            Instr::Holds { mutex } => Site {
+                name: program.names.mutex(*mutex),
+                ..Site::plain("holds {name}")
+            },
+            Instr::Ready { handle } => Site {
+                name: program.names.handle(row.function, *handle),
+                ..Site::plain("{name} can be joined")
+            },
+            Instr::Nonzero(e) => Site::using("divisor is {value}", e),
+            Instr::InRange(e) => Site::using("distance is {value}", e),
+            _ => Site::plain(""),
         }
-        Instr::Nonzero(_) => String::from_str(alloc, "fails: divisor is 0"),
-        Instr::InRange(e) => {
-            let distance = value_over(slots, e);
-            format!(in alloc; "fails: distance {distance} isn't 0 to 31")
+    }
+
+    /// A test that fails.
+    fn failed(program: Program<'a>, row: &Row, test: &'a Instr) -> Site<'a> {
+        let words = match test {
+            Instr::Assert(_) => "assertion fails: {values}",
+            Instr::Inside { .. } => "fails: index {value} is outside, length {number}",
+            Instr::Holds { .. } => "fails: doesn't hold {name}",
+            Instr::Ready { .. } => "fails: {name} can't be joined",
+            Instr::Nonzero(_) => "fails: divisor is 0",
+            Instr::InRange(_) => "fails: distance {value} isn't 0 to 31",
+            _ => "fails",
+        };
+        Site {
+            words,
+            ..Site::passed(program, row, test)
         }
-        _ => String::from_str(alloc, "fails"),
+    }
+
+    /// An instruction whose words are all the same.
+    fn plain(words: &'static str) -> Site<'a> {
+        Site {
+            words,
+            name: "?",
+            number: 0,
+            used: None,
+            is_brief: false,
+        }
+    }
+
+    /// An instruction that uses the value of an expression.
+    fn using(words: &'static str, used: &'a Expr) -> Site<'a> {
+        Site {
+            used: Some(used),
+            ..Site::plain(words)
+        }
     }
 }

@@ -17,13 +17,13 @@ pub struct Went<'a> {
     pub outcome: Option<bool>,
 }
 
-/// A thread by its name, its function and its number of steps.
-pub fn walk_title(alloc: Global, program: Program<'_>, walk: &Walk) -> Result<String, AllocError> {
+/// Adds a thread by its name, its function and its number of steps.
+pub fn push_title(out: &mut String, program: Program<'_>, walk: &Walk) -> Result<(), AllocError> {
     let name = walk.name();
     let function = program.called(walk.function());
     let steps = walk.places().len();
     let unit = if steps == 1 { "step" } else { "steps" };
-    format!(in alloc; "{name} {function}, {steps} {unit}")
+    write!(out, "{name} {function}, {steps} {unit}")
 }
 
 /// The lines of a thread's path. Successive steps at one line count as one, up to a branch.
@@ -99,40 +99,40 @@ fn is_branch(program: Program<'_>, function: usize, place: usize) -> bool {
     )
 }
 
-/// How the run of a log ended, in lines.
-pub fn ending_words(
-    alloc: Global,
+/// Adds how the run of a log ended, in lines.
+pub fn push_ending(
+    out: &mut String,
     program: Program<'_>,
     paths: &Paths,
-) -> Result<String, AllocError> {
+) -> Result<(), AllocError> {
     match paths.failing() {
-        Failing::Thread(index) => failed_words(alloc, program, paths.threads().get(index)),
+        Failing::Thread(index) => push_failed(out, program, paths.threads().get(index)),
         Failing::Deadlock => {
-            let mut words = String::from_str(alloc, "deadlock\n")?;
+            out.push_str("deadlock\n")?;
             for walk in paths.threads() {
-                push_blocked(&mut words, program, walk)?;
+                push_blocked(out, program, walk)?;
             }
-            Ok(words)
+            Ok(())
         }
     }
 }
 
-/// Where a thread failed.
-fn failed_words(
-    alloc: Global,
+/// Adds where a thread failed.
+fn push_failed(
+    out: &mut String,
     program: Program<'_>,
     walk: Option<&Walk>,
-) -> Result<String, AllocError> {
-    let Some(walk) = walk else {
-        return Ok(String::new(alloc));
-    };
-    let Some(place) = walk.places().last() else {
-        return Ok(String::new(alloc));
-    };
-    let name = walk.name();
-    let line = program.line(walk.function(), *place);
-    let source = program.names.line(line);
-    format!(in alloc; "{name} failed at line {line}: {source}\n")
+) -> Result<(), AllocError> {
+    if let Some(walk) = walk
+        && let Some(place) = walk.places().last()
+    {
+        let name = walk.name();
+        let line = program.line(walk.function(), *place);
+        let source = program.names.line(line);
+        writeln!(out, "{name} failed at line {line}: {source}")
+    } else {
+        Ok(())
+    }
 }
 
 /// Adds what blocks a thread in a deadlock, if it is blocked.

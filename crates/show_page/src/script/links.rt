@@ -16,9 +16,9 @@ pub(super) const LINKS: &str = r#"
       const thread = so.threads[move.lane];
       link(move.kind === 'drain' ? 'drain' : 'take', move.from, move);
       if (move.isStep && move.number === firsts[move.lane]) link('create', thread.created, move);
-      if (move.sync === 'lock' || move.sync === 'wake') link('unlock', so.freed[move.mutex], move);
-      if (move.sync === 'wake') link('signal', thread.woken, move);
-      if (move.sync === 'join') link('exit', so.threads[move.other].ended, move);
+      if (move.kind === 'lock' || move.kind === 'wake') link('unlock', so.freed[move.mutex], move);
+      if (move.kind === 'wake') link('signal', thread.woken, move);
+      if (move.kind === 'join') link('exit', so.threads[move.other].ended, move);
       take(so, move);
     }
   }

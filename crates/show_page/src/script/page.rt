@@ -1,26 +1,36 @@
 //! The elements of the page.
 
 pub(super) const PAGE: &str = r#"
-  const by = id => document.getElementById(id);
-  const all = what => [...document.querySelectorAll(what)];
   const run = by('run'), sheet = by('sheet'), svg = by('arrows'), filter = by('filter'), keys = by('keys');
-  const rows = all('#moves > .row'), deeds = all('#moves .deed'), heads = all('.head > [data-lane]');
-  const lines = all('#program li'), lanes = heads.map(head => head.textContent);
-  const table = id => all(`#${id} tr`).map(row =>
-    ({ row, name: row.cells[0].textContent, value: row.cells[1], start: row.dataset.start }));
-  const cells = table('memory'), mutexes = table('mutexes'), conditions = table('conditions'), threads = table('threads');
+  const source = listed('line');
+  {
+    const [[name, model, fails, end]] = listed('run'), switches = moves.filter(move => move.switches).length;
+    const numbers = `${moves.length} ${moves.length === 1 ? 'move' : 'moves'}, ${switches} ${switches === 1 ? 'switch' : 'switches'}`;
+    entitle('moves', `${name} under ${model}: ${numbers}`, end, fails);
+    document.querySelector('#program ol').innerHTML = source.map(([text]) => `<li><code>${safe(text)}</code></li>\n`).join('');
+    sheet.setAttribute('style', `--lanes:${lanes.length}`);
+    document.querySelector('.head').insertAdjacentHTML('beforeend', lanes.map((lane, k) => `<div data-lane="${k}">${safe(lane)}</div>`).join(''));
+    by('moves').innerHTML = moves.map(row).join('');
+  }
+  function row({ number, thread, lane, line, words, brief, fails }) {
+    return `<li class="row${fails ? ' fail' : ''}" id="m${number}"><div class="n">${number}</div><div class="deed" style="grid-column:${lane + 2}">`
+      + `<span class="who">${safe(thread)}, </span><span class="line">${line}</span><code>${safe(source[line - 1]?.[1] ?? '?')}</code>`
+      + `<span class="each">${safe(words)}</span><span class="brief">${safe(brief ?? '')}</span></div></li>\n`;
+  }
+  // A table with a row for each name, and room for its state.
+  function table(id, names) {
+    by(id).innerHTML = names.map(([name]) => `<tr><th scope="row">${safe(name)}</th><td></td></tr>\n`).join('');
+    return [...by(id).rows].map((row, k) => ({ row, name: names[k][0], value: row.cells[1], start: names[k][1] }));
+  }
+  const cells = table('memory', listed('cell')), mutexes = table('mutexes', listed('mutex')), conditions = table('conditions', listed('condition'));
+  const threads = table('threads', lanes.map(lane => [lane]));
+  for (const id of ['mutexes', 'conditions']) {
+    if (by(id).rows.length) continue;
+    by(id).previousElementSibling.remove();
+    by(id).remove();
+  }
 
-  // The moves. What isn't there has number -1, and moves are numbered from 1.
-  const number = text => text === undefined ? -1 : +text;
-  const moves = rows.map(({ classList, dataset: data }, i) => ({
-    number: i + 1, lane: +data.lane, line: +deeds[i].children[1].textContent, kind: data.kind, cell: number(data.cell),
-    took: data.took, put: data.put, from: +(data.from ?? 0), sync: data.sync, mutex: number(data.mutex),
-    condition: number(data.condition), other: number(data.other), sets: data.sets, event: data.event !== undefined,
-    switches: data.event === 'switch', folds: data.fold !== undefined, fails: classList.contains('fail'),
-    isStep: data.kind !== 'drain', isPut: data.kind === 'drain' || data.kind === 'store', next: 0, woken: 0, back: [], on: [],
-  }));
-  const ends = heads.map(({ dataset: data }) =>
-    ({ line: +(data.line ?? 0), sync: data.sync, mutex: number(data.mutex), other: number(data.other) }));
+  const rows = all('#moves > .row'), deeds = all('#moves .deed'), heads = all('.head > [data-lane]'), lines = all('#program li');
   const last = rows.length;
   let at = last;     // the move that is selected, from 1, and 0 before the first
   let shown = last;  // the move whose state is shown: the selected one, or the one that is pointed at

@@ -8,7 +8,7 @@ pub(super) const REASONS: &str = r#"
       ...move.put === undefined ? [] : stored(move, before),
       ...takers(move),
       ...move.fails ? looked(move) : [],
-      ...move.sync !== 'sleep' ? [] : [move.woken ? ['woken by ', move.woken] : ['never woken in this run']],
+      ...move.kind !== 'sleep' ? [] : [move.woken ? ['woken by ', move.woken] : ['never woken in this run']],
       ...move.back.filter(({ kind }) => Object.hasOwn(came, kind)).map(({ kind, from }) => [came[kind], from]),
       ...move.on.filter(({ kind }) => Object.hasOwn(goes, kind)).map(({ kind, to }) => [goes[kind], to]),
     ];

@@ -19,7 +19,7 @@ pub(super) const SHOW: &str = r#"
     put(by('at'), `after move ${n} of ${last}`);
     return why;
   }
-  const put = (place, text) => { if (place.textContent !== text) place.textContent = text; };
+  const put = (place, text) => { if (place.textContent !== String(text)) place.textContent = text; };
 
   // A move, by which it is selected.
   function reference(n) {
@@ -82,10 +82,10 @@ pub(super) const SHOW: &str = r#"
   }
   // What a thread waits for before its next step.
   function waits({ owners, threads: those }, { is, next }, k) {
-    const { sync, mutex, other } = moves[next - 1] ?? ends[k];
+    const { kind, mutex, other } = moves[next - 1] ?? ends[k];
     if (is !== 'running' && is !== 'woken') return '';
-    if ((sync === 'lock' || sync === 'wake') && owners[mutex] >= 0) return `waits for ${mutexes[mutex].name}`;
-    return sync === 'join' && those[other].is !== 'exited' ? `waits for ${lanes[other]}` : '';
+    if ((kind === 'lock' || kind === 'wake') && owners[mutex] >= 0) return `waits for ${mutexes[mutex].name}`;
+    return kind === 'join' && those[other].is !== 'exited' ? `waits for ${lanes[other]}` : '';
   }
 
   // Marks the line of each thread, and that of the move.

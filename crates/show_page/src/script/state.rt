@@ -52,7 +52,7 @@ pub(super) const STATE: &str = r#"
     if (move.isPut) state.memory[move.cell] = { value: move.put, by: move.isStep ? move.number : move.from };
     if (move.isStep) thread.next = move.next;
     if (move.fails) thread.is = 'failed';
-    if (move.sync) syncs[move.sync](state, move, thread);
+    if (Object.hasOwn(syncs, move.kind)) syncs[move.kind](state, move, thread);
   }
 
   // The state after the first n moves.
