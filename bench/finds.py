@@ -200,7 +200,7 @@ def quoted(data):
     return "".join(chr(b) if 32 <= b < 127 and chr(b) not in '"\\\'' else f"\\x{b:02x}" for b in data)
 
 
-HEAD = """# The worked rows of clap_debug_find. Module `calls` of test_table says how a row is written; docs/ROWS.md how one is added, and
+HEAD = """# The worked rows of clap_debug_find. Module `runs` of test_table says how a row is written; docs/ROWS.md how one is added, and
 # how one is run alone. bench/finds.py writes them; the answers to programs are those of bench/machine.py.
 words clap_debug_find p o
 usage "usage: clap_debug_find PROGRAM OUT [--model sc|tso|pso] [--deadlock] [--outcomes N] [--logs K] [--budget B]\\nusage: clap_debug_find PROGRAM CERTIFICATE --check\\n"

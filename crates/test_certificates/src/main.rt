@@ -21,10 +21,11 @@ use std::fmt::Write;
 use test_table::parts::{Parts, try_rows};
 
 /// The parts of the program.
+#[derive(Drop)]
 struct Tried;
 
 impl Parts for Tried {
-    fn answer(alloc: Global, part: &str, given: &[u8]) -> Result<String> {
+    fn answer(&self, alloc: Global, part: &str, given: &[u8]) -> Result<String> {
         match part {
             "header" => header(alloc, given),
             "log" => log(alloc, given),
@@ -64,5 +65,5 @@ fn log(alloc: Global, given: &[u8]) -> Result<String> {
 }
 
 fn main(rt: HostRuntime) -> Result<()> {
-    try_rows::<Tried>(&rt)
+    try_rows(&rt, &Tried)
 }

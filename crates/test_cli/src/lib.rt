@@ -1,5 +1,4 @@
-//! The program over a shelf and a sink that never fail, and the answers to lack of memory, which
-//! only tests show.
+//! The program over a shelf and a sink that never fail. `test_product` calls it once.
 #![tactic(auto)]
 
 ghost use Rattle.std.specs.Prelude.{◌≡◌, ◌≢◌, ◌≤◌, map, string_bytes, Some, IsSomeAnd};
@@ -32,6 +31,3 @@ pub fn clap_debug_surely(
 {
     clap_debug(alloc, words, shelf, sink)
 }
-
-#[cfg(test)]
-mod tests;

@@ -21,10 +21,11 @@ use std::str;
 use test_table::parts::{Parts, try_rows};
 
 /// The parts of the program.
+#[derive(Drop)]
 struct Tried;
 
 impl Parts for Tried {
-    fn answer(alloc: Global, part: &str, given: &[u8]) -> Result<String> {
+    fn answer(&self, alloc: Global, part: &str, given: &[u8]) -> Result<String> {
         match part {
             "logs" => logs::logs(alloc, str::from_utf8(given)?),
             "thread-paths" => threads::paths(alloc, str::from_utf8(given)?),
@@ -34,5 +35,5 @@ impl Parts for Tried {
 }
 
 fn main(rt: HostRuntime) -> Result<()> {
-    try_rows::<Tried>(&rt)
+    try_rows(&rt, &Tried)
 }

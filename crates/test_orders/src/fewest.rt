@@ -1,7 +1,7 @@
 //! Schedules with the fewest context switches.
 ghost use Rattle.std.specs.Prelude.{◌≤◌};
 
-use crate::given::{built, code_and_log, split};
+use crate::given::{built, code_and_log};
 use anyhow::{Result, bail};
 use least_switch::{Least, check_least_start, least};
 use refute_check::{Checked, Checker, Derivation, LINES};
@@ -10,13 +10,14 @@ use std::alloc::Global;
 use std::mem::drop;
 use store_buffers::{MemoryModel, PsoModel, Sc, TsoModel};
 use tc_code::Code;
+use test_table::given::Given;
 
 /// The greatest number of clauses that each search may learn.
 const BUDGET: u32 = 1_000_000;
 
 /// The numbers of moves and switches of a schedule of a log with the fewest switches.
-pub(crate) fn fewest(alloc: Global, given: &str) -> Result<String> {
-    let (model, given) = split(given)?;
+pub(crate) fn fewest(alloc: Global, given: &mut Given) -> Result<String> {
+    let model = given.before(" : ");
     let (code, log) = code_and_log(alloc, given)?;
     let told = told_under(alloc, model, &code, &log);
     drop(code);

@@ -2,39 +2,42 @@
 ghost use Rattle.std.specs.Prelude.{◌≤◌, length, IfOk};
 ghost use Rattle.tc_limits.specs.declared.limits.TheConstants.{PROGRAM_BYTES};
 
-use anyhow::{Context, Result, bail};
+use anyhow::{Result, bail};
 use clap_solve::{Posed, pose};
 use clap_system::{BuildFault, System, build};
 use path_log::read_log;
 use run_log::Log;
 use std::alloc::Global;
+use std::mem::drop;
 use store_buffers::{PsoModel, Sc, TsoModel};
 use tc_code::Code;
 use tc_compile::compile;
 use tc_limits::limits::PROGRAM_BYTES;
-
-/// The text before the next ` : `, and the text after it.
-pub(crate) fn split(given: &str) -> Result<(&str, &str)> {
-    given.split_once(" : ").context("too little is given")
-}
+use test_table::given::Given;
 
 /// The system of a log and a program under a model.
-pub(crate) fn system(alloc: Global, model: &str, given: &str) -> Result<System> {
+pub(crate) fn system(alloc: Global, model: &str, given: &mut Given) -> Result<System> {
     let (code, log) = code_and_log(alloc, given)?;
-    system_under(alloc, model, &code, &log)
+    let system = system_under(alloc, model, &code, &log);
+    drop(code);
+    drop(log);
+    system
 }
 
 /// The clauses of a log and a program under a model.
-pub(crate) fn posed(alloc: Global, model: &str, given: &str) -> Result<Posed> {
+pub(crate) fn posed(alloc: Global, model: &str, given: &mut Given) -> Result<Posed> {
     let (code, log) = code_and_log(alloc, given)?;
-    posed_under(alloc, model, &code, &log)
+    let posed = posed_under(alloc, model, &code, &log);
+    drop(code);
+    drop(log);
+    posed
 }
 
 /// The code of a program, and a log.
-pub(crate) fn code_and_log(alloc: Global, given: &str) -> Result<(Code, Log)> {
-    let (digits, program) = split(given)?;
-    let log = log_of(alloc, digits)?;
-    Ok((compile(alloc, within(program)?)?, log))
+pub(crate) fn code_and_log(alloc: Global, given: &mut Given) -> Result<(Code, Log)> {
+    let log = log_of(alloc, given.before(" : "))?;
+    let code = compile(alloc, within(given.rest())?)?;
+    Ok((code, log))
 }
 
 /// The log of hex digits.

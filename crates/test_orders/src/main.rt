@@ -29,27 +29,36 @@ use anyhow::{Result, bail};
 use std::alloc::Global;
 use std::env::Env;
 use std::str;
+use test_table::given::Given;
 use test_table::parts::{Parts, try_rows};
 
 /// The parts of the program.
+#[derive(Drop)]
 struct Tried;
 
 impl Parts for Tried {
-    fn answer(alloc: Global, part: &str, given: &[u8]) -> Result<String> {
-        let given = str::from_utf8(given)?;
-        match part {
-            "world" => worlds::judged(alloc, given),
-            "verdict" => verdicts::verdict(alloc, given),
-            "learnt" => verdicts::learnt(alloc, given),
-            "solved" => solved::solved(alloc, given),
-            "fewest" => fewest::fewest(alloc, given),
-            "formula" => sizes::formula(alloc, given),
-            "clauses" => sizes::clauses(alloc, given),
-            _ => bail!("no such part"),
-        }
+    fn answer(&self, alloc: Global, part: &str, given: &[u8]) -> Result<String> {
+        let mut given = Given::new(str::from_utf8(given)?);
+        let told = answer(alloc, part, &mut given)?;
+        given.end()?;
+        Ok(told)
+    }
+}
+
+/// The answer of a part.
+fn answer(alloc: Global, part: &str, given: &mut Given) -> Result<String> {
+    match part {
+        "world" => worlds::judged(alloc, given),
+        "verdict" => verdicts::verdict(alloc, given),
+        "learnt" => verdicts::learnt(alloc, given),
+        "solved" => solved::solved(alloc, given),
+        "fewest" => fewest::fewest(alloc, given),
+        "formula" => sizes::formula(alloc, given),
+        "clauses" => sizes::clauses(alloc, given),
+        _ => bail!("no such part"),
     }
 }
 
 fn main(rt: HostRuntime) -> Result<()> {
-    try_rows::<Tried>(&rt)
+    try_rows(&rt, &Tried)
 }

@@ -1,6 +1,6 @@
 //! What a search for a schedule finds before it learns a clause.
 
-use crate::given::{built, code_and_log, split};
+use crate::given::{built, code_and_log};
 use anyhow::{Result, bail};
 use clap_solve::{Answer, solve};
 use run_log::Log;
@@ -8,10 +8,11 @@ use std::alloc::Global;
 use std::mem::drop;
 use store_buffers::{MemoryModel, PsoModel, Sc, TsoModel};
 use tc_code::Code;
+use test_table::given::Given;
 
 /// The answer on a log if the budget is one learnt clause: `spent` if the search learns one.
-pub(crate) fn solved(alloc: Global, given: &str) -> Result<String> {
-    let (model, given) = split(given)?;
+pub(crate) fn solved(alloc: Global, given: &mut Given) -> Result<String> {
+    let model = given.before(" : ");
     let (code, log) = code_and_log(alloc, given)?;
     let answer = answer_under(alloc, model, &code, &log);
     drop(code);

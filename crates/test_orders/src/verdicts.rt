@@ -1,5 +1,5 @@
 //! Whether logs are possible, by the clauses of their formulas.
-use crate::given::{posed, split, system};
+use crate::given::{posed, system};
 use anyhow::{Result, bail};
 use bit_blast::Blasted;
 use cdcl_core::{Answer, Progress, Search, solve_cnf};
@@ -7,27 +7,28 @@ use cnf_core::Cnf;
 use order_formula::World;
 use std::alloc::Global;
 use std::mem::drop;
+use test_table::given::Given;
 
 /// The greatest number of clauses that a search may learn.
 const BUDGET: u32 = 1_000_000;
 
 /// The verdict on a log.
-pub(crate) fn verdict(alloc: Global, given: &str) -> Result<String> {
-    let (model, given) = split(given)?;
+pub(crate) fn verdict(alloc: Global, given: &mut Given) -> Result<String> {
+    let model = given.before(" : ");
+    let mut again = *given;
     let posed = posed(alloc, model, given)?;
     let world = found(alloc, posed.blasted());
     drop(posed);
     let answer = match world? {
         None => "impossible",
-        Some(world) => possible(alloc, model, given, world)?,
+        Some(world) => possible(alloc, model, &mut again, world)?,
     };
     Ok(String::from_str(alloc, answer)?)
 }
 
 /// The result of a search that tries false first, and the number of clauses that it learns.
-pub(crate) fn learnt(alloc: Global, given: &str) -> Result<String> {
-    let (model, given) = split(given)?;
-    let posed = posed(alloc, model, given)?;
+pub(crate) fn learnt(alloc: Global, given: &mut Given) -> Result<String> {
+    let posed = posed(alloc, given.before(" : "), given)?;
     let told = searched(alloc, posed.clauses());
     drop(posed);
     told
@@ -61,7 +62,7 @@ fn found(alloc: Global, blasted: &Blasted) -> Result<Option<World>> {
 }
 
 /// The verdict `possible`, if the formula is true in the world.
-fn possible(alloc: Global, model: &str, given: &str, world: World) -> Result<&'static str> {
+fn possible(alloc: Global, model: &str, given: &mut Given, world: World) -> Result<&'static str> {
     let system = system(alloc, model, given)?;
     let lawful = system.holds(alloc, &world);
     drop(system);

@@ -1,7 +1,7 @@
 //! Worlds, and whether they are lawful.
 ghost use Rattle.std.specs.Prelude.{◌≤◌, length, vec_len, IfOk};
 
-use crate::given::{split, system};
+use crate::given::system;
 use anyhow::{Context, Result, bail};
 use bit_ranks::ranks;
 use clap_system::System;
@@ -9,6 +9,7 @@ use order_formula::World;
 use path_walk::{Paths, Walk};
 use std::alloc::{AllocError, Global};
 use std::mem::drop;
+use test_table::given::Given;
 
 /// A world in words.
 #[derive(Clone, Copy)]
@@ -18,25 +19,14 @@ struct Words<'a> {
     enders: &'a str,
 }
 
-impl<'a> Words<'a> {
-    /// The words of a world, and the text after them.
-    fn of(given: &'a str) -> Result<(Words<'a>, &'a str)> {
-        let (order, given) = split(given)?;
-        let (loads, given) = split(given)?;
-        let (enders, given) = split(given)?;
-        let words = Words {
-            order,
-            loads,
-            enders,
-        };
-        Ok((words, given))
-    }
-}
-
 /// Whether a world is lawful.
-pub(crate) fn judged(alloc: Global, given: &str) -> Result<String> {
-    let (model, given) = split(given)?;
-    let (words, given) = Words::of(given)?;
+pub(crate) fn judged(alloc: Global, given: &mut Given) -> Result<String> {
+    let model = given.before(" : ");
+    let words = Words {
+        order: given.before(" : "),
+        loads: given.before(" : "),
+        enders: given.before(" : "),
+    };
     let system = system(alloc, model, given)?;
     let lawful = is_lawful(alloc, &system, words);
     drop(system);

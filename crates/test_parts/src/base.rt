@@ -1,14 +1,13 @@
 //! Arithmetic, names and the generator of seeded runs.
-use anyhow::{Context, Result, bail};
+use anyhow::{Result, bail};
 use int_ops::arith::{binary, unary};
 use int_ops::{BinOp, UnOp};
 use rand_core::{Rng, SeedableRng};
 use rand_xoshiro::SplitMix64;
 use std::alloc::{AllocError, Global};
+use std::mem::drop;
 use tc_base::ThreadName;
-
-/// The unary operators, by their signs.
-static UNARY: [(&str, UnOp); 3] = [("-", UnOp::Neg), ("!", UnOp::Not), ("~", UnOp::Inv)];
+use test_table::given::Given;
 
 /// The binary operators, by their signs.
 static BINARY: [(&str, BinOp); 16] = [
@@ -31,13 +30,13 @@ static BINARY: [(&str, BinOp); 16] = [
 ];
 
 /// The unary operator with this sign.
-pub(crate) fn unary_of(sign: &str) -> Result<UnOp> {
-    for row in UNARY.iter() {
-        if row.0 == sign {
-            return Ok(row.1);
-        }
+pub(crate) fn unary_of(sign: &str) -> Option<UnOp> {
+    match sign {
+        "-" => Some(UnOp::Neg),
+        "!" => Some(UnOp::Not),
+        "~" => Some(UnOp::Inv),
+        _ => None,
     }
-    bail!("no operator over one value")
 }
 
 /// The binary operator with this sign.
@@ -51,12 +50,14 @@ pub(crate) fn binary_of(sign: &str) -> Result<BinOp> {
 }
 
 /// The value of an operator over numbers.
-pub(crate) fn arith(alloc: Global, given: &str) -> Result<String> {
-    let mut words = given.split(' ');
-    let value = match (words.next(), words.next(), words.next()) {
-        (Some(sign), Some(a), None) => unary(unary_of(sign)?, a.parse()?),
-        (Some(a), Some(sign), Some(b)) => binary(binary_of(sign)?, a.parse()?, b.parse()?),
-        _ => bail!("no operator with its numbers"),
+pub(crate) fn arith(alloc: Global, given: &mut Given) -> Result<String> {
+    let first = given.word();
+    let value = match unary_of(first) {
+        Some(op) => unary(op, given.number()),
+        None => {
+            let op = binary_of(given.word())?;
+            binary(op, first.parse()?, given.number())
+        }
     };
     Ok(format!(in alloc; "{value}")?)
 }
@@ -74,38 +75,36 @@ fn name_of(alloc: Global, children: &str) -> Result<ThreadName> {
     Ok(name)
 }
 
-/// The text of a copy of a name.
-pub(crate) fn name(alloc: Global, given: &str) -> Result<String> {
-    let copy = name_of(alloc, given)?.clone()?;
-    if children_text(alloc, &copy)?.trim() != given {
-        bail!("other children");
-    }
-    Ok(format!(in alloc; "{copy}")?)
+/// The text of a copy of a name, and the numbers of its children.
+pub(crate) fn name(alloc: Global, given: &mut Given) -> Result<String> {
+    let name = name_of(alloc, given.rest())?;
+    let copy = name.clone();
+    drop(name);
+    let text = name_text(alloc, &copy?);
+    Ok(text?)
 }
 
-/// The numbers of children that a name has, a blank before each.
-fn children_text(alloc: Global, name: &ThreadName) -> Result<String, AllocError> {
-    let mut children = String::new(alloc);
+fn name_text(alloc: Global, name: &ThreadName) -> Result<String, AllocError> {
+    let mut text = format!(in alloc; "{name}")?;
     for child in name.children() {
-        write!(children, " {child}")?;
+        write!(text, " {child}")?;
     }
-    Ok(children)
+    Ok(text)
 }
 
-/// The order of two names.
-pub(crate) fn order(alloc: Global, given: &str) -> Result<String> {
-    let (a, b) = given.split_once(':').context("one name")?;
-    let (a, b) = (name_of(alloc, a)?, name_of(alloc, b)?);
-    let order = a.partial_cmp(&b).context("no order")?;
-    if order.is_eq() != (a == b) {
-        bail!("equal by one, and not by the other");
-    }
-    Ok(format!(in alloc; "{order:?}")?)
+/// The order of two names, and whether they are equal.
+pub(crate) fn order(alloc: Global, given: &mut Given) -> Result<String> {
+    let a = name_of(alloc, given.before(":"))?;
+    let b = name_of(alloc, given.rest())?;
+    let (order, is_equal) = (a.partial_cmp(&b), a == b);
+    drop(a);
+    drop(b);
+    Ok(format!(in alloc; "{order:?} {is_equal}")?)
 }
 
 /// The first words of the generator.
-pub(crate) fn seeded(alloc: Global, given: &str) -> Result<String> {
-    let words = words_text(alloc, given.parse()?);
+pub(crate) fn seeded(alloc: Global, given: &mut Given) -> Result<String> {
+    let words = words_text(alloc, given.number());
     Ok(words?)
 }
 

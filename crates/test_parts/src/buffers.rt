@@ -2,9 +2,11 @@
 ghost use Rattle.std.specs.Prelude.{◌≡◌, Some, true, IfOk, List};
 ghost use Rattle.store_buffers.specs.Pending.{Pending, Stands};
 
-use anyhow::{Context, Result, bail};
+use anyhow::{Result, bail};
 use std::alloc::{AllocError, Global};
+use std::mem::drop;
 use store_buffers::{MemoryModel, PsoModel, Sc, TsoModel};
+use test_table::given::Given;
 
 /// Issues a store and loads its cell: whatever else is pending, the load takes the store's value.
 fn store_and_load<M: MemoryModel>(
@@ -19,60 +21,34 @@ fn store_and_load<M: MemoryModel>(
     Ok(M::forward(buffer, cell))
 }
 
-/// An act on a buffer.
-#[derive(Clone, Copy)]
-enum Act {
-    Issue(u32, i32),
-    Bar,
-    Load(u32),
-    Drain(Option<u32>),
-    Forms,
-    Empty,
-    Own(u32, i32),
-    Bound,
-}
-
-/// The act with this text.
-fn act_of(text: &str) -> Result<Act> {
-    let (word, rest) = text.split_once(' ').unwrap_or((text, ""));
-    Ok(match word {
-        "bar" => Act::Bar,
-        "forms" => Act::Forms,
-        "empty" => Act::Empty,
-        "bound" => Act::Bound,
-        "load" => Act::Load(rest.parse()?),
-        "drain" if rest.is_empty() => Act::Drain(None),
-        "drain" => Act::Drain(Some(rest.parse()?)),
-        _ => store_of(word, rest)?,
-    })
-}
-
-/// The act that issues a store, with this word, cell and value.
-fn store_of(word: &str, rest: &str) -> Result<Act> {
-    let (cell, value) = rest.split_once(' ').context("no value")?;
-    let (cell, value) = (cell.parse()?, value.parse()?);
-    match word {
-        "issue" => Ok(Act::Issue(cell, value)),
-        "own" => Ok(Act::Own(cell, value)),
-        _ => bail!("no act"),
-    }
-}
-
 /// Does an act, and adds its answer.
 fn act_on<M: MemoryModel>(
     text: &mut String,
     buffer: &mut M::Buffer,
-    act: Act,
+    act: &mut Given,
 ) -> Result<(), AllocError> {
-    match act {
-        Act::Issue(cell, value) => issue::<M>(buffer, cell, value),
-        Act::Bar => M::bar(buffer),
-        Act::Load(cell) => push_load::<M>(text, buffer, cell),
-        Act::Drain(form) => push_drain::<M>(text, buffer, form),
-        Act::Forms => push_forms::<M>(text, buffer),
-        Act::Empty => text.push_str(if M::is_empty(buffer) { " yes;" } else { " no;" }),
-        Act::Own(cell, value) => push_own::<M>(text, buffer, cell, value),
-        Act::Bound => push_bound::<M>(text),
+    match act.word() {
+        "issue" => issue::<M>(buffer, act.number(), act.number()),
+        "bar" => M::bar(buffer),
+        "load" => push_load::<M>(text, buffer, act.number()),
+        "drain" => push_drain::<M>(text, buffer, form_of(act)),
+        "forms" => push_forms::<M>(text, buffer),
+        "empty" => text.push_str(if M::is_empty(buffer) { " yes;" } else { " no;" }),
+        "own" => push_own::<M>(text, buffer, act.number(), act.number()),
+        "bound" => push_bound::<M>(text),
+        _ => {
+            act.refuse();
+            Ok(())
+        }
+    }
+}
+
+/// The form of a drain: a cell, or none.
+fn form_of(act: &mut Given) -> Option<u32> {
+    if act.is_at_end() {
+        None
+    } else {
+        Some(act.number())
     }
 }
 
@@ -149,22 +125,31 @@ fn push_bound<M: MemoryModel>(text: &mut String) -> Result<(), AllocError> {
     text.push(';')
 }
 
+/// Does acts on a buffer, and adds their answers.
+fn act_all<M: MemoryModel>(text: &mut String, buffer: &mut M::Buffer, acts: &str) -> Result<()> {
+    for act in acts.split(", ") {
+        let mut act = Given::new(act);
+        act_on::<M>(text, buffer, &mut act)?;
+        act.end()?;
+    }
+    Ok(())
+}
+
 /// The answers of acts on an empty buffer.
 fn all_acted<M: MemoryModel>(alloc: Global, acts: &str) -> Result<String> {
     let mut buffer = M::empty(alloc);
     let mut text = String::new(alloc);
-    for act in acts.split(", ") {
-        act_on::<M>(&mut text, &mut buffer, act_of(act)?)?;
-    }
+    let acted = act_all::<M>(&mut text, &mut buffer, acts);
+    drop(buffer);
+    acted?;
     Ok(String::from_str(alloc, text.trim_start())?)
 }
 
-pub(crate) fn buffer(alloc: Global, given: &str) -> Result<String> {
-    let (model, acts) = given.split_once(' ').context("no acts")?;
-    match model {
-        "sc" => all_acted::<Sc>(alloc, acts),
-        "tso" => all_acted::<TsoModel>(alloc, acts),
-        "pso" => all_acted::<PsoModel>(alloc, acts),
+pub(crate) fn buffer(alloc: Global, given: &mut Given) -> Result<String> {
+    match given.word() {
+        "sc" => all_acted::<Sc>(alloc, given.rest()),
+        "tso" => all_acted::<TsoModel>(alloc, given.rest()),
+        "pso" => all_acted::<PsoModel>(alloc, given.rest()),
         _ => bail!("no such model"),
     }
 }

@@ -1,11 +1,13 @@
 //! Schedules and logs.
-use anyhow::{Context, Result, bail};
+use anyhow::{Result, bail};
 use path_log::{LogFault, program_digest, read_log, write_log};
 use run_log::Log;
 use schedule_file::{Schedule, ScheduleFault, read_schedule, write_schedule};
 use std::alloc::{AllocError, Global};
+use std::mem::drop;
 use tc_base::Move;
 use test_table::answers::Answers;
+use test_table::given::Given;
 
 /// Adds a move as a schedule writes it.
 pub(crate) fn push_move(text: &mut String, m: &Move) -> Result<(), AllocError> {
@@ -71,18 +73,20 @@ fn log_of(alloc: Global, text: &[u8]) -> Result<Result<Log, LogFault>> {
 }
 
 /// The number of threads of a log, or its fault.
-pub(crate) fn log(alloc: Global, hex: &str) -> Result<String> {
-    match log_of(alloc, hex_bytes(alloc, hex)?.as_slice())? {
+pub(crate) fn log(alloc: Global, given: &mut Given) -> Result<String> {
+    match log_of(alloc, hex_bytes(alloc, given.rest())?.as_slice())? {
         Ok(log) => Ok(format!(in alloc; "{} threads", log.threads().len())?),
         Err(fault) => Ok(format!(in alloc; "{fault}")?),
     }
 }
 
 /// The parts of a log.
-pub(crate) fn paths(alloc: Global, hex: &str) -> Result<String> {
-    let log = log_of(alloc, hex_bytes(alloc, hex)?.as_slice())??;
+pub(crate) fn paths(alloc: Global, given: &mut Given) -> Result<String> {
+    let log = log_of(alloc, hex_bytes(alloc, given.rest())?.as_slice())??;
     let mut text = String::new(alloc);
-    push_log(&mut text, &log)?;
+    let pushed = push_log(&mut text, &log);
+    drop(log);
+    pushed?;
     Ok(text)
 }
 

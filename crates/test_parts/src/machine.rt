@@ -4,26 +4,30 @@ ghost use Rattle.tc_code.specs.Run.{IsReached};
 
 use crate::files::{push_move, push_outcomes};
 use crate::text::code_of;
-use anyhow::{Context, Result, bail};
+use anyhow::{Result, bail};
 use schedule_file::read_schedule;
 use std::alloc::{AllocError, Global};
+use std::mem::drop;
 use store_buffers::{MemoryModel, PsoModel, Sc, TsoModel};
 use tc_base::{Move, ThreadName};
 use tc_code::Code;
 use tc_machine::{State, Why, enabled, moves, start, step};
+use test_table::given::Given;
 
 /// The answer to a row of moves: what holds at their end.
-pub(crate) fn moved(alloc: Global, given: &str) -> Result<String> {
-    let (head, program) = given.split_once(" : ").context("no program")?;
-    let (model, schedule) = head.split_once(' ').context("no moves")?;
-    let code = code_of(alloc, program.as_bytes())?;
-    let moves = moves_of(alloc, schedule)?;
-    match model {
+pub(crate) fn moved(alloc: Global, given: &mut Given) -> Result<String> {
+    let model = given.word();
+    let moves = moves_of(alloc, given.before(" : "))?;
+    let code = code_of(alloc, given.rest().as_bytes())?;
+    let told = match model {
         "sc" => played::<Sc>(alloc, &code, &moves),
         "tso" => played::<TsoModel>(alloc, &code, &moves),
         "pso" => played::<PsoModel>(alloc, &code, &moves),
         _ => bail!("no such model"),
-    }
+    };
+    drop(code);
+    drop(moves);
+    told
 }
 
 /// The moves of a schedule, written as its model and its moves with commas between them.

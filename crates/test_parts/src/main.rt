@@ -5,13 +5,11 @@
 //! What a part is given, and what comes; several things are separated by ` : `:
 //!
 //! - `arith`: an operator with its one or two numbers; the value;
-//! - `name`: numbers of children; the name that they lead to;
-//! - `order`: two names' children; how the names are ordered;
+//! - `name`: numbers of children; the name that they lead to, and its children;
+//! - `order`: two names' children; how the names are ordered, and whether they are equal;
 //! - `seeded`: a seed; the first five words of the generator;
 //! - `terms`: steps with `,` between them, each a number, `load N`, or an operator over earlier steps `#N`; how many terms
 //!   they make, and the value of the last, where load 0 took 3 and load 1 -4;
-//! - `sums`: `itself N` or `load N`; the same of load 0, to which itself or load 0 is added N
-//!   times;
 //! - `buffer`: a model, and acts with `,` between them: `issue CELL VALUE`, `bar`, `load CELL`, `drain`, `drain CELL`,
 //!   `forms`, `empty`, `own CELL VALUE` (a store and a load), `bound` (the model's name, and whether an older store is bound
 //!   before a newer one: plainly, to one cell, over a bar, and both); what all but the first two answer;
@@ -49,13 +47,15 @@ use anyhow::{Result, bail};
 use std::alloc::Global;
 use std::env::Env;
 use std::str;
+use test_table::given::Given;
 use test_table::parts::{Parts, try_rows};
 
 /// The parts of the program.
+#[derive(Drop)]
 struct Tried;
 
 impl Parts for Tried {
-    fn answer(alloc: Global, part: &str, given: &[u8]) -> Result<String> {
+    fn answer(&self, alloc: Global, part: &str, given: &[u8]) -> Result<String> {
         match part {
             "tokens" => text::tokens(alloc, given),
             "place" => text::place(alloc, given),
@@ -63,20 +63,24 @@ impl Parts for Tried {
             "schedule" => files::schedule(alloc, given),
             "cut-schedule" => files::cut_schedule(alloc, given),
             "digest" => files::digest(alloc, given),
-            _ => answer(alloc, part, str::from_utf8(given)?),
+            _ => {
+                let mut given = Given::new(str::from_utf8(given)?);
+                let told = answer(alloc, part, &mut given)?;
+                given.end()?;
+                Ok(told)
+            }
         }
     }
 }
 
 /// The answer of a part.
-fn answer(alloc: Global, part: &str, given: &str) -> Result<String> {
+fn answer(alloc: Global, part: &str, given: &mut Given) -> Result<String> {
     match part {
         "arith" => base::arith(alloc, given),
         "name" => base::name(alloc, given),
         "order" => base::order(alloc, given),
         "seeded" => base::seeded(alloc, given),
         "terms" => terms::terms(alloc, given),
-        "sums" => terms::sums(alloc, given),
         "buffer" => buffers::buffer(alloc, given),
         "tree" => text::tree(alloc, given),
         "log" => files::log(alloc, given),
@@ -91,5 +95,5 @@ fn answer(alloc: Global, part: &str, given: &str) -> Result<String> {
 }
 
 fn main(rt: HostRuntime) -> Result<()> {
-    try_rows::<Tried>(&rt)
+    try_rows(&rt, &Tried)
 }

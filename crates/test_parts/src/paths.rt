@@ -11,23 +11,32 @@ use path_walk::{Blocked, Event, Link, Paths, Region, Sleep, Walk, walk};
 use run_log::Log;
 use std::alloc::{AllocError, Global};
 use std::fmt::Write;
+use std::mem::drop;
 use sym_exec::{Symbolic, execute};
 use sym_terms::Terms;
 use tc_base::Failing;
 use tc_code::Code;
 use tc_limits::limits::THREADS;
+use test_table::given::Given;
 
 /// The log and the program of a row.
-fn parts_of(alloc: Global, given: &str) -> Result<(Log, Code)>
+fn parts_of(alloc: Global, given: &mut Given) -> Result<(Log, Code)>
     ensures { IfOk result (λ parts. length parts.0.log.threads ≤ THREADS) }
 {
-    let (hex, program) = given.split_once(" : ").context("a log without a program")?;
+    let log = log_of(alloc, given.before(" : "))?;
+    let code = code_of(alloc, given.rest().as_bytes())?;
+    Ok((log, code))
+}
+
+/// The log of hex digits.
+fn log_of(alloc: Global, hex: &str) -> Result<Log>
+    ensures { IfOk result (λ log. length log.log.threads ≤ THREADS) }
+{
     let log = read_log(alloc, hex_bytes(alloc, hex)?.as_slice())?;
     if log.threads().len() > THREADS {
         bail!("a log of too many threads");
     }
-    let code = code_of(alloc, program.as_bytes())?;
-    Ok((log, code))
+    Ok(log)
 }
 
 fn numbers_of(alloc: Global, text: &str) -> Result<Vec<i32>> {
@@ -40,9 +49,11 @@ fn numbers_of(alloc: Global, text: &str) -> Result<Vec<i32>> {
 
 /// The numbers of events and operators of the paths, and whether they are dead; or the fault of the
 /// log.
-pub(crate) fn walked(alloc: Global, given: &str) -> Result<String> {
+pub(crate) fn walked(alloc: Global, given: &mut Given) -> Result<String> {
     let (log, code) = parts_of(alloc, given)?;
     let text = walk_text(alloc, &log, &code);
+    drop(log);
+    drop(code);
     Ok(text?)
 }
 
@@ -65,10 +76,12 @@ fn told(alloc: Global, paths: &Paths) -> Result<String, AllocError> {
 }
 
 /// The same, with everything that each path determines.
-pub(crate) fn ways(alloc: Global, given: &str) -> Result<String> {
+pub(crate) fn ways(alloc: Global, given: &mut Given) -> Result<String> {
     let (log, code) = parts_of(alloc, given)?;
-    let paths = walk(alloc, &code, &log)?;
-    let text = all_ways(alloc, &paths);
+    let paths = walk(alloc, &code, &log);
+    drop(log);
+    drop(code);
+    let text = all_ways(alloc, &paths?);
     Ok(text?)
 }
 
@@ -157,19 +170,30 @@ fn push_links(text: &mut String, what: &str, links: &[Link]) -> Result<(), Alloc
 }
 
 /// The numbers of loads and terms of the execution.
-pub(crate) fn sizes(alloc: Global, given: &str) -> Result<String> {
+pub(crate) fn sizes(alloc: Global, given: &mut Given) -> Result<String> {
     let (log, code) = parts_of(alloc, given)?;
     let mut terms = Terms::new(alloc);
-    let symbolic = symbolic_of(alloc, &log, &code, &mut terms)?;
-    Ok(format!(in alloc; "{} loads, {} terms", symbolic.loads(), terms.len())?)
+    let loads = symbolic_of(alloc, &log, &code, &mut terms).map(|symbolic| symbolic.loads());
+    drop(log);
+    drop(code);
+    let len = terms.len();
+    drop(terms);
+    let loads = loads?;
+    Ok(format!(in alloc; "{loads} loads, {len} terms")?)
 }
 
 /// Everything that the execution finds, and the values of its terms for these values of the loads.
-pub(crate) fn executed(alloc: Global, given: &str) -> Result<String> {
-    let (given, loads) = given.rsplit_once(" :").context("no values of loads")?;
+pub(crate) fn executed(alloc: Global, given: &mut Given) -> Result<String> {
+    let (front, loads) = given
+        .rest()
+        .rsplit_once(" :")
+        .context("no values of loads")?;
     let loads = numbers_of(alloc, loads)?;
-    let (log, code) = parts_of(alloc, given)?;
-    execution_text(alloc, &log, &code, loads.as_slice())
+    let (log, code) = parts_of(alloc, &mut Given::new(front))?;
+    let text = execution_text(alloc, &log, &code, loads.as_slice());
+    drop(log);
+    drop(code);
+    text
 }
 
 fn execution_text(alloc: Global, log: &Log, code: &Code, loads: &[i32]) -> Result<String>
@@ -182,7 +206,10 @@ fn execution_text(alloc: Global, log: &Log, code: &Code, loads: &[i32]) -> Resul
         terms: &terms,
         loads,
     };
-    Ok(told.all(&symbolic)?)
+    let text = told.all(&symbolic);
+    drop(symbolic);
+    drop(terms);
+    Ok(text?)
 }
 
 /// The execution of a log.

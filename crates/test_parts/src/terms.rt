@@ -3,9 +3,10 @@ ghost use Rattle.std.specs.Prelude.{◌<◌, length, IfOk};
 
 use crate::base::{binary_of, unary_of};
 use anyhow::{Context, Result, bail};
-use int_ops::BinOp;
 use std::alloc::Global;
+use std::mem::drop;
 use sym_terms::{Id, Terms, Values, value};
+use test_table::given::Given;
 
 /// The term of an earlier step.
 fn term_of(terms: &Terms, ids: &[Id], step: usize) -> Result<Id>
@@ -24,21 +25,23 @@ fn step_of(word: &str) -> Result<usize> {
 }
 
 /// The term of a step.
-fn made(terms: &mut Terms, ids: &[Id], step: &str) -> Result<Id> {
-    let mut words = step.split(' ');
-    match (words.next(), words.next(), words.next()) {
-        (Some(number), None, None) => Ok(terms.constant(number.parse()?)?),
-        (Some("load"), Some(load), None) => Ok(terms.symbol(load.parse()?)?),
-        (Some(sign), Some(a), None) => {
-            let a = term_of(terms, ids, step_of(a)?)?;
-            Ok(terms.op1(unary_of(sign)?, a)?)
+fn made(terms: &mut Terms, ids: &[Id], step: &mut Given) -> Result<Id> {
+    let first = step.word();
+    if first == "load" {
+        return Ok(terms.symbol(step.number())?);
+    }
+    if first.starts_with('#') {
+        let a = term_of(terms, ids, step_of(first)?)?;
+        let op = binary_of(step.word())?;
+        let b = term_of(terms, ids, step_of(step.word())?)?;
+        return Ok(terms.op2(op, a, b)?);
+    }
+    match unary_of(first) {
+        Some(op) => {
+            let a = term_of(terms, ids, step_of(step.word())?)?;
+            Ok(terms.op1(op, a)?)
         }
-        (Some(a), Some(sign), Some(b)) => {
-            let a = term_of(terms, ids, step_of(a)?)?;
-            let b = term_of(terms, ids, step_of(b)?)?;
-            Ok(terms.op2(binary_of(sign)?, a, b)?)
-        }
-        _ => bail!("no step"),
+        None => Ok(terms.constant(first.parse()?)?),
     }
 }
 
@@ -54,24 +57,23 @@ fn told(alloc: Global, terms: &Terms, ids: &[Id]) -> Result<String> {
 }
 
 /// Terms made step by step.
-pub(crate) fn terms(alloc: Global, given: &str) -> Result<String> {
+pub(crate) fn terms(alloc: Global, given: &mut Given) -> Result<String> {
     let mut terms = Terms::new(alloc);
     let mut ids = Vec::new(alloc);
-    for step in given.split(", ") {
-        ids.push(made(&mut terms, &ids, step)?)?;
-    }
-    told(alloc, &terms, &ids)
+    let made = make_all(&mut terms, &mut ids, given.rest());
+    let told = told(alloc, &terms, &ids);
+    drop(terms);
+    drop(ids);
+    made?;
+    told
 }
 
-/// Load 0, to which itself, or else load 0, is added `times` times.
-pub(crate) fn sums(alloc: Global, given: &str) -> Result<String> {
-    let (added, times) = given.split_once(' ').context("no number of times")?;
-    let mut terms = Terms::new(alloc);
-    let mut ids = [terms.symbol(0)?; 2];
-    for _ in 0..times.parse::<u32>()? {
-        let last = term_of(&terms, &ids, 1)?;
-        let more = term_of(&terms, &ids, usize::from(added == "itself"))?;
-        ids[1] = terms.op2(BinOp::Add, last, more)?;
+fn make_all(terms: &mut Terms, ids: &mut Vec<Id>, steps: &str) -> Result<()> {
+    for step in steps.split(", ") {
+        let mut step = Given::new(step);
+        let id = made(terms, ids, &mut step)?;
+        step.end()?;
+        ids.push(id)?;
     }
-    told(alloc, &terms, &ids)
+    Ok(())
 }

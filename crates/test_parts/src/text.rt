@@ -12,6 +12,7 @@ use tc_lexer::{Place, Token, TokenKind, lex, place_after};
 use tc_limits::limits::PROGRAM_BYTES;
 use tc_parser::read;
 use tc_tree::{Expression, Node, Operator, Statement};
+use test_table::given::Given;
 
 /// A text that isn't longer than a program may be.
 fn within(source: &[u8]) -> Result<&[u8]>
@@ -175,8 +176,8 @@ fn assignment(alloc: Global, expression: &str) -> Result<String, AllocError> {
 }
 
 /// The tree of an expression over ints, and over the array `a` if it has an index.
-pub(crate) fn tree(alloc: Global, expression: &str) -> Result<String> {
-    let text = assignment(alloc, expression)?;
+pub(crate) fn tree(alloc: Global, given: &mut Given) -> Result<String> {
+    let text = assignment(alloc, given.rest())?;
     let tree = read(alloc, within(text.as_bytes())?)?;
     match tree.program.main.block.statements.as_slice() {
         [Statement::Assign(_, value)] => {

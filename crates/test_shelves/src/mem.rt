@@ -13,6 +13,7 @@ ghost use Rattle.std.specs.Prelude.{
   min,
   take,
   unwrap_or,
+  string_bytes,
   Some,
   None,
   IsSome,
@@ -62,6 +63,27 @@ pub struct MemShelf {
     taken: u64,
     faults: Faults,
     reading: Option<Reading>,
+    memory: Memory,
+}
+
+/// For how many more calls there is memory; for all, if it doesn't say.
+#[derive(Drop)]
+struct Memory {
+    calls: Option<u64>,
+}
+
+impl Memory {
+    /// A copy of a call's name, if there is memory for the call.
+    fn copy(&mut self, alloc: Global, name: &str) -> Result<String, AllocError>
+        ensures { IfOk result (λ copy. string_bytes copy ≡ name.now) }
+    {
+        match self.calls {
+            Some(0) => return Err(AllocError),
+            Some(calls) => self.calls = Some(calls - 1),
+            None => {}
+        }
+        String::from_str(alloc, name)
+    }
 }
 
 impl Model for MemShelf {
@@ -87,6 +109,7 @@ impl MemShelf {
             taken: 0,
             faults: Faults::new(),
             reading: None,
+            memory: Memory { calls: None },
         }
     }
 
@@ -105,6 +128,13 @@ impl MemShelf {
         ensures err { OnErr result (self.new ≡ self.old) }
     {
         self.plan.add(fail)
+    }
+
+    /// Leaves memory for this many more calls that fetch, keep or open, and for none after them.
+    pub fn leave_memory(&mut self, calls: u64)
+        ensures { self.new ≡ self.old }
+    {
+        self.memory.calls = Some(calls);
     }
 }
 
@@ -128,7 +158,7 @@ impl Shelf for MemShelf {
             ⊎ ((self.new.plan ≡ with_call self.old.plan) × (self.new.taken ≡ taken_after self.old self.new.plan name.now limit)) }
     {
         self.reading = None;
-        let Ok(copy) = String::from_str(alloc, name) else {
+        let Ok(copy) = self.memory.copy(alloc, name) else {
             return Err(FetchFault::Memory);
         };
         match (self.plan.call(), self.files.get(name)) {
@@ -158,7 +188,7 @@ impl Shelf for MemShelf {
         ensures counted { (result ≢ Err KeepFault.Memory) → self.new.plan ≡ with_call self.old.plan }
     {
         self.reading = None;
-        let Ok(copy) = String::from_str(alloc, name) else {
+        let Ok(copy) = self.memory.copy(alloc, name) else {
             return Err(KeepFault::Memory);
         };
         let told = self.plan.call();
@@ -184,7 +214,7 @@ impl Shelf for MemShelf {
         ensures counted { (result ≢ Err OpenFault.Memory) → self.new.plan ≡ with_call self.old.plan }
     {
         self.reading = None;
-        let Ok(copy) = String::from_str(alloc, name) else {
+        let Ok(copy) = self.memory.copy(alloc, name) else {
             return Err(OpenFault::Memory);
         };
         match (self.plan.call(), self.files.get(name)) {
@@ -262,6 +292,8 @@ pub struct MemSink {
     written: Vec<u8>,
     plan: Plan,
     faults: u64,
+    /// How many more puts find no memory.
+    refused: u64,
 }
 
 impl Model for MemSink {
@@ -281,6 +313,7 @@ impl MemSink {
             written: Vec::new(alloc),
             plan: Plan::new(alloc),
             faults: 0,
+            refused: 0,
         }
     }
 
@@ -290,6 +323,13 @@ impl MemSink {
         ensures err { OnErr result (self.new ≡ self.old) }
     {
         self.plan.add(fail)
+    }
+
+    /// Lets this many more puts find no memory.
+    pub fn refuse(&mut self, puts: u64)
+        ensures { self.new ≡ self.old }
+    {
+        self.refused = puts;
     }
 
     /// What all puts so far have written.
@@ -316,7 +356,12 @@ impl Sink for MemSink {
             (λ after. self.new.written ≡ self.old.written ++ take after bytes.now) }
         ensures counted { self.new.plan ≡ with_call self.old.plan }
     {
-        let Some(after) = self.plan.call() else {
+        let told = self.plan.call();
+        if self.refused > 0 {
+            self.refused -= 1;
+            return Err(PutFault::Memory);
+        }
+        let Some(after) = told else {
             return append(&mut self.written, bytes);
         };
         append(&mut self.written, &bytes[..after.min(bytes.len())])?;

@@ -1,20 +1,51 @@
 //! Lists of clauses.
-ghost use Rattle.std.specs.Prelude.{◌<◌, ◌≤◌};
-
 use anyhow::{Result, bail};
-use cnf_core::{Cnf, LIMIT, Lit, is_clause, is_within};
+use cnf_core::{Assignment, Cnf, Gate, LIMIT, Lit, is_clause, is_within, satisfies};
 use std::alloc::{AllocError, Global};
+use std::mem::drop;
+use test_table::given::Given;
+
+/// The literal with this number, which isn't 0.
+fn literal(number: i32) -> Result<Lit> {
+    let variable = number.unsigned_abs();
+    if variable == 0 || variable > 1 << 30 {
+        bail!("no literal");
+    }
+    Ok(Lit::new(variable, number < 0))
+}
 
 /// No clauses, over this number of variables.
-pub(crate) fn empty(alloc: Global, variables: u32) -> Result<Cnf> {
+fn empty(alloc: Global, variables: u32) -> Result<Cnf> {
     if variables >= LIMIT {
         bail!("too many variables");
     }
     Ok(Cnf::new(alloc, variables))
 }
 
+/// Reads a number of variables and a list of clauses, each of which ends with 0.
+pub(crate) fn read(alloc: Global, given: &mut Given) -> Result<Cnf> {
+    let mut cnf = empty(alloc, given.number())?;
+    given.before(": ");
+    read_clauses(alloc, &mut cnf, given.before(": "))?;
+    Ok(cnf)
+}
+
+fn read_clauses(alloc: Global, cnf: &mut Cnf, words: &str) -> Result<()> {
+    let mut clause = Vec::new(alloc);
+    for word in words.split_whitespace() {
+        match word.parse::<i32>()? {
+            0 => {
+                push(cnf, clause.as_slice())?;
+                clause.clear();
+            }
+            number => clause.push(literal(number)?)?,
+        }
+    }
+    Ok(())
+}
+
 /// Adds a clause.
-pub(crate) fn push(cnf: &mut Cnf, clause: &[Lit]) -> Result<()> {
+fn push(cnf: &mut Cnf, clause: &[Lit]) -> Result<()> {
     if !is_clause(clause) || !is_within(cnf.vars(), clause) {
         bail!("no clause");
     }
@@ -25,117 +56,79 @@ pub(crate) fn push(cnf: &mut Cnf, clause: &[Lit]) -> Result<()> {
     Ok(())
 }
 
-/// The literal with this number, which isn't 0.
-pub(crate) fn literal(number: i32) -> Result<Lit> {
-    let variable = number.unsigned_abs();
-    if variable == 0 || variable > 1 << 30 {
-        bail!("no literal");
+/// The gate with this name.
+fn gate_of(name: &str) -> Result<Gate> {
+    match name {
+        "and" => Ok(Gate::And),
+        "or" => Ok(Gate::Or),
+        "xor" => Ok(Gate::Xor),
+        _ => bail!("no such gate"),
     }
-    Ok(Lit::new(variable, number < 0))
 }
 
-/// Reads a list of clauses, each of which ends with 0.
-pub(crate) fn read(alloc: Global, variables: u32, text: &str) -> Result<Cnf> {
-    let mut cnf = empty(alloc, variables)?;
-    let mut clause = Vec::new(alloc);
-    for word in text.split_whitespace() {
-        let number = word.parse::<i32>()?;
-        if number == 0 {
-            push(&mut cnf, clause.as_slice())?;
-            clause = Vec::new(alloc);
-        } else {
-            clause.push(literal(number)?)?;
-        }
+/// The clauses of a gate over two literals of the variables 1 and 2. The gate's variable is 3.
+fn gate_clauses(alloc: Global, gate: Gate, a: Lit, b: Lit) -> Result<Cnf> {
+    if a.var() > 2 || b.var() > 2 {
+        bail!("no such variable");
+    }
+    let mut cnf = Cnf::new(alloc, 2);
+    let lit = match gate {
+        Gate::And => cnf.and_gate(a, b),
+        Gate::Or => cnf.or_gate(a, b),
+        Gate::Xor => cnf.xor_gate(a, b),
+    };
+    if lit?.number() != 3 {
+        bail!("another variable");
     }
     Ok(cnf)
 }
 
-/// Each of `count` pigeons has a hole, there is one hole less, and no hole has two pigeons.
-pub(crate) fn pigeons(alloc: Global, count: u32) -> Result<Cnf> {
-    if count < 2 || count > 100 {
-        bail!("so many pigeons won't do");
-    }
-    let holes = count - 1;
-    let mut cnf = empty(alloc, count * holes)?;
-    for pigeon in 0..count {
-        push(&mut cnf, nest(alloc, pigeon, holes)?.as_slice())?;
-    }
-    for hole in 0..holes {
-        part(&mut cnf, count, hole, holes)?;
-    }
-    Ok(cnf)
+/// All values of three variables.
+const VALUES: [[bool; 3]; 8] = [
+    [false, false, false],
+    [false, false, true],
+    [false, true, false],
+    [false, true, true],
+    [true, false, false],
+    [true, false, true],
+    [true, true, false],
+    [true, true, true],
+];
+
+/// The values of the variables 1 to 3 that satisfy the clauses of a gate.
+pub(crate) fn gate(alloc: Global, given: &mut Given) -> Result<String> {
+    let gate = gate_of(given.word())?;
+    let (a, b) = (literal(given.number())?, literal(given.number())?);
+    let cnf = gate_clauses(alloc, gate, a, b)?;
+    let told = satisfying(alloc, &cnf);
+    drop(cnf);
+    Ok(told?)
 }
 
-/// The literal that a pigeon has a hole.
-fn sits(pigeon: u32, hole: u32, holes: u32, negative: bool) -> Lit
-    requires pigeon { pigeon < 100 }
-    requires hole { hole < 100 }
-    requires holes { holes < 100 }
-{
-    Lit::new(pigeon * holes + hole + 1, negative)
-}
-
-/// That a pigeon has one of the `holes` holes.
-fn nest(alloc: Global, pigeon: u32, holes: u32) -> Result<Vec<Lit>, AllocError>
-    requires pigeon { pigeon < 100 }
-    requires holes { holes < 100 }
-{
-    let mut clause = Vec::new(alloc);
-    for hole in 0..holes {
-        clause.push(sits(pigeon, hole, holes, false))?;
-    }
-    Ok(clause)
-}
-
-/// That no two of `count` pigeons have the hole.
-fn part(cnf: &mut Cnf, count: u32, hole: u32, holes: u32) -> Result<()>
-    requires count { count ≤ 100 }
-    requires hole { hole < 100 }
-    requires holes { holes < 100 }
-{
-    for second in 0..count {
-        for first in 0..second {
-            let pair = [
-                sits(first, hole, holes, true),
-                sits(second, hole, holes, true),
-            ];
-            push(cnf, &pair)?;
+/// The values of three variables that satisfy a list, each value as a sign.
+fn satisfying(alloc: Global, cnf: &Cnf) -> Result<String> {
+    let mut told = String::new(alloc);
+    for values in VALUES {
+        let assignment = Assignment::new(Vec::from_slice(alloc, &values)?);
+        if is_satisfied(cnf, &assignment) {
+            push_signs(&mut told, values)?;
         }
+    }
+    Ok(told)
+}
+
+/// Whether an assignment has as many values as the list has variables, and satisfies it.
+pub(crate) fn is_satisfied(cnf: &Cnf, assignment: &Assignment) -> bool {
+    cnf.vars() as usize == assignment.vars() && satisfies(cnf, assignment)
+}
+
+/// Adds a sign for each value, and blanks between those of several assignments.
+fn push_signs(told: &mut String, values: [bool; 3]) -> Result<(), AllocError> {
+    if !told.is_empty() {
+        told.push(' ')?;
+    }
+    for value in values {
+        told.push(if value { '+' } else { '-' })?;
     }
     Ok(())
-}
-
-/// The next number of a pseudo-random sequence.
-pub(crate) fn next(seed: &mut u64) -> u32 {
-    *seed = seed
-        .wrapping_mul(6_364_136_223_846_793_005)
-        .wrapping_add(1_442_695_040_888_963_407);
-    (*seed >> 33) as u32
-}
-
-/// A list of clauses with up to three literals each.
-pub(crate) fn random(alloc: Global, seed: &mut u64, variables: u32, clauses: u32) -> Result<Cnf> {
-    let mut cnf = empty(alloc, variables)?;
-    for _ in 0..clauses {
-        push(&mut cnf, chance_clause(alloc, seed, variables)?.as_slice())?;
-    }
-    Ok(cnf)
-}
-
-/// A clause with up to three literals.
-fn chance_clause(alloc: Global, seed: &mut u64, variables: u32) -> Result<Vec<Lit>> {
-    if variables < 3 || variables > 12 {
-        bail!("so many variables won't do");
-    }
-    let third = 2 + next(seed) % (variables - 2);
-    let second = 1 + next(seed) % (third - 1);
-    let first = next(seed) % second;
-    let mut clause = Vec::new(alloc);
-    for variable in [first, second, third] {
-        let chance = next(seed) % 16;
-        if chance < 15 {
-            clause.push(Lit::new(variable + 1, chance % 2 == 1))?;
-        }
-    }
-    Ok(clause)
 }

@@ -1,6 +1,6 @@
 //! The answers to a refutation's text.
 use crate::lists::read;
-use anyhow::{Context, Result, bail};
+use anyhow::{Result, bail};
 use cnf_core::Cnf;
 use refute_check::{
     CheckFault, Checked, Checker, LINES, RefutationFault, RefutationText, Taken, check,
@@ -9,25 +9,40 @@ use refute_check::{
 use std::alloc::{AllocError, Global};
 use std::mem::drop;
 use test_table::answers::Answers;
+use test_table::given::Given;
 
 /// The answer to a text that is read line by line, from pieces of this size.
 fn answer(alloc: Global, cnf: &Cnf, text: &[u8], piece: usize) -> Result<String> {
-    if piece == 0 {
-        bail!("pieces of no bytes");
-    }
     let mut checker = Checker::new(alloc, cnf)?;
     let mut reader = RefutationText::new(alloc);
-    for part in text.chunks(piece) {
-        take(&mut reader, &mut checker, part)?;
-    }
+    let taken = take_all(&mut reader, &mut checker, text, piece);
     let text = match reader.finish() {
         Err(line) => format!(in alloc; "form {line}"),
         Ok(()) => verdict(alloc, checker.verdict()),
     };
+    drop(reader);
+    drop(checker);
+    taken?;
     Ok(text?)
 }
 
-/// Reads a piece of a text.
+/// Reads a text in pieces.
+fn take_all(
+    reader: &mut RefutationText,
+    checker: &mut Checker,
+    text: &[u8],
+    piece: usize,
+) -> Result<()> {
+    if piece == 0 {
+        bail!("pieces of no bytes");
+    }
+    for part in text.chunks(piece) {
+        take(reader, checker, part)?;
+    }
+    Ok(())
+}
+
+/// Reads a piece of a text, and has the checker look at the lines.
 fn take(reader: &mut RefutationText, checker: &mut Checker, part: &[u8]) -> Result<()> {
     let mut rest = part;
     for _ in 0..part.len() {
@@ -36,18 +51,12 @@ fn take(reader: &mut RefutationText, checker: &mut Checker, part: &[u8]) -> Resu
             break;
         }
         rest = &rest[count..];
-        add(checker, &taken)?;
-    }
-    Ok(())
-}
-
-/// Has the checker look at a line, if one was taken.
-fn add(checker: &mut Checker, taken: &Taken) -> Result<()> {
-    if let Taken::Line(line) = taken {
-        if checker.line() > LINES {
-            bail!("too many lines");
+        if let Taken::Line(line) = &taken {
+            if checker.line() > LINES {
+                bail!("too many lines");
+            }
+            let _ = checker.add(line);
         }
-        let _ = checker.add(line);
     }
     Ok(())
 }
@@ -85,44 +94,36 @@ fn same(alloc: Global, cnf: &Cnf, text: &[u8]) -> Result<String> {
         [1000, 4096, 65_536]
     };
     for piece in sizes {
-        compare(
-            answer(alloc, cnf, text, piece)?.as_str(),
-            want.as_str(),
-            piece,
-        )?;
+        if answer(alloc, cnf, text, piece)? != want {
+            bail!("another answer in pieces of {piece}");
+        }
     }
     Ok(want)
 }
 
-/// Refuses an answer in pieces of this size that isn't the one to the whole.
-fn compare(got: &str, want: &str, piece: usize) -> Result<()> {
-    if got != want {
-        bail!("{got} in pieces of {piece}, and {want}");
-    }
-    Ok(())
-}
-
-/// The clauses of a row, and the text.
-fn parts_of(alloc: Global, given: &str) -> Result<(Cnf, &str)> {
-    let (variables, rest) = given.split_once(" : ").context("no clauses")?;
-    let (literals, text) = rest.split_once(" : ").context("no text")?;
-    Ok((read(alloc, variables.parse()?, literals)?, text))
-}
-
-pub(crate) fn check_row(alloc: Global, given: &str) -> Result<String> {
-    let (cnf, text) = parts_of(alloc, given)?;
-    same(alloc, &cnf, text.as_bytes())
+pub(crate) fn check_row(alloc: Global, given: &mut Given) -> Result<String> {
+    let cnf = read(alloc, given)?;
+    let told = same(alloc, &cnf, given.rest().as_bytes());
+    drop(cnf);
+    told
 }
 
 /// The answers to each beginning of a text.
-pub(crate) fn cut_check(alloc: Global, given: &str) -> Result<String> {
-    let (cnf, text) = parts_of(alloc, given)?;
-    let text = text.as_bytes();
+pub(crate) fn cut_check(alloc: Global, given: &mut Given) -> Result<String> {
+    let cnf = read(alloc, given)?;
     let mut answers = Answers::new(alloc);
+    let checked = check_cut(alloc, &cnf, given.rest().as_bytes(), &mut answers);
+    drop(cnf);
+    let told = answers.told(alloc);
+    checked?;
+    Ok(told?)
+}
+
+fn check_cut(alloc: Global, cnf: &Cnf, text: &[u8], answers: &mut Answers) -> Result<()> {
     for len in 0..text.len() {
-        answers.push(same(alloc, &cnf, &text[..len])?)?;
+        answers.push(same(alloc, cnf, &text[..len])?)?;
     }
-    Ok(answers.told(alloc)?)
+    Ok(())
 }
 
 fn taken_text(taken: &Taken) -> &'static str {
@@ -136,9 +137,25 @@ fn taken_text(taken: &Taken) -> &'static str {
 
 /// The number of bytes that each call takes of the rest of a text, until one takes none, and the
 /// lines.
-pub(crate) fn takes(alloc: Global, text: &[u8]) -> Result<String> {
+pub(crate) fn takes(alloc: Global, given: &mut Given) -> Result<String> {
     let mut reader = RefutationText::new(alloc);
     let mut told = String::new(alloc);
+    let taken = push_takes(&mut reader, given.rest().as_bytes(), &mut told);
+    let finish = reader.finish();
+    drop(reader);
+    taken?;
+    match finish {
+        Ok(()) => told.push_str("whole"),
+        Err(line) => write!(told, "form {line}"),
+    }?;
+    Ok(told)
+}
+
+fn push_takes(
+    reader: &mut RefutationText,
+    text: &[u8],
+    told: &mut String,
+) -> Result<(), AllocError> {
     let mut rest = text;
     for _ in 0..text.len() {
         let (count, taken) = reader.take(rest)?;
@@ -148,9 +165,5 @@ pub(crate) fn takes(alloc: Global, text: &[u8]) -> Result<String> {
         }
         rest = &rest[count..];
     }
-    match reader.finish() {
-        Ok(()) => told.push_str("whole"),
-        Err(line) => write!(told, "form {line}"),
-    }?;
-    Ok(told)
+    Ok(())
 }

@@ -1,7 +1,5 @@
 //! A short summary of the answers to one part after another of something long.
-use anyhow::Result;
-use std::alloc::Global;
-use std::fmt::Write;
+use std::alloc::{AllocError, Global};
 
 /// Answers; equal ones in a row are counted.
 #[derive(Drop)]
@@ -22,8 +20,8 @@ impl Answers {
     }
 
     /// Adds an answer.
-    pub fn push(&mut self, answer: String) -> Result<()> {
-        if self.count == 0 || answer != self.last {
+    pub fn push(&mut self, answer: String) -> Result<(), AllocError> {
+        if answer != self.last {
             self.flush()?;
             self.last = answer;
         }
@@ -31,17 +29,18 @@ impl Answers {
         Ok(())
     }
 
-    fn flush(&mut self) -> Result<()> {
-        if self.count > 0 {
-            write!(self.text, "{} x {}; ", self.count, self.last)?;
-        }
+    fn flush(&mut self) -> Result<(), AllocError> {
+        let count = self.count;
         self.count = 0;
-        Ok(())
+        if count == 0 {
+            return Ok(());
+        }
+        write!(self.text, "{count} x {}; ", self.last)
     }
 
     /// The summary of all answers.
-    pub fn told(mut self, alloc: Global) -> Result<String> {
+    pub fn told(mut self, alloc: Global) -> Result<String, AllocError> {
         self.flush()?;
-        Ok(String::from_str(alloc, self.text.trim_end())?)
+        String::from_str(alloc, self.text.trim_end())
     }
 }

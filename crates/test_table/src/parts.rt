@@ -7,111 +7,134 @@
 //!
 //! A line that is empty or begins with `#` is skipped. The report has the number of rows that pass
 //! for each group, and for each failing row what came and what must come.
+use crate::fault::told;
 use crate::text::bytes_of;
 use crate::{chosen, halves};
 use anyhow::{Context, Result};
-use std::alloc::Global;
+use std::alloc::{AllocError, Global};
 use std::env::Env;
 
 /// Tries the parts.
 pub trait Parts {
     /// The answer of a part.
-    fn answer(alloc: Global, part: &str, given: &[u8]) -> Result<String>;
+    fn answer(&self, alloc: Global, part: &str, given: &[u8]) -> Result<String>;
 }
 
-/// A row: what is tried, and what must come.
+/// The group and the row that were read last.
 #[derive(Drop)]
-struct Row {
+struct Table {
+    /// Only the groups and rows that contain it are tried.
+    word: String,
+    group: String,
+    /// How many rows of the group pass.
+    right: u32,
+    /// The row, empty once it was tried.
     line: String,
     want: String,
 }
 
-/// Rows under one name.
-#[derive(Drop)]
-struct Group {
-    name: String,
-    rows: Vec<Row>,
-}
-
-/// Reads the next line.
-fn take(alloc: Global, groups: &mut Vec<Group>, line: &str) -> Result<()> {
-    if line.is_empty() || line.starts_with('#') {
-        return Ok(());
-    }
-    if let Some(name) = line.strip_prefix("group ") {
-        groups.push(Group {
-            name: String::from_str(alloc, name)?,
-            rows: Vec::new(alloc),
-        })?;
-        return Ok(());
-    }
-    let group = groups.last_mut().context("a row before the first group")?;
-    if let Some(more) = line.strip_prefix(' ') {
-        let row = group.rows.last_mut().context("no row")?;
-        row.want.push_str("\\n")?;
-        row.want.push_str(more)?;
-        return Ok(());
-    }
-    let (line, want) = line.split_once(" => ").context("nothing is wanted")?;
-    group.rows.push(Row {
-        line: String::from_str(alloc, line)?,
-        want: String::from_str(alloc, want)?,
-    })?;
-    Ok(())
-}
-
-impl Row {
-    fn has(&self, word: &str) -> bool {
-        self.line.contains(word)
-    }
-
-    /// What came, if it isn't what must come.
-    fn otherwise<P: Parts>(&self, alloc: Global) -> Result<Option<String>> {
-        let (part, given) = halves(self.line.as_str());
-        let given = bytes_of(alloc, given)?;
-        let came = P::answer(alloc, part, given.as_slice())?;
-        let want = bytes_of(alloc, self.want.as_str())?;
-        Ok(if came.as_bytes() == want.as_slice() {
-            None
-        } else {
-            Some(came)
-        })
-    }
-}
-
-/// Tries the rows of a group that contain the word, and prints the results.
-fn try_group<P: Parts>(rt: &(impl Print + AllocGlobal), group: &Group, word: &str) -> Result<()> {
-    let mut right = 0u32;
-    let all = group.name.contains(word);
-    for row in &group.rows {
-        if !all && !row.has(word) {
-            continue;
+impl Table {
+    /// Tries the row that ends before a line, and reads the line.
+    fn take<P: Parts>(
+        &mut self,
+        rt: &(impl Print + AllocGlobal),
+        parts: &P,
+        line: &str,
+    ) -> Result<()> {
+        if line.is_empty() || line.starts_with('#') {
+            return Ok(());
         }
-        match row
-            .otherwise::<P>(rt.alloc())
-            .context(format_args!("{}", row.line))?
-        {
-            None => right = right.saturating_add(1),
-            Some(came) => println!(rt; "{} => {}\nbut {came}", row.line, row.want)?,
+        if !line.starts_with(' ') {
+            self.try_row(rt, parts)?;
         }
+        if line.starts_with("group ") {
+            self.tell(rt)?;
+        }
+        Ok(self.read(line)?)
     }
-    if right > 0 {
-        println!(rt; "{}: {right} ok", group.name)?;
+
+    fn read(&mut self, line: &str) -> Result<(), AllocError> {
+        if let Some(more) = line.strip_prefix(' ') {
+            self.want.push_str("\\n")?;
+            return self.want.push_str(more);
+        }
+        if let Some(name) = line.strip_prefix("group ") {
+            self.right = 0;
+            self.group.clear();
+            return self.group.push_str(name);
+        }
+        let (line, want) = line.split_once(" => ").unwrap_or((line, ""));
+        self.line.push_str(line)?;
+        self.want.push_str(want)
     }
-    Ok(())
+
+    /// Prints how many rows of the group pass.
+    fn tell(&self, rt: &impl Print) -> Result<()> {
+        if self.right > 0 {
+            println!(rt; "{}: {} ok", self.group, self.right)?;
+        }
+        Ok(())
+    }
+
+    /// Whether the row is there and is to be tried.
+    fn is_chosen(&self) -> bool {
+        let word = self.word.as_str();
+        let is_there = !self.line.is_empty() || !self.want.is_empty();
+        is_there && (self.group.contains(word) || self.line.contains(word))
+    }
+
+    /// Tries the row, and prints what comes if it must not.
+    fn try_row<P: Parts>(&mut self, rt: &(impl Print + AllocGlobal), parts: &P) -> Result<()> {
+        if self.is_chosen() {
+            let came = came(rt.alloc(), parts, self.line.as_str(), self.want.as_str());
+            match came.context(format_args!("{}", self.line))? {
+                None => self.right = self.right.saturating_add(1),
+                Some(came) => println!(rt; "{} => {}\nbut {came}", self.line, self.want)?,
+            }
+        }
+        self.line.clear();
+        self.want.clear();
+        Ok(())
+    }
+}
+
+/// What comes of a row, if it isn't what must come.
+fn came<P: Parts>(alloc: Global, parts: &P, line: &str, want: &str) -> Result<Option<String>> {
+    let (part, given) = halves(line);
+    let want = told(bytes_of(alloc, want))?;
+    let given = told(bytes_of(alloc, given))?;
+    let came = parts.answer(alloc, part, given.as_slice())?;
+    let is_right = came.as_bytes() == want.as_slice();
+    Ok(if is_right { None } else { Some(came) })
 }
 
 /// Tries the rows of the table in standard input.
-pub fn try_rows<P: Parts>(rt: &(impl Input + Print + Env + AllocGlobal)) -> Result<()> {
-    let mut groups = Vec::new(rt.alloc());
+pub fn try_rows<P: Parts>(rt: &(impl Input + Print + Env + AllocGlobal), parts: &P) -> Result<()> {
+    let mut table = Table {
+        word: chosen(rt)?,
+        group: String::new(rt.alloc()),
+        right: 0,
+        line: String::new(rt.alloc()),
+        want: String::new(rt.alloc()),
+    };
+    let tried = try_lines(rt, parts, &mut table);
+    drop(table);
+    tried
+}
+
+/// Tries all lines.
+fn try_lines<P: Parts>(
+    rt: &(impl Input + Print + AllocGlobal),
+    parts: &P,
+    table: &mut Table,
+) -> Result<()> {
     let mut number = 0u64;
     for line in rt.lines(rt.alloc()) {
         number = number.saturating_add(1);
-        take(rt.alloc(), &mut groups, line?.as_str()).context(format_args!("line {number}"))?;
+        table
+            .take(rt, parts, line?.as_str())
+            .context(format_args!("line {number}"))?;
     }
-    let word = chosen(rt)?.unwrap_or(String::new(rt.alloc()));
-    for group in &groups {
-        try_group::<P>(rt, group, word.as_str())?;
-    }
-    Ok(())
+    table.try_row(rt, parts)?;
+    table.tell(rt)
 }

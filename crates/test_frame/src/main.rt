@@ -1,5 +1,6 @@
 //! Rows of two commands over the frame: one joins two files in both orders, and so has two inputs,
-//! two outputs, a result and a refusal; the other reads its last input in pieces.
+//! two outputs, a result and a refusal; the other reads its last input in pieces. `test_table`
+//! defines the format of a table.
 #![tactic(auto)]
 
 ghost use Rattle.std.specs.Prelude.{◌≡◌, ◌++◌, IfOk};
@@ -13,6 +14,7 @@ use command_frame::{Command, Keep, Limit, Status, Whole, Work, run};
 pub use glue::{Glue, Glued, glue_files};
 use std::alloc::{AllocError, Global};
 use tc_io::{Shelf, Sink};
+use test_table::runs;
 
 /// The command: the names of its inputs and outputs.
 #[derive(Drop)]
@@ -136,5 +138,25 @@ impl<'a> Work for Join<'a> {
     }
 }
 
-#[cfg(test)]
-mod tests;
+/// The command of some words. Its status is 2 if there is none.
+fn call<H: Shelf, K: Sink>(alloc: Global, words: &[String], shelf: &mut H, sink: &mut K) -> u8 {
+    let (first, second) = match words {
+        [_, first, second, ..] => (first.as_str(), second.as_str()),
+        _ => return 2,
+    };
+    match words {
+        [_, _, _] => glue_files(alloc, first, second, shelf, sink),
+        [_, _, _, out, back] => {
+            let outputs = (out.as_str(), back.as_str());
+            join_files(alloc, (first, second), outputs, shelf, sink)
+        }
+        _ => 2,
+    }
+}
+
+fn main(rt: HostRuntime) -> anyhow::Result<()> {
+    runs::run(
+        &rt,
+        |alloc, words, shelf, sink| call(alloc, words, shelf, sink),
+    )
+}
