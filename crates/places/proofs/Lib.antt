@@ -1,0 +1,9 @@
+pub mod Keys
+pub mod Around
+pub mod Last
+pub mod Adding
+pub mod Inserting
+pub mod Search
+pub mod Finding
+pub mod Rise
+pub mod Along
