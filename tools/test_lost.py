@@ -288,6 +288,11 @@ exit 10
 """
 
 
+def setUpModule() -> None:
+    """A shell has a job in the background ignore this signal, and so do all that the job starts."""
+    signal.signal(signal.SIGINT, signal.default_int_handler)
+
+
 class Fewest(Room):
     """What `tools/fewest` keeps, and when."""
 

@@ -78,9 +78,9 @@ fn name_of(alloc: Global, children: &str) -> Result<ThreadName> {
 /// The text of a copy of a name, and the numbers of its children.
 pub(crate) fn name(alloc: Global, given: &mut Given) -> Result<String> {
     let name = name_of(alloc, given.rest())?;
-    let copy = name.clone();
+    let copy = name.clone()?;
     drop(name);
-    let text = name_text(alloc, &copy?);
+    let text = name_text(alloc, &copy);
     Ok(text?)
 }
 
