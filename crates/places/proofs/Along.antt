@@ -1,21 +1,21 @@
 -- The places along a thread's path.
-use Rattle.std.proofs.Common.{◌≡◌, ◌≢◌, ◌∙◌, ◌⊎◌, inl, inr, ℕ, zero, suc, ◌+◌, ◌-◌, ◌<◌, ◌≤◌, ℤ, List, [], ◌∷◌, ◌++◌, Bool, true, false, Option, Some, None, slice_get, length, refl, ap, sym, subst, arith}
+use Rattle.std.proofs.Common.{◌≡◌, ◌∙◌, inl, inr, ℕ, ◌+◌, ◌-◌, ℤ, List, [], ◌∷◌, Bool, true, false, Some, slice_get, length, refl, ap, sym, subst, arith}
 use Rattle.std.specs.List.{Contains, list_any}
 use Rattle.std.proofs.lemmas.Bool.{cases_Bool, cases_lt, false≢true}
-use Rattle.std.proofs.lemmas.Option.{none-some, same_Some, slice_get_within}
+use Rattle.std.proofs.lemmas.Option.{same_Some, slice_get_within}
 use Rattle.tc_code.specs.Code.{Code}
-use Rattle.tc_code.specs.Lawful.{IsLawfulFunction, target}
+use Rattle.tc_code.specs.Lawful.{IsLawfulFunction}
 use Rattle.tc_code.specs.Step.{local_after, step_by_branch, is_nonzero, value_in}
 use Rattle.tc_code.specs.declared.code.Func.{Func}
 use Rattle.tc_code.specs.declared.instr.Instr.{Instr}
-use Rattle.tc_code.specs.declared.instr.Instr.TheVariants.{Set, Load, Store, Inside, Branch, Goto, Holds, Lock, Unlock, Sleep, Wake, Signal, Broadcast, Create, Ready, Join, Assert, Nonzero, InRange, Modify, Fence, Stbar, Exit}
+use Rattle.tc_code.specs.declared.instr.Instr.TheVariants.{Branch, Exit}
 use Rattle.tc_code.specs.run_log.tc_base.States.{Local}
 use Rattle.tc_compile.specs.Programs.{IsCodeOf}
 use Rattle.tc_compile.proofs.Lawful.{code_is_lawful}
 use Rattle.code_loops.specs.Loops.{LoopsNest}
 use Rattle.code_loops.proofs.Programs.{program_nests}
-use Rattle.places.specs.Places.{Place, Follow, HasPlaces, IsReached, MayLead, first_place, is_cut, place_after, places_along, reached_by, successors}
-use Rattle.places.proofs.Inserting.{here, there, split, none}
+use Rattle.places.specs.Places.{Place, Follow, HasPlaces, IsReached, MayLead, is_cut, place_after, places_along, successors}
+use Rattle.places.proofs.Inserting.{split, none}
 use Rattle.places.proofs.Rise.{leads_of}
 use Rattle.places.proofs.Search.{enter, is_listed}
 

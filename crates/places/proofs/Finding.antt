@@ -1,14 +1,13 @@
 -- The first place, the last ones, and places by the last jumps.
-use Rattle.std.proofs.Common.{◌≡◌, ◌∙◌, ◌⊎◌, inl, inr, ℕ, zero, suc, ◌+◌, ◌<◌, ◌≤◌, List, [], ◌∷◌, ◌++◌, map, filter, Bool, true, false, Option, Some, None, option_and_then, slice_get, refl, ap, sym, subst, arith, length, length-append, Vec, slice_index_or}
+use Rattle.std.proofs.Common.{◌≡◌, ◌∙◌, inl, inr, ℕ, zero, suc, ◌+◌, ◌<◌, ◌≤◌, List, [], ◌∷◌, ◌++◌, map, filter, Option, Some, None, option_and_then, slice_get, refl, ap, sym, subst, arith, length, length-append, Vec, slice_index_or}
 use Rattle.std.specs.Global.{Global}
 use Rattle.std.specs.List.{Contains, range_with_len}
 use Rattle.std.proofs.lemmas.Bool.{cases_Bool}
 use Rattle.std.proofs.lemmas.List.Elements.{Contains-push_cases}
 use Rattle.std.proofs.lemmas.Option.{none-some, same_Some, slice_get-get_or, get_or_from_slice_get}
 use Rattle.tc_code.specs.declared.instr.Instr.{Instr}
-use Rattle.places.specs.declared.place.Round.{Round}
-use Rattle.places.specs.Places.{Place, key, is_around, loops_around, place_at, place_after, first_place, round_in, round_after, successors, enters, reached_by, HasPlaces, IsReached, AreReached, AreMore}
-use Rattle.places.specs.helpers.Jumps.{AreLastJumps, is_around_by, around_by, place_by}
+use Rattle.places.specs.Places.{Place, key, is_around, place_at, first_place, round_in, successors, enters, reached_by, HasPlaces, IsReached, AreReached, AreMore}
+use Rattle.places.specs.helpers.Jumps.{AreLastJumps, is_around_by, place_by}
 use Rattle.places.specs.helpers.Waiting.{Waiting, Adds, AddsAll}
 use Rattle.places.proofs.Inserting.{Entry, here, there, split, none}
 use Rattle.places.proofs.Search.{Found, Goes, entered, good, limited, listed_in, rise_more}

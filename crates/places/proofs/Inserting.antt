@@ -1,15 +1,13 @@
 -- What waits after a place was added.
-use Rattle.std.proofs.Common.{◌≡◌, ◌∙◌, ◌⊎◌, inl, inr, ℕ, zero, suc, ◌+◌, ◌<◌, List, [], ◌∷◌, ◌++◌, drop, Bool, true, false, Ordering, Less, Equal, Greater, refl, ap, sym, subst, arith, length, Vec, slice_index_or}
+use Rattle.std.proofs.Common.{◌≡◌, ◌∙◌, ◌⊎◌, inl, inr, ℕ, zero, suc, List, [], ◌∷◌, ◌++◌, drop, Ordering, Less, Equal, Greater, refl, ap, sym, arith, length, Vec, slice_index_or}
 use Rattle.std.specs.Global.{Global}
 use Rattle.std.specs.List.{Contains, flat_map}
 use Rattle.std.specs.BTreeMap.{insert_entry}
-use Rattle.std.specs.Cmp.Lexicographic.{slice_cmp}
-use Rattle.std.specs.Ordering.{nat_cmp, match_ordering}
-use Rattle.std.proofs.lemmas.Bool.{cases_Bool, false≢true}
+use Rattle.std.specs.Ordering.{match_ordering}
 use Rattle.std.proofs.lemmas.Map.Lookups.{exact_bytes}
 use Rattle.places.specs.declared.place.Round.{Round}
-use Rattle.places.specs.Places.{Place, key, is_cut}
-use Rattle.places.specs.helpers.Waiting.{Waiting, by_items, Adds, AddsAll}
+use Rattle.places.specs.Places.{Place, key}
+use Rattle.places.specs.helpers.Waiting.{Waiting, by_items}
 
 abbrev pub Entry : Type 0
 Entry = Vec ℕ Global × Place

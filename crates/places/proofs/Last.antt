@@ -1,5 +1,5 @@
 -- The last jump to a loop's first instruction.
-use Rattle.std.proofs.Common.{◌≡◌, ◌∙◌, ◌⊎◌, inl, inr, ℕ, zero, suc, ◌+◌, ◌<◌, ◌≤◌, List, [], ◌∷◌, ◌++◌, cond, take, drop, Bool, true, false, ◌&&◌, ◌||◌, nat_le, Option, Some, None, refl, ap, sym, subst, arith, slice_get, add-one}
+use Rattle.std.proofs.Common.{◌≡◌, ◌∙◌, inl, inr, ℕ, zero, suc, ◌+◌, ◌<◌, List, [], ◌∷◌, ◌++◌, cond, take, Bool, true, false, ◌&&◌, ◌||◌, nat_le, Option, Some, None, refl, ap, sym, arith, slice_get, add-one}
 use Rattle.std.proofs.lemmas.Bool.{cases_Bool, le-leb, leb-true, leb-false, lt-leb}
 use Rattle.std.proofs.Math.Bool.{and-true, and-false, or-false}
 use Rattle.std.proofs.lemmas.Option.{none-some, same_Some}
@@ -39,7 +39,7 @@ around_more (j ∷ is) (suc n) zero first i there =
     let rest : is_around (take (suc n) is) zero first ≡ (is_around (take n is) zero first || jumps_to first i) =
     around_more is n zero first i there ∙ rw (le-leb 0 n (omega arith)) refl in
     let whole : (jumps_to first j || is_around (take (suc n) is) zero first)
-        ≡ ((jumps_to first j || is_around (take n is) zero first) || (nat_le 0 (suc n) && jumps_to first i)) =
+    ≡ ((jumps_to first j || is_around (take n is) zero first) || (nat_le 0 (suc n) && jumps_to first i)) =
     rw (le-leb 0 (suc n) (omega arith))
     (ap (λ b. jumps_to first j || b) rest ∙ or_assoc (jumps_to first j) (is_around (take n is) zero first) (jumps_to first i)) in
     whole

@@ -1,5 +1,5 @@
 -- The place after a step is later.
-use Rattle.std.proofs.Common.{◌≡◌, ◌∙◌, ◌⊎◌, inl, inr, ℕ, zero, suc, ◌+◌, ◌<◌, ◌≤◌, List, [], ◌∷◌, ◌++◌, map, Bool, true, false, ◌==◌, ◌&&◌, ◌||◌, nat_le, Option, Some, None, refl, ap, sym, subst, arith, slice_get, filter, if◌then◌else◌}
+use Rattle.std.proofs.Common.{◌≡◌, ◌∙◌, ◌⊎◌, inl, inr, ℕ, zero, suc, ◌+◌, ◌<◌, ◌≤◌, List, [], ◌∷◌, ◌++◌, map, Bool, true, false, ◌==◌, Option, Some, None, refl, ap, sym, subst, arith, slice_get, filter, if◌then◌else◌}
 use Rattle.std.proofs.lemmas.Bool.{cases_Bool, cases_lt, eqb-true, eq-eqb, le-leb, false≢true}
 use Rattle.std.specs.List.{Contains, find, flat_map, list_any, range_with_len}
 use Rattle.places.proofs.Inserting.{split, none}
@@ -13,7 +13,7 @@ use Rattle.code_loops.proofs.Nesting.{inside_or_apart}
 use Rattle.places.specs.Places.{Place, is_around, loops_around, round_in, round_after, place_at, place_after, places_along, key, IsEarlier, Follow, goes_on, successors}
 use Rattle.places.specs.declared.place.Round.{Round}
 use Rattle.places.proofs.Keys.{keyed, ahead, again}
-use Rattle.places.proofs.Around.{Closes, closed, around}
+use Rattle.places.proofs.Around.{closed, around}
 
 -- two numbers that differ
 differ : (a b : ℕ) → a < b → (b == a) ≡ false

@@ -1,22 +1,21 @@
 -- What is known while the places of a function are found.
-use Rattle.std.proofs.Common.{◌≡◌, ◌≢◌, ◌∙◌, ◌⊎◌, inl, inr, ℕ, zero, suc, ◌+◌, ◌<◌, ◌≤◌, ◌^◌, ◌==◌, ◌&&◌, ◌||◌, not, List, [], ◌∷◌, ◌++◌, map, Bool, true, false, Option, Some, None, option_and_then, slice_get, refl, ap, sym, subst, arith, length, Vec, slice_index_or, if◌then◌else◌, nat_lt}
+use Rattle.std.proofs.Common.{◌≡◌, ◌∙◌, ◌⊎◌, inl, inr, ℕ, ◌≤◌, ◌==◌, ◌&&◌, not, List, [], ◌∷◌, ◌++◌, map, true, false, Option, Some, None, option_and_then, slice_get, refl, ap, sym, subst, arith, Vec, slice_index_or, if◌then◌else◌, nat_lt}
 use Rattle.std.specs.Global.{Global}
-use Rattle.std.specs.List.{All, Contains, find, list_any}
+use Rattle.std.specs.List.{Contains, find, list_any}
 use Rattle.std.specs.Option.{option_map_or}
 use Rattle.std.proofs.lemmas.Bool.{cases_Bool, false≢true, eq-eqb, eqb-true, ltb-false, le-ltb}
 use Rattle.std.proofs.lemmas.Cmp.{nat_list_cmp_total}
 use Rattle.std.proofs.lemmas.List.Elements.{Contains-push, Contains-append_left, Contains-push_cases}
 use Rattle.std.proofs.lemmas.Option.{none-some, same_Some}
-use Rattle.tc_code.specs.Lawful.{target}
 use Rattle.tc_code.specs.declared.instr.Instr.{Instr}
 use Rattle.places.specs.declared.place.Round.{Round}
 use Rattle.code_loops.specs.Loops.{LoopsNest}
-use Rattle.places.specs.Places.{Place, key, is_cut, place_at, place_after, first_place, round_in, round_after, loops_around, successors, enters, reached_by, IsReached, IsEarlier, Rise, goes_on}
+use Rattle.places.specs.Places.{Place, key, is_cut, place_at, place_after, first_place, round_after, loops_around, successors, enters, reached_by, IsReached, IsEarlier, Rise}
 use Rattle.std.proofs.Common.{Less}
 use Rattle.std.specs.Cmp.Lexicographic.{slice_cmp}
 use Rattle.std.specs.Ordering.{nat_cmp}
 use Rattle.places.specs.helpers.Waiting.{Waiting, by_items, Adds, AddsAll}
-use Rattle.places.proofs.Inserting.{Entry, IsKeyed, here, there, split, none, origin, added, stays, after}
+use Rattle.places.proofs.Inserting.{Entry, IsKeyed, here, there, split, none, origin, added, stays}
 use Rattle.places.proofs.Rise.{rises, leads_of}
 
 -- ---- one place is added, and then several
@@ -176,9 +175,10 @@ is_listed (y ∷ ys) x c = elim (split y x ys c) [
 
 pub rise_more : (ps : List Place) (p : Place) → Rise ps → ((q : Place) → Contains ps q → IsEarlier q p) → Rise (ps ++ p ∷ [])
 rise_more [] p r before = ((λ q c. absurd (none q c)), tt)
-rise_more (q ∷ qs) p r before =
-    ((λ x c. elim (Contains-push_cases qs p x c) [ inl old ↦ r.0 x old | inr same ↦ subst (IsEarlier q) same (before q (here q q qs refl)) ]),
-    rise_more qs p r.1 (λ x c. before x (there q x qs c)))
+rise_more (q ∷ qs) p r before = (
+  (λ x c. elim (Contains-push_cases qs p x c) [ inl old ↦ r.0 x old | inr same ↦ subst (IsEarlier q) same (before q (here q q qs refl)) ]),
+  rise_more qs p r.1 (λ x c. before x (there q x qs c)),
+)
 
 module _ (is : List Instr) (limits : List ℕ) (nest : LoopsNest is) (ps : List Place) (k : Vec ℕ Global) (p : Place) (w new : Waiting) (i : Instr)
     (goes : Goes is limits ps ((k, p) ∷ w)) (behind : (e : Entry) → Contains w e → by_items k e.0 ≡ Less) (at : slice_get is p.instruction ≡ Some i)

@@ -1,5 +1,5 @@
 -- Places of a function: an instruction, and a round for each loop around it.
-use Rattle.std.specs.Prelude.{◌≡◌, ℕ, ◌+◌, ◌<◌, ◌≤◌, Option, Some, None, slice_get, slice_index_or, option_and_then, length, nat_lt, not, List, [], ◌∷◌, ◌++◌, map, drop, Bool, true, false, ◌&&◌, ◌==◌, nat_le, if◌then◌else◌}
+use Rattle.std.specs.Prelude.{◌≡◌, ℕ, ◌+◌, ◌<◌, Option, Some, None, slice_get, slice_index_or, option_and_then, length, nat_lt, not, List, [], ◌∷◌, ◌++◌, map, drop, Bool, true, false, ◌&&◌, ◌==◌, nat_le, if◌then◌else◌}
 use Rattle.std.specs.List.{Contains, filter, find, flat_map, list_any, range_with_len}
 use Rattle.std.specs.Option.{option_map_or}
 use Rattle.std.specs.Ordering.{nat_cmp}
@@ -10,7 +10,6 @@ use Rattle.tc_code.specs.declared.instr.Instr.{Instr}
 use Rattle.tc_code.specs.declared.instr.Instr.TheVariants.{Goto, Exit}
 use Rattle.code_loops.specs.Loops.{LoopsNest}
 use Rattle.places.specs.declared.place.Round.{Round}
-
 
 pub record Place : Type 0 where
   pub instruction : ℕ

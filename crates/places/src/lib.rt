@@ -33,4 +33,3 @@ pub fn places_rise()
         → list_any (is_cut limits) (places_along is (first_place is) tos) ≡ false
         → Contains (places_along is (first_place is) tos) p → IsReached is limits p }
 {}
-

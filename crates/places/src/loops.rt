@@ -1,6 +1,5 @@
 //! Which loops are around an instruction.
 ghost use Rattle.std.specs.Prelude.{◌≡◌, ◌<◌, ◌-◌, ◌^◌, IfOk, IfSome};
-
 ghost use Rattle.tc_code.specs.declared.instr.Instr.{Instr};
 ghost use Rattle.tc_code.specs.Lawful.{target};
 ghost use Rattle.places.specs.Places.{jumps_to};

@@ -3,7 +3,6 @@ use Rattle.std.specs.Prelude.{◌≡◌, ℕ, ◌+◌, Bool, Some, slice_get, fa
 use Rattle.std.specs.List.{filter, range_with_len}
 use Rattle.std.specs.Option.{option_map_or}
 use Rattle.tc_code.specs.declared.instr.Instr.{Instr}
-use Rattle.places.specs.declared.place.Round.{Round}
 use Rattle.places.specs.Places.{Place, is_around}
 
 -- whether a loop is around an instruction is determined by the last jump to its first one

@@ -1,4 +1,3 @@
-use Rattle.std.proofs.Common.{◌≡◌, IfOk, nat_le, false, List, ℕ, ◌+◌, ◌-◌, ◌*◌, ◌<◌, ◌≤◌, length}
 use Rattle.places.proofs.Last.{IsLast}
 use Rattle.places.proofs.loops.last_jump.Given as goal
 

@@ -13,6 +13,6 @@ returns-in_ok-insert c =
       there = λ f. (
         c.in_ok-key.key,
         c.in_ok-key.ensures ∙ ap key same,
-        subst (λ q. c.insert.new.self.entries ≡ insert_entry by_items c.args.waiting.now.entries c.in_ok-key.key q) same c.in_ok-insert.ensures.entries
+        subst (λ q. c.insert.new.self.entries ≡ insert_entry by_items c.args.waiting.now.entries c.in_ok-key.key q) same c.in_ok-insert.ensures.entries,
       );
     }

@@ -1,7 +1,7 @@
-use Rattle.std.proofs.Common.{◌≡◌, ◌∙◌, ℕ, ◌+◌, subst, sym, true, false}
+use Rattle.std.proofs.Common.{◌∙◌, ℕ, ◌+◌, subst, sym}
 use Rattle.std.proofs.lemmas.Bool.{false≢true}
 use Rattle.std.proofs.lemmas.Result.{on_ok_weaker}
-use Rattle.places.specs.Places.{Place, goes_on, round_after}
+use Rattle.places.specs.Places.{goes_on, round_after}
 use Rattle.places.specs.helpers.Jumps.{place_by}
 use Rattle.places.specs.helpers.Waiting.{Adds}
 use Rattle.places.proofs.Adding.{adds_next}

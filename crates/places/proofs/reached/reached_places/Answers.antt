@@ -7,7 +7,7 @@ use Rattle.places.proofs.Adding.{adds_append}
 use Rattle.std.specs.BTreeMap.{insert_entry}
 use Rattle.std.specs.List.{Contains}
 use Rattle.tc_code.specs.declared.instr.Instr.{Instr}
-use Rattle.places.specs.Places.{Place, round_in, place_after, round_after, next, targets, successors, IsReached}
+use Rattle.places.specs.Places.{Place, round_in, place_after, round_after, next, targets, successors}
 use Rattle.places.specs.helpers.Jumps.{place_by}
 use Rattle.places.specs.helpers.Waiting.{Waiting, by_items, AddsAll}
 use Rattle.places.proofs.Inserting.{Entry, here}
@@ -26,10 +26,11 @@ loop-place-init c =
     let p = c.in_ok-first.first in
     let first = c.in_ok-first.ensures ∙ same_place is c.in_ok-loops.loops c.in_ok-loops.ensures 0 (λ a. 0) c.requires.some in
     let entries = c.in_ok-insert.ensures.entries ∙ ap (λ es. insert_entry by_items es k p) c.new-waiting.ensures.empty in
-    let none = c.new-places.ensures.items in
-    (omega (arith, ap length none),
-    subst (λ ps. Goes is c.args.limits.now ps c.insert.new.self.entries) (sym none)
-    (subst (Goes is c.args.limits.now []) (sym entries) (begins is c.args.limits.now k p c.in_ok-key.ensures first)))
+    let none = c.new-places.ensures.items in (
+      omega (arith, ap length none),
+      subst (λ ps. Goes is c.args.limits.now ps c.insert.new.self.entries) (sym none)
+          (subst (Goes is c.args.limits.now []) (sym entries) (begins is c.args.limits.now k p c.in_ok-key.ensures first)),
+    )
 
 pub returns-then-len-most : goal.returns-then-len-most
 returns-then-len-most c =
@@ -100,9 +101,10 @@ loop-place-preserved c =
     let behind : (e : Entry) → Contains w e → by_items k e.0 ≡ Less =
     λ e there. subst (λ x. by_items k x ≡ Less) (get_or-map (λ (x : Entry). x.0) w there.0 e ∙ ap (λ (x : Entry). x.0) there.2)
     (above there.0 e.0 (omega (arith, there.1, length-map w (λ (x : Entry). x.0)))) in
-    let items : c.push.new.self.items ≡ ps ++ p ∷ [] = c.in_ok-push.ensures.items in
-    (omega (arith, ap length items, length-append ps (p ∷ []), c.len.ensures, c.if-len-most.false, c.loop-place.places.ok, c.loop-place.invariant.0),
-    subst (λ xs. Goes is limits xs new) (sym items) (goes_further is limits c.requires.nest ps k p w new i goes behind at adds))
+    let items : c.push.new.self.items ≡ ps ++ p ∷ [] = c.in_ok-push.ensures.items in (
+      omega (arith, ap length items, length-append ps (p ∷ []), c.len.ensures, c.if-len-most.false, c.loop-place.places.ok, c.loop-place.invariant.0),
+      subst (λ xs. Goes is limits xs new) (sym items) (goes_further is limits c.requires.nest ps k p w new i goes behind at adds),
+    )
 
 pub returns : goal.returns
 returns c =

@@ -1,4 +1,4 @@
-use Rattle.std.proofs.Common.{◌≡◌, ◌∙◌, ◌∷◌, ◌++◌, [], sym, ap}
+use Rattle.std.proofs.Common.{◌∙◌, ◌∷◌, ◌++◌, [], sym, ap}
 use Rattle.places.specs.helpers.Jumps.{is_around_by}
 use Rattle.places.proofs.Last.{kept, left}
 use Rattle.places.proofs.loops.Loops.around.Goals as goal

@@ -1,5 +1,4 @@
 use Rattle.std.proofs.Common.{◌≡◌, map, take}
-use Rattle.places.specs.declared.place.Round.{Round}
 use Rattle.places.specs.Places.{round_after}
 use Rattle.places.proofs.place.Place.after.Given as goal
 

@@ -1,5 +1,4 @@
 use Rattle.std.proofs.Common.{◌≡◌, map, take}
-use Rattle.places.specs.declared.place.Round.{Round}
 use Rattle.places.proofs.place.Place.first.Given as goal
 
 abbrev pub invariant-loop-first : goal.invariant-loop-first
