@@ -12,8 +12,8 @@ use Rattle.tc_code.specs.declared.instr.Instr.TheVariants.{Branch, Exit}
 use Rattle.tc_code.specs.run_log.tc_base.States.{Local}
 use Rattle.tc_compile.specs.Programs.{IsCodeOf}
 use Rattle.tc_compile.proofs.Lawful.{code_is_lawful}
-use Rattle.code_loops.specs.Loops.{LoopsNest}
-use Rattle.code_loops.proofs.Programs.{program_nests}
+use Rattle.places.specs.code_loops.Loops.{LoopsNest}
+use Rattle.places.proofs.code_loops.Programs.{program_nests}
 use Rattle.places.specs.Places.{Place, Follow, HasPlaces, IsReached, MayLead, is_cut, place_after, places_along, successors}
 use Rattle.places.proofs.Inserting.{split, none}
 use Rattle.places.proofs.Rise.{leads_of}

@@ -8,8 +8,8 @@ use Rattle.tc_code.specs.Lawful.{target}
 use Rattle.tc_code.specs.declared.instr.Instr.{Instr}
 use Rattle.std.proofs.lemmas.Cmp.{nat_list_cmp_total}
 use Rattle.std.proofs.lemmas.Option.{none-some, same_Some}
-use Rattle.code_loops.specs.Loops.{IsLoop, LoopsNest}
-use Rattle.code_loops.proofs.Nesting.{inside_or_apart}
+use Rattle.places.specs.code_loops.Loops.{IsLoop, LoopsNest}
+use Rattle.places.proofs.code_loops.Nesting.{inside_or_apart}
 use Rattle.places.specs.Places.{Place, is_around, loops_around, round_in, round_after, place_at, place_after, places_along, key, IsEarlier, Follow, goes_on, successors}
 use Rattle.places.specs.declared.place.Round.{Round}
 use Rattle.places.proofs.Keys.{keyed, ahead, again}

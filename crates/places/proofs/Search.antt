@@ -9,7 +9,7 @@ use Rattle.std.proofs.lemmas.List.Elements.{Contains-push, Contains-append_left,
 use Rattle.std.proofs.lemmas.Option.{none-some, same_Some}
 use Rattle.tc_code.specs.declared.instr.Instr.{Instr}
 use Rattle.places.specs.declared.place.Round.{Round}
-use Rattle.code_loops.specs.Loops.{LoopsNest}
+use Rattle.places.specs.code_loops.Loops.{LoopsNest}
 use Rattle.places.specs.Places.{Place, key, is_cut, place_at, place_after, first_place, round_after, loops_around, successors, enters, reached_by, IsReached, IsEarlier, Rise}
 use Rattle.std.proofs.Common.{Less}
 use Rattle.std.specs.Cmp.Lexicographic.{slice_cmp}

@@ -1,2 +1,3 @@
 pub mod Places
 pub mod helpers
+pub mod code_loops

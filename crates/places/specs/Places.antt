@@ -8,7 +8,7 @@ use Rattle.std.specs.Cmp.Lexicographic.{slice_cmp}
 use Rattle.tc_code.specs.Lawful.{target}
 use Rattle.tc_code.specs.declared.instr.Instr.{Instr}
 use Rattle.tc_code.specs.declared.instr.Instr.TheVariants.{Goto, Exit}
-use Rattle.code_loops.specs.Loops.{LoopsNest}
+use Rattle.places.specs.code_loops.Loops.{LoopsNest}
 use Rattle.places.specs.declared.place.Round.{Round}
 
 pub record Place : Type 0 where

@@ -12,6 +12,7 @@ ghost use Rattle.tc_code.specs.run_log.tc_base.States.{Local};
 ghost use Rattle.tc_compile.specs.Programs.{IsCodeOf};
 ghost use Rattle.places.specs.Places.{Follow, HasPlaces, IsEarlier, IsReached, Place, first_place, is_cut, places_along, successors};
 
+pub mod code_loops;
 mod loops;
 mod place;
 mod reached;

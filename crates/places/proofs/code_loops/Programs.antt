@@ -11,9 +11,9 @@ use Rattle.tc_tree.specs.Grammar.{Body, Thread}
 use Rattle.tc_names.specs.Names.{name_text}
 use Rattle.tc_lower.specs.Things.{own_things, program_things, thing_in_scope, ints}
 use Rattle.tc_lower.specs.Lowering.{code_of, function_of, thread_function}
-use Rattle.code_loops.specs.Loops.{LoopsNest}
-use Rattle.code_loops.proofs.Nesting.{both, falls, whole}
-use Rattle.code_loops.proofs.Pieces.{all_nest}
+use Rattle.places.specs.code_loops.Loops.{LoopsNest}
+use Rattle.places.proofs.code_loops.Nesting.{both, falls, whole}
+use Rattle.places.proofs.code_loops.Pieces.{all_nest}
 
 function_nests : (source : List ℕ) (things : _) (name : List ℕ) (parameters : List Name) (b : Body)
     → LoopsNest (function_of source things name parameters b).instrs

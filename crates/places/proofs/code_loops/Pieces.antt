@@ -13,7 +13,7 @@ use Rattle.tc_tree.specs.Grammar.{Expression, Number, Variable, Element, Paren, 
 use Rattle.tc_tree.specs.Grammar.{Statement, Statements, Nil, Cons, Otherwise, Nothing, Else, ElseIf}
 use Rattle.tc_lower.specs.Values.{Evaluated, over_both, decided, undecided, joined, evaluated, arguments}
 use Rattle.tc_lower.specs.Statements.{indexed, updating, stored, passing, goes_on, lowered, all_lowered, lowered_otherwise}
-use Rattle.code_loops.proofs.Nesting.{Piece, Nest, nest, both, falls, ahead, back, beyond, to_end}
+use Rattle.places.proofs.code_loops.Nesting.{Piece, Nest, nest, both, falls, ahead, back, beyond, to_end}
 
 joined_nest : (o : Option BinOp) (op : Operator) (at : ℕ) (p : Evaluated) (right : ℕ → ℕ → Evaluated) → Nest at p.instrs
     → ((place slot : ℕ) → Nest place (right place slot).instrs) → Nest at (joined o op at p right).instrs

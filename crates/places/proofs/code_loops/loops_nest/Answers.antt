@@ -1,6 +1,6 @@
-use Rattle.code_loops.proofs.Nesting.{inside_or_apart}
-use Rattle.code_loops.proofs.Programs.{program_nests}
-use Rattle.code_loops.proofs.loops_nest.Goals as goal
+use Rattle.places.proofs.code_loops.Nesting.{inside_or_apart}
+use Rattle.places.proofs.code_loops.Programs.{program_nests}
+use Rattle.places.proofs.code_loops.loops_nest.Goals as goal
 
 pub returns-clause-entered : goal.returns-clause-entered
 returns-clause-entered c = program_nests

@@ -9,7 +9,7 @@ use Rattle.std.proofs.lemmas.Option.{none-some, same_Some, slice_get_within, get
 use Rattle.tc_code.specs.Lawful.{target}
 use Rattle.tc_code.specs.declared.instr.Instr.{Instr}
 use Rattle.tc_code.specs.declared.instr.Instr.TheVariants.{Goto}
-use Rattle.code_loops.specs.Loops.{IsLoop, LoopsNest}
+use Rattle.places.specs.code_loops.Loops.{IsLoop, LoopsNest}
 
 -- the instruction at a place of a piece of code jumps; the piece begins at place s
 pub record Jump (s : ℕ) (is : List Instr) (place to : ℕ) (i : Instr) : Type 0 where
