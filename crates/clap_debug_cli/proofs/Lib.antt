@@ -1,3 +1,4 @@
 pub mod Heard
 pub mod Told
+pub mod Sound
 pub mod Accepted

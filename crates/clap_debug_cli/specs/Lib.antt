@@ -18,3 +18,4 @@ pub use Rattle.why_command.specs as why_command
 pub use Rattle.workload_command.specs as workload_command
 pub mod Requests
 pub mod Call
+pub mod Sound

@@ -14,6 +14,7 @@ ghost use Rattle.migrate_command.specs.tc_limits.declared.limits.TheConstants.{S
 ghost use Rattle.solve_command.specs.Calls.{plain_solve};
 ghost use Rattle.clap_debug_words.specs.Calls.{call_of, plain_call};
 ghost use Rattle.clap_debug_cli.specs.Call.{Answers, Does, IfTold, RunsCall, RunsSearch, usage_text};
+ghost use Rattle.clap_debug_cli.specs.Sound.{SoundOf};
 
 mod requests;
 
@@ -60,6 +61,7 @@ pub fn clap_debug<H: Shelf, K: Sink>(
     shelf: &mut H,
     sink: &mut K,
 ) -> u8
+    ensures sound { IfTold (map string_bytes words.now) (H.tells shelf.old).held (λ call files. SoundOf call files (H.tells shelf.new).held result) }
     ensures call { Does (call_of (map string_bytes words.now)) (H.tells shelf.old) (H.tells shelf.new) result (K.tells sink.old) (K.tells sink.new) }
     ensures answers { IfTold (map string_bytes words.now) (H.tells shelf.old).held (λ call files. Answers call files
         (record { status = result; held = (H.tells shelf.new).held; before = K.tells sink.old; after = K.tells sink.new })) }

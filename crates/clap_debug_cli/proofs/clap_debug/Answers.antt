@@ -2,6 +2,7 @@ use Rattle.std.proofs.Common.{◌≡◌, ◌∙◌, ap, sym, subst, map, Some, N
 use Rattle.clap_debug_words.specs.Calls.{call_of, plain_call}
 use Rattle.clap_debug_cli.specs.Call.{Does}
 use Rattle.clap_debug_cli.proofs.Heard.{unheard}
+use Rattle.clap_debug_cli.proofs.Sound.{told_sound}
 use Rattle.clap_debug_cli.proofs.Told.{told}
 use Rattle.clap_debug_cli.proofs.clap_debug.Goals as goal
 
@@ -19,6 +20,12 @@ returns-in-Ok-Some-clause-answers g c =
     told (g.H.Shelf.tells c.args.shelf.now) (g.H.Shelf.tells c.run_call.new.shelf) c.run_call.result (g.K.Sink.tells c.args.sink.now)
     (g.K.Sink.tells c.run_call.new.sink) (call_of (map string_bytes c.args.words.now)) (returns-in-Ok-Some-clause-call g c)
 
+pub returns-in-Ok-Some-clause-sound : goal.returns-in-Ok-Some-clause-sound
+returns-in-Ok-Some-clause-sound g c =
+    told_sound (g.H.Shelf.tells c.args.shelf.now).held
+    (record { status = c.run_call.result; held = (g.H.Shelf.tells c.run_call.new.shelf).held; before = g.K.Sink.tells c.args.sink.now; after = g.K.Sink.tells c.run_call.new.sink })
+    (call_of (map string_bytes c.args.words.now)) (returns-in-Ok-Some-clause-answers g c)
+
 -- words that aren't taken
 pub returns-in-Ok-None-clause-call : goal.returns-in-Ok-None-clause-call
 returns-in-Ok-None-clause-call g c =
@@ -32,6 +39,12 @@ returns-in-Ok-None-clause-answers g c =
     told (g.H.Shelf.tells c.args.shelf.now) (g.H.Shelf.tells c.args.shelf.now) c.put_usage.result (g.K.Sink.tells c.args.sink.now)
     (g.K.Sink.tells c.put_usage.new.sink) (call_of (map string_bytes c.args.words.now)) (returns-in-Ok-None-clause-call g c)
 
+pub returns-in-Ok-None-clause-sound : goal.returns-in-Ok-None-clause-sound
+returns-in-Ok-None-clause-sound g c =
+    told_sound (g.H.Shelf.tells c.args.shelf.now).held
+    (record { status = c.put_usage.result; held = (g.H.Shelf.tells c.args.shelf.now).held; before = g.K.Sink.tells c.args.sink.now; after = g.K.Sink.tells c.put_usage.new.sink })
+    (call_of (map string_bytes c.args.words.now)) (returns-in-Ok-None-clause-answers g c)
+
 -- no memory for the words
 pub returns-in-Err-clause-call : goal.returns-in-Err-clause-call
 returns-in-Err-clause-call g c =
@@ -42,3 +55,9 @@ pub returns-in-Err-clause-answers : goal.returns-in-Err-clause-answers
 returns-in-Err-clause-answers g c =
     told (g.H.Shelf.tells c.args.shelf.now) (g.H.Shelf.tells c.args.shelf.now) c.say_no_memory.result (g.K.Sink.tells c.args.sink.now)
     (g.K.Sink.tells c.say_no_memory.new.sink) (call_of (map string_bytes c.args.words.now)) (returns-in-Err-clause-call g c)
+
+pub returns-in-Err-clause-sound : goal.returns-in-Err-clause-sound
+returns-in-Err-clause-sound g c =
+    told_sound (g.H.Shelf.tells c.args.shelf.now).held
+    (record { status = c.say_no_memory.result; held = (g.H.Shelf.tells c.args.shelf.now).held; before = g.K.Sink.tells c.args.sink.now; after = g.K.Sink.tells c.say_no_memory.new.sink })
+    (call_of (map string_bytes c.args.words.now)) (returns-in-Err-clause-answers g c)
