@@ -1,4 +1,5 @@
 pub mod Heard
 pub mod Told
 pub mod Sound
+pub mod Recorded
 pub mod Accepted

@@ -17,7 +17,7 @@ use Rattle.clap_debug_cli.specs.Requests.{solved}
 use Rattle.clap_debug_cli.specs.Sound.{IsSound, SoundOf}
 
 -- a name that was kept holds what was kept
-holds : (files : Files) (held : Option Files) (name text : List ℕ) → held ≡ put_under name text (Some files) → told_under held name ≡ Some text
+pub holds : (files : Files) (held : Option Files) (name text : List ℕ) → held ≡ put_under name text (Some files) → told_under held name ≡ Some text
 holds files held name text e =
     ap (λ h. told_under h name) e
     ∙ ap (λ bytes. Some (unwrap_or bytes [])) (get-insert nat_list_cmp_total files name text name

@@ -1,7 +1,12 @@
 //! The top call: from the words to the command that they ask for.
 #![tactic(auto)]
 
-ghost use Rattle.std.specs.Prelude.{◌≤◌, List, ℕ, Option, length, map, option_map, string_bytes};
+ghost use Rattle.std.specs.Prelude.{◌≡◌, ◌≤◌, List, ℕ, None, Option, Some, length, map, option_map, string_bytes, true, unwrap_or};
+ghost use Rattle.tc_io.specs.Outside.{Files, bytes_at};
+ghost use Rattle.command_frame.specs.End.{End};
+ghost use Rattle.clap_debug_words.specs.Calls.{Records, Solves};
+ghost use Rattle.record_command.specs.Logs.{allows};
+ghost use Rattle.replay_command.specs.memory_models.declared.model.Model.TheVariants.{Tso};
 ghost use Rattle.command_frame.specs.Answers.{SaysLine};
 ghost use Rattle.command_frame.specs.declared.status.Status.TheVariants.{Usage};
 ghost use Rattle.list_command.specs.command_inputs.Forms.{IsSchedule};
@@ -170,4 +175,14 @@ pub fn schedules_are_accepted()
     ensures { (program log : List ℕ) (task : Task program log) (asked : Option Model) (moves : List Move) (text : List ℕ)
         → Reproduces asked task.pair moves → IsSchedule text (record { model = model_of asked task.pair; moves = moves })
         → (length text ≤ SCHEDULE_BYTES) × IsReplayed program log text verdict.Reproduces }
+{}
+
+/// `solve` never ends with status 1 for a log that `record` kept, under the memory model of the run
+/// or one that allows more, as long as PROGRAM holds the same program.
+pub fn recorded_logs_are_never_impossible()
+    ensures { (program log out : List ℕ) (model asked : Option Model) (seed steps budget : Option ℕ) (files held : Files) (end : End) (now : Option Files) (status : ℕ)
+        → Answers (Records program log model seed steps) files end → end.status ≡ 0 → end.held ≡ Some held
+        → bytes_at held program ≡ bytes_at files program
+        → allows (unwrap_or model Tso) (unwrap_or asked (unwrap_or model Tso)) ≡ true
+        → SoundOf (Solves program log out asked budget None) held now status → status ≡ 1 → ⊥ }
 {}
