@@ -14,7 +14,7 @@ impossible under sequential consistency.
   native_trial.py faults [NAME..] [--all]
                                each wrong recorder is found by one of the tests that it names; with --all, says which of all tests find it
 
-It wants an x86-64 with two processors and gcc; examples/c want pycparser. Ends with 1 where something is otherwise."""
+It wants an x86-64 with two processors and gcc; examples/c want clang. Ends with 1 where something is otherwise."""
 import argparse
 import itertools
 import re

@@ -25,10 +25,10 @@ PAGE = f"{TOP}/examples/c/README.md"
 MODELS = ("sc", "tso", "pso")
 # The memory model under which each is recorded, and the first seed that fails, found by --search.
 RECORDED = {
-    "barrier": ("sc", 0), "bounded": ("sc", 0), "chase_lev": ("tso", 295), "dekker": ("tso", 170), "hazard": ("tso", 69), "mcs": ("pso", 83563),
+    "barrier": ("sc", 0), "bounded": ("sc", 0), "chase_lev": ("tso", 295), "dekker": ("tso", 170), "freed": ("sc", 14252), "hazard": ("tso", 69), "mcs": ("pso", 83563),
     "message": ("pso", 47), "ms_queue": ("pso", 6284), "once": ("pso", 11193), "peterson": ("tso", 290), "philosophers": ("sc", 1),
     "refcount": ("sc", 0), "ring": ("pso", 1500), "rwlock": ("sc", 10), "seqlock": ("pso", 642), "sleeper": ("tso", 5),
-    "spinlock": ("pso", 510), "store_buffer": ("tso", 24), "ticket": ("pso", 398), "treiber": ("sc", 1), "wakeup": ("sc", 0),
+    "spinlock": ("pso", 510), "store_buffer": ("tso", 24), "ticket": ("pso", 25), "treiber": ("sc", 1), "wakeup": ("sc", 0),
 }
 SEARCHED = 100000
 STEPS = "20000"

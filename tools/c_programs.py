@@ -1,7 +1,8 @@
 """Random C programs for test_fromc.py. Each prints nothing, and has lines OBSERVE(e); at the top of main for what is compared.
 They keep to what C defines, with -fwrapv, and to orders of evaluation that C defines."""
+import dataclasses
 import random
-from typing import List
+from typing import Iterator, List, Tuple
 
 HEAD = """#include <assert.h>
 #include <pthread.h>
@@ -15,6 +16,12 @@ bool gt;
 _Atomic int na;
 atomic_uint nu;
 int arr[4] = {1, -2, 3};
+uint8_t ub = 250, bytes[4] = {7, 255};
+int8_t sb = -100;
+uint16_t uh;
+short sh = 32000;
+_Atomic uint8_t nb = 3;
+_Atomic short ns;
 _Atomic int cells[4];
 struct pair { int left; unsigned right; bool set; };
 struct pair one, many[4];
@@ -87,7 +94,8 @@ class Programs:
 
     def name(self) -> str:
         return self.chance.choice([*self.locals, "ga", "gb", "gt", "one.left", "one.set", "paint", "arr[1]", f"arr[{self.int_name()} & 3]",
-                                   f"many[{self.int_name()} & 3].left", "green", "many[2].set"])
+                                   f"many[{self.int_name()} & 3].left", "green", "many[2].set", "ub", "sb", "uh", "sh",
+                                   f"bytes[{self.int_name()} & 3]"])
 
     def int_name(self) -> str:
         return self.chance.choice(self.locals)
@@ -116,7 +124,7 @@ class Programs:
         if kind == 9:
             return f"({a} ? {b} : {self.signed(depth - 1)})"
         if kind == 10:
-            return f"(int)({self.unsigned(depth - 1)})"
+            return f"({self.chance.choice(['int', 'int', 'uint8_t', 'short', 'signed char'])})({self.unsigned(depth - 1)})"
         return f"(bool)({a})"
 
     def signed(self, depth: int) -> str:
@@ -132,7 +140,8 @@ class Programs:
         if kind == 2:
             return f"({a} >> {self.chance.randrange(32)})"
         if kind == 3:
-            return f"({a} {self.chance.choice(['/', '%'])} {1 << self.chance.randrange(31)}u)"
+            other = self.chance.choice([f"{1 << self.chance.randrange(31)}u", f"({self.unsigned(depth - 1)} | 1u)", "3u", "(gu | 2147483649u)"])
+            return f"({a} {self.chance.choice(['/', '%'])} {other})"
         return f"(unsigned)({self.signed(depth - 1)})"
 
     def any(self, depth: int) -> str:
@@ -142,7 +151,8 @@ class Programs:
 
     def place(self) -> str:
         return self.chance.choice(["la", "lb", "lc", "ga", "gb", "gu", "gt", "one.left", "one.right", "one.set", f"arr[{self.int_name()} & 3]",
-                                   f"many[{self.int_name()} & 3].left", "many[1].right", "na", "nu", f"cells[{self.int_name()} & 3]"])
+                                   f"many[{self.int_name()} & 3].left", "many[1].right", "na", "nu", f"cells[{self.int_name()} & 3]",
+                                   "ub", "sb", "uh", "sh", "nb", "ns", f"bytes[{self.int_name()} & 3]"])
 
     def block(self, depth: int, count: int) -> List[str]:
         lines: List[str] = []
@@ -165,11 +175,12 @@ class Programs:
         if kind < 9:
             return [f"{self.place()} {self.chance.choice(['+=', '-=', '*=', '&=', '|=', '^='])} {self.any(1)};"]
         if kind == 9:
-            return [f"{self.chance.choice(['ga', 'gb', 'la', 'lb', 'gu', 'nu', 'na'])}{self.chance.choice(['++', '--'])};"]
+            place = self.chance.choice(['ga', 'gb', 'la', 'lb', 'gu', 'nu', 'na', 'ub', 'sb', 'sh', 'nb'])
+            return [f"{place}{self.chance.choice(['++', '--'])};"]
         if kind < 13:
             return [self.call()]
         if kind == 13:
-            return [f"lc = {self.chance.choice(['la++', '--lb', 'ga++', '++gb', 'na++', '++na', 'na--'])};"]
+            return [f"lc = {self.chance.choice(['la++', '--lb', 'ga++', '++gb', 'na++', '++na', 'na--', 'ub++', '--sb', 'nb--', '++ns'])};"]
         if kind == 14:
             return [self.atomic()]
         return [f"{self.place()} = {self.any(2)};"]
@@ -184,11 +195,13 @@ class Programs:
             f"la = gb = {self.signed(1)};"])
 
     def atomic(self) -> str:
-        place = self.chance.choice(["na", f"cells[{self.int_name()} & 3]"])
+        place = self.chance.choice(["na", "nb", "ns", f"cells[{self.int_name()} & 3]"])
         operation = self.chance.choice(["fetch_add", "fetch_sub", "fetch_or", "fetch_and", "fetch_xor", "exchange"])
         return self.chance.choice([
             f"lc = atomic_{operation}(&{place}, {self.signed(1)});", f"atomic_store(&{place}, {self.signed(1)});", f"lb = atomic_load(&{place});",
-            f"lc = atomic_compare_exchange_strong(&{place}, &la, {self.signed(1)});",
+            f"lc = atomic_compare_exchange_strong(&{self.chance.choice(['na', f'cells[{self.int_name()} & 3]'])}, &la, {self.signed(1)});",
+            f"lb = __atomic_{operation.replace('exchange', 'add_fetch')}(&ga, {self.signed(1)}, __ATOMIC_RELAXED);",
+            f"lc = __sync_{operation.replace('fetch_', 'fetch_and_').replace('exchange', 'xor_and_fetch')}(&gb, {self.signed(1)});",
             f"nu {self.chance.choice(['+=', '^='])} {self.unsigned(1)};"])
 
     def loop(self, depth: int) -> List[str]:
@@ -220,7 +233,8 @@ class Programs:
             lines += self.block(3, 2)
             for _ in range(self.chance.randint(1, 2)):
                 lines.append(f"OBSERVE({self.chance.choice([self.number(2), *self.locals, 'ga', 'gb', 'arr[2]', 'one.left', '(int)gu', 'na', 'cells[1]', 'cells[3]'])});")
-        lines += [f"OBSERVE({it});" for it in ("ga", "gb", "(int)gu", "na", "(int)nu", "arr[0]", "cells[2]", "many[1].left", "la", "lb", "lc")]
+        lines += [f"OBSERVE({it});" for it in ("ga", "gb", "(int)gu", "na", "(int)nu", "arr[0]", "cells[2]",
+                                               "ub", "sb", "uh", "sh", "nb", "ns", "bytes[0]", "many[1].left", "la", "lb", "lc")]
         return "int main(void)\n{\n" + "".join(f"    {it}\n" for it in lines) + "    return 0;\n}\n"
 
 
@@ -259,3 +273,188 @@ class MutexPrograms:
         end = ["    pthread_mutex_lock(&m);", "    done++;", f"    if (done == {self.count})", "        pthread_cond_signal(&all);",
                "    pthread_mutex_unlock(&m);"]
         return [*loop, *end]
+
+
+FIRST_GLOBALS = "int given = 6;\nenum size { few = 2, many = 40, none = -1 };\n"
+# First values of each type: constants, and those that only a variable of a function's own may have.
+CONSTANTS = {
+    "int": ["-5", "0", "'a'", "-2147483647 - 1", "many - 3", "~7", "1 << 4", "(int)3000000000u", "7u > 3", "few ? 9 : 8", "-(none)"],
+    "unsigned": ["4000000000u", "-1", "5", "many", "1u << 31"],
+    "bool": ["true", "0", "7", "-3", "many == 40"],
+    "enum size": ["many", "few"], "uint8_t": ["255", "300", "-1", "'z'"], "short": ["-5", "40000", "few"],
+}
+OTHERS = {"int": ["given", "-given + 2"], "unsigned": ["given * 3u"], "bool": ["given & 1", "given"],
+          "enum size": ["given > 3 ? few : many"], "uint8_t": ["given * 50"], "short": ["given - 7"]}
+
+
+@dataclasses.dataclass(frozen=True)
+class Typed:
+    """A type: a number's, or what has parts, which `.field` or `[index]` leads to. An array has a length."""
+
+    word: str
+    atomic: bool = False
+    length: int = 0
+    parts: Tuple[Tuple[str, "Typed"], ...] = ()
+
+    def declared(self, name: str) -> str:
+        if self.length:
+            return self.parts[0][1].declared(f"{name}[{self.length}]")
+        return f"{'_Atomic ' * self.atomic}{self.word} {name}"
+
+    def leaves(self, name: str) -> Iterator[Tuple[str, "Typed"]]:
+        """The numbers of a variable of this type."""
+        if not self.parts:
+            yield name, self
+        for part, inner in self.parts:
+            yield from inner.leaves(name + part)
+
+
+class FirstValues:
+    """Programs of variables at every place, with first values of every kind, without what is before them: HEAD and FIRST_GLOBALS."""
+
+    before = HEAD + FIRST_GLOBALS
+    PLACES = ("file", "static file", "static main", "main", "static function", "function")
+    WORK = ["static void *work(void *u)", "{", "    static int count[2] = {5, 7};", "    static struct { int by; bool on; } s = {3, 9};",
+            "    count[1] += s.by + s.on;", "    given = count[1]++;", "    return u;", "}"]
+    THREADS = ["pthread_t t;", *["pthread_create(&t, NULL, work, NULL);", "pthread_join(t, NULL);", "OBSERVE(given);"] * 2]
+
+    def __init__(self, seed: int) -> None:
+        self.chance, self.seed, self.count = random.Random(seed), seed, 0
+        self.file: List[str] = []
+        self.main: List[str] = []
+
+    def name(self) -> str:
+        self.count += 1
+        return f"v{self.seed}_{self.count}"
+
+    def type(self, depth: int, shared: bool) -> Typed:
+        kind = self.chance.randrange(4 if depth else 2)
+        if kind < 2:
+            return Typed(self.chance.choice(list(CONSTANTS)), shared and self.chance.random() < 0.4)
+        if kind == 2:
+            length, element = self.chance.randint(1, 3), self.type(depth - 1, shared)
+            return Typed("", length=length, parts=tuple((f"[{it}]", element) for it in range(length)))
+        word, count = f"struct {self.name()}", self.chance.randint(1, 3)
+        made = Typed(word, parts=tuple((f".f{it}", self.type(depth - 1, shared)) for it in range(count)))
+        self.file.append(f"{word} {{ {' '.join(f'{inner.declared(part[1:])};' for part, inner in made.parts)} }};")
+        return made
+
+    def value(self, type_: Typed, shared: bool) -> str:
+        """A first value: a number, or a list that may leave out some, or name what is next."""
+        if not type_.parts:
+            value = self.chance.choice(CONSTANTS[type_.word] + ([] if shared else OTHERS[type_.word]))
+            return self.chance.choice([value] * 3 + [f"ATOMIC_VAR_INIT({value})" if type_.atomic else f"{{{value}}}"])
+        following, listed = 0, []
+        for _ in range(self.chance.randint(1, len(type_.parts))):
+            named = self.chance.random() < 0.3 or following == len(type_.parts)
+            following = self.chance.randrange(len(type_.parts)) if named else following
+            part, inner = type_.parts[following]
+            listed.append(f"{part} = " * named + self.value(inner, shared))
+            following += 1
+        return f"{{{', '.join(listed)}}}"
+
+    def declaration(self, name: str, type_: Typed, shared: bool) -> str:
+        """A declaration with a first value; an array may have its length from there, and what is shared may begin with 0."""
+        text = type_.declared(name)
+        if type_.length and self.chance.random() < 0.3:
+            part, inner = type_.parts[-1]
+            return f"{text.replace(f'{name}[{type_.length}]', f'{name}[]')} = {{{part} = {self.value(inner, shared)}}};"
+        return f"{text};" if shared and self.chance.random() < 0.1 else f"{text} = {self.value(type_, shared)};"
+
+    def variable(self, place: str) -> None:
+        shared, constant = place not in ("main", "function"), self.chance.random() < 0.25
+        type_, name = self.type(2, shared), self.name()
+        line = f"{'static ' * place.startswith('static')}{'const ' * constant}{self.declaration(name, type_, shared)}"
+        leaves = list(type_.leaves(name))
+        if place.endswith("function"):
+            cases = [f"    if (which == {it}) return (int){leaf}{'' if constant else '++'};" for it, (leaf, _) in enumerate(leaves)]
+            self.file += [f"static int get_{name}(int which)", "{", f"    {line}", *cases, "    return 0;", "}"]
+            self.main += [f"OBSERVE(get_{name}({it}));" for it in range(len(leaves))] * 2
+            return
+        (self.file if place.endswith("file") else self.main).append(line)
+        self.main += [f"OBSERVE((int){leaf});" for leaf, _ in leaves]
+        for leaf, inner in leaves:
+            self.main += [f"atomic_exchange(&{leaf}, 1);", f"OBSERVE((int){leaf});"] if inner.atomic and not constant else []
+
+    def program(self) -> str:
+        for place in self.chance.sample(self.PLACES, 4):
+            self.variable(place)
+        main = (f"    {it}" for it in [*self.main, *self.THREADS])
+        return "\n".join([*self.file, *self.WORK, "int main(void)", "{", *main, "    return 0;", "}", ""])
+
+
+POINTER_GLOBALS = """#include <stdlib.h>
+struct item { struct item *next, *other; int v; uint8_t b; struct { short s[2]; } in; };
+struct item items[4] = {{&items[1], 0, 5, 6}, {.v = 7}, {&items[0], &items[2], 9}}, lone = {items, &items[3], -2}, *head = &lone;
+_Atomic(struct item *) slots[2];
+static struct item *find(struct item *from, int v)
+{
+    for (int n = 0; from && n < 5; n++) {
+        if (from->v == v)
+            return from;
+        from = from->next;
+    }
+    return NULL;
+}
+static void push(struct item *n)
+{
+    n->next = head;
+    head = n;
+}
+static struct item *later(struct item *one, int steps)
+{
+    while (one && steps-- > 0)
+        one = one->other ? one->other : one->next;
+    return one;
+}
+static void put(struct item **to, struct item *n, int v)
+{
+    if (n)
+        n->v = v;
+    *to = n;
+}
+"""
+
+
+class PointerPrograms:
+    """Programs of one thread with pointers in memory, without what is before them: HEAD and POINTER_GLOBALS."""
+
+    before = HEAD + POINTER_GLOBALS
+
+    def __init__(self, seed: int) -> None:
+        self.chance = random.Random(seed)
+
+    def pointer(self) -> str:
+        return self.chance.choice(["p", "q", "head", "&lone", "NULL", "p", "q", f"&items[{self.number()} & 3]",
+                                   f"items[{self.number()} & 3].next", f"items[{self.number()} & 3].other", f"find(head, {self.number()})", "(p ? p->next : q)",
+                                   f"(la > {self.number()} ? p : q)", f"later(q, {self.number()} & 3)", "lone.other"])
+
+    def number(self) -> str:
+        return self.chance.choice(["la", "lb", "1", "2", "7", "9", "-2", "(p == q)", "(q != NULL)", "(head == p)", "(p ? p->v : 3)", "!q"])
+
+    def place(self) -> str:
+        return self.chance.choice(["p", "q", "p", "q", "head", "lone.next", f"items[{self.number()} & 3].next", "items[2].other"])
+
+    def statement(self) -> str:
+        one, v = self.chance.choice("pq"), self.number()
+        return self.chance.choice([
+            f"{self.place()} = {self.pointer()};", f"{self.place()} = {self.pointer()};", f"la = {v};", f"lb += {v};",
+            f"if ({one}) {one}->v = {v};", f"if ({one}) {one}->b += {v};", f"if ({one}) {one}->in.s[{v} & 1] = {v} * 9;",
+            f"if ({one} && {one}->next) {one}->next->v += {v};", f"if ({one}) push({one});", f"if ({one}) {one}->other = {self.pointer()};",
+            f"for ({one} = head; {one} && la < 60; {one} = {one}->next) la += {one}->b + 9;", f"if ({one}) items[{v} & 3] = *{one};",
+            f"if ({one}) *{one} = lone;", f"put(&{self.place()}, {one}, {v});", f"q = atomic_exchange(&slots[{v} & 1], p);",
+            f"la = atomic_compare_exchange_strong(&slots[{v} & 1], &p, q);", f"slots[{v} & 1] = {one};", f"p = slots[{v} & 1];",
+            "{ uintptr_t w = (uintptr_t)p | 1; q = (struct item *)(w & ~(uintptr_t)1); lb = (int)(w & 1); }",
+            f"{{ struct item *t = malloc(sizeof *t); *t = lone; t->v = {v}; lb = t->v + t->b; p = t->other; free(t); }}",
+            f"{{ struct item *t = calloc(1, sizeof *t); t->other = q; if (lb & 1) free(t); else push(t); }}",
+            f"{{ struct item here = {{.v = {v}, .next = {one}}}; q = &here; lb = q->v + (q->next == p); q = here.next; }}"])
+
+    def program(self) -> str:
+        lines = ["struct item *p = items, *q = NULL;", "int la = 1, lb = 2;"]
+        for _ in range(self.chance.randint(6, 14)):
+            lines += [self.statement() for _ in range(self.chance.randint(1, 3))]
+            seen = self.chance.choice(['la', 'lb', self.number(), 'p == head', 'items[1].v', 'lone.in.s[1]', 'lone.next == q'])
+            lines.append(f"OBSERVE({seen});")
+        lines += [f"OBSERVE({it});" for it in ("la", "lb", "p == q", "p ? p->v : -1", "head ? head->b : -1", "items[0].next == &items[1]",
+                                               "slots[0] == NULL", "items[3].v", "items[2].in.s[0]")]
+        return "static int work(void)\n{\n    return 0;\n}\nint main(void)\n{\n" + "".join(f"    {it}\n" for it in lines) + "    return 0;\n}\n"

@@ -4,8 +4,8 @@
     test_fromc.py [NAME..]      all tests, or those of these names, as unittest has them
 
 Translated programs are run by the clap_debug that CLAP_DEBUG names, or by the one that this checkout has built, or else by
-bench/machine.py. FROMC_PROGRAMS and FROMC_MUTEXES say how many programs are generated. The tests want gcc, and pycparser for some
-Python here; without these each is skipped by name."""
+bench/machine.py. FROMC_PROGRAMS and FROMC_MUTEXES say how many programs are generated. The tests want gcc and clang; without these each
+is skipped by name."""
 import os
 import re
 import shutil
@@ -13,20 +13,11 @@ import subprocess
 import sys
 import tempfile
 import unittest
-from typing import Dict, List, Optional, Tuple
+from typing import Dict, List, Optional, Sequence, Tuple, Union
 
 TOP = os.path.dirname(os.path.dirname(os.path.abspath(__file__)))
-sys.path.insert(0, f"{TOP}/tools")
-SYSTEM = "/usr/bin/python3"
-LACKS = None if shutil.which("gcc") else "there is no gcc"
-try:
-    import pycparser  # noqa: F401
-except ImportError:
-    # Debian's package is for the system's own Python, which may not be the first one.
-    if os.path.realpath(SYSTEM) != os.path.realpath(sys.executable) and not os.environ.get("FROMC_SECOND"):
-        os.environ["FROMC_SECOND"] = "1"
-        os.execv(SYSTEM, [SYSTEM, *sys.argv])
-    LACKS = "no Python here has pycparser (apt-get install python3-pycparser)"
+sys.path[:0] = [f"{TOP}/tools", f"{TOP}/bench"]
+LACKS = next((f"there is no {it}" for it in ("gcc", "clang") if not shutil.which(it)), None)
 
 import c_programs  # noqa: E402
 from built import built  # noqa: E402
@@ -34,6 +25,7 @@ from from_c.main import translation  # noqa: E402
 from from_c.refusal import Refusal  # noqa: E402
 from from_c.unit import Options  # noqa: E402
 from kept_files import run_main  # noqa: E402
+import machine  # noqa: E402
 
 NATIVE = ["-std=gnu11", "-w", "-fwrapv", "-O0", "-pthread"]
 OBSERVE = re.compile(r"^(\s*)OBSERVE\((.*)\);$", re.M)
@@ -45,16 +37,25 @@ MUTEXES = int(os.environ.get("FROMC_MUTEXES", "50"))
 
 def recorded(text: str, model: str = "sc", seed: int = 0) -> Tuple[str, int]:
     """How a run of a program ends: finished, failed or deadlock, and the line of a failure or 0."""
-    with tempfile.TemporaryDirectory() as folder:
-        file = f"{folder}/p.tc"
-        with open(file, "w", encoding="utf-8") as out:
-            out.write(text)
-        words = [PROGRAM, "record", file, f"{folder}/log"] if PROGRAM else [sys.executable, f"{TOP}/bench/machine.py", "record", file]
-        done = subprocess.run([*words, "--model", model, "--seed", str(seed)], capture_output=True, text=True, check=False)
-    found = re.match(r"failed \S+ line (\d+) |(finished|deadlock)", done.stdout)
+    said = recorded_by(PROGRAM, text, model, seed) if PROGRAM else recorded_here(text, model, seed)
+    found = re.match(r"failed \S+ line (\d+) |(finished|deadlock)", said)
     if not found:
-        raise AssertionError(f"{done.stdout}{done.stderr}\n{text}")
+        raise AssertionError(f"{said}\n{text}")
     return (found[2], 0) if found[2] else ("failed", int(found[1]))
+
+
+def recorded_by(program: str, text: str, model: str, seed: int) -> str:
+    with tempfile.TemporaryDirectory() as folder:
+        with open(f"{folder}/p.tc", "w", encoding="utf-8") as out:
+            out.write(text)
+        words = [program, "record", f"{folder}/p.tc", f"{folder}/log", "--model", model, "--seed", str(seed)]
+        done = subprocess.run(words, capture_output=True, text=True, check=False)
+    return done.stdout or done.stderr
+
+
+def recorded_here(text: str, model: str, seed: int) -> str:
+    code = machine.Code(text)
+    return machine.end_of(code, *machine.run(code, model, seed, 1000000))
 
 
 def translated(source: str, options: Options = Options(), is_checked: bool = True) -> Tuple[str, Dict[int, int], List[str]]:
@@ -128,7 +129,7 @@ def asserting(source: str, observed: List[int], wrong: Optional[int] = None) -> 
 
 
 class Tests(unittest.TestCase):
-    """Tests that want gcc and pycparser. (A skipped class has run no test, which Python 3.12 takes for a fault.)"""
+    """Tests that want gcc and clang. (A skipped class has run no test, which Python 3.12 takes for a fault.)"""
 
     def setUp(self) -> None:
         if LACKS:
@@ -138,14 +139,16 @@ class Tests(unittest.TestCase):
 class Generated(Tests):
     """Random programs: each assertion comes out natively as it does translated."""
 
-    def compare(self, before: str, source: str, end: Tuple[str, int], models: Tuple[str, ...], seed: int) -> None:
-        text, lines, _ = translated(before + source)
+    def compare(self, before: str, source: str, end: Tuple[str, int], models: Tuple[str, ...], seed: int,
+                options: Options = Options()) -> None:
+        text, lines, _ = translated(before + source, options)
         for model in models:
             kind, line = recorded(text, model, seed)
             self.assertEqual((kind, lines.get(line, 0)), end, f"{seed} {model}\n{before}{source}\n{text}")
 
-    def test_programs_of_one_thread(self) -> None:
-        made = [c_programs.Programs(seed) for seed in range(PROGRAMS)]
+    def compare_all(self, made: Sequence[Union[c_programs.Programs, c_programs.FirstValues, c_programs.PointerPrograms]],
+                    options: Options = Options()) -> None:
+        """Programs that end in one way under every schedule; in every second one an assertion is wrong."""
         sources = [it.program() for it in made]
         observed = values(made[0].before, sources)
         wrong = [it.chance.randrange(len(found)) if seed % 2 else None for seed, (it, found) in enumerate(zip(made, observed))]
@@ -153,7 +156,17 @@ class Generated(Tests):
         ends = outcomes(made[0].before, sources)
         self.assertEqual([end[0] for end in ends], ["finished" if it is None else "failed" for it in wrong])
         for seed, (source, end) in enumerate(zip(sources, ends)):
-            self.compare(made[0].before, source, end, ("sc",), seed)
+            self.compare(made[0].before, source, end, ("sc",), seed, options)
+
+    def test_programs_of_one_thread(self) -> None:
+        self.compare_all([c_programs.Programs(seed) for seed in range(PROGRAMS)])
+
+    def test_first_values(self) -> None:
+        self.compare_all([c_programs.FirstValues(seed) for seed in range(PROGRAMS)])
+
+    def test_programs_with_pointers(self) -> None:
+        self.compare_all([c_programs.PointerPrograms(seed) for seed in range(PROGRAMS)], Options(heap=40, left_to_right=True))
+        self.compare_all([c_programs.PointerPrograms(seed) for seed in range(PROGRAMS)], Options(heap=40, left_to_right=True, reuse=True))
 
     def test_programs_with_mutexes(self) -> None:
         made = [c_programs.MutexPrograms(seed) for seed in range(MUTEXES)]
@@ -184,8 +197,11 @@ ACCESSES: List[Tuple[str, Tuple[str, ...], Tuple[str, str, str, str]]] = [
     ("x = 1;", ("",), (STRONG, "x = 1;", "x = 1; fence();", STRONG)),
     ("r = x;", ("",), ("r = x;",) * 4),
     ("r = atomic_exchange_explicit(&x, 1, memory_order_{});", ("relaxed", "acquire", "release", "acq_rel", "seq_cst"), ("r = swap(x, 1);",) * 4),
-    ("r = atomic_fetch_add_explicit(&x, 1, memory_order_{});", ("relaxed", "acquire", "release", "acq_rel", "seq_cst"),
-     ("old = x; seen = cas(x, old, old + 1); while (seen != old) { old = seen; seen = cas(x, old, old + 1); } r = old;",) * 4),
+    ("r = atomic_fetch_add_explicit(&x, 1, memory_order_{});", ("relaxed", "acquire", "release", "acq_rel", "seq_cst"), ("r = add(x, 1);",) * 4),
+    ("r = __atomic_fetch_sub(&y, 2, __ATOMIC_{});", ("RELAXED", "SEQ_CST"), ("r = add(y, -2);",) * 4),
+    ("x += 2;", ("",), ("old = add(x, 2);",) * 4),
+    ("r = atomic_fetch_or_explicit(&x, 1, memory_order_{});", ("relaxed", "seq_cst"),
+     ("old = x; seen = cas(x, old, old | 1); while (seen != old) { old = seen; seen = cas(x, old, old | 1); } r = old;",) * 4),
     ("r = atomic_compare_exchange_strong_explicit(&x, &e, 1, memory_order_{}, memory_order_relaxed);", ("relaxed", "acquire", "release", "acq_rel", "seq_cst"),
      ("seen = cas(x, e, 1); same = seen == e; e = seen; r = same;",) * 4),
     ("atomic_thread_fence(memory_order_{});", ("relaxed", "consume", "acquire"), ("",) * 4),
@@ -241,6 +257,62 @@ class Constructs(Tests):
                 self.assertTrue(line == 0 or access in source.splitlines()[lines[line] - 1], text)
 
 
+STACK = """struct node { struct node *next; int value; };
+_Atomic(struct node *) top;
+pthread_t t, u;
+static void push(struct node *n)
+{
+    struct node *old = top;
+    do
+        n->next = old;
+    while (!atomic_compare_exchange_weak(&top, &old, n));
+}
+static struct node *pop(void)
+{
+    struct node *old = top;
+    while (old && !atomic_compare_exchange_weak(&top, &old, old->next))
+        ;
+    return old;
+}
+"""
+NEW = "push(malloc(sizeof(struct node)));"
+AGAIN = "struct node *n = pop(); free(pop()); free(n); " + NEW
+RUN = "pthread_create(&t, 0, f, 0); {} pthread_join(t, 0);"
+TAKE = (f"struct node *old = top, *next = old->next; {RUN.format('')} "
+        "bool ok = atomic_compare_exchange_strong(&top, &old, next); assert(!ok);")
+# What a thread does, what main does, the options, and the access that fails in some run, or nothing.
+RECLAIMED: List[Tuple[str, str, Options, str]] = [
+    ("struct node *n = pop(); if (n) free(n);", NEW + RUN.format("pop();"), Options(), "old->next)"),
+    ("struct node *n = pop(); (void)n;", NEW + RUN.format("pop();"), Options(), ""),
+    ("free(top);", NEW + RUN.format("free(top);"), Options(), "free(top)"),
+    ("top = 0;", NEW + RUN.format("int v = atomic_load(&top)->value; (void)v;"), Options(), "->value"),
+    ("", NEW + NEW, Options(heap=1), NEW),
+    ("", NEW + NEW, Options(heap=2), ""),
+    (NEW, "static struct node here; push(&here); free(top);", Options(), "free(top)"),
+    # A node that comes back at the top of a stack, with what was below it gone.
+    (AGAIN, NEW + NEW + TAKE, Options(reuse=True), "assert(!ok)"),
+    (AGAIN, NEW + NEW + TAKE, Options(), ""),
+    ("struct node *n = pop(), *m = pop(); free(n); free(m); push(malloc(1)); push(malloc(1)); assert(top == n && m->next == 0);",
+     NEW + NEW + RUN.format(""), Options(reuse=True), ""),
+]
+
+
+class Reclaimed(Tests):
+    def test_what_is_freed(self) -> None:
+        """All states of small programs: an access of what was freed, a null pointer, a second free and too much memory fail."""
+        for thread, main, options, fails in RECLAIMED:
+            with self.subTest(thread + main):
+                spread = [it.replace(";", ";\n") for it in (thread, main)]
+                source = whole(f"{STACK}void *f(void *a)\n{{\n{spread[0]}\nreturn a; }}", spread[1])
+                text, lines, _ = translated(source, options)
+                end, state, _, _ = machine.explore(machine.Code(text), "sc")
+                self.assertEqual(end, "failed" if fails else None, text)
+                if fails:
+                    thread_of = state.threads[state.failed]
+                    line = machine.Code(text).functions[thread_of.function].lines[thread_of.at]
+                    self.assertIn(fails, source.splitlines()[lines[line] - 1], text)
+
+
 class Refused(Tests):
     def test_each_refusal(self) -> None:
         for found, globals_, body in sections("test_fromc_refusals.txt"):
@@ -255,12 +327,31 @@ class Refused(Tests):
                 self.assertGreater(len(caught.exception.advice), 5)
                 self.assertRegex(said, rf"/p\.c:{place}: ", before)
 
-    def test_what_gcc_refuses(self) -> None:
-        for source, found in ((whole("", "undeclared(1);"), "implicit declaration"), (whole("#include <string.h>", ""), "only these are known: assert.h"),
-                              (whole("int x = \"a\";", ""), "makes integer from pointer"), (whole("", "int x = ;"), "expected expression")):
+    def test_what_clang_refuses(self) -> None:
+        for source, found in ((whole("", "undeclared(1);"), "implicit declaration"), (whole("#include <math.h>", ""), "only these are known: assert.h"),
+                              (whole("int x = \"a\";", ""), "not a compile-time constant"), (whole("", "int x = ;"), "expected expression")):
             with self.assertRaises(Refusal) as caught:
                 translated(source, is_checked=False)
             self.assertIn(found, str(caught.exception))
+
+    def test_all_at_once(self) -> None:
+        """Each refusal once, in the order of places; what follows from one isn't said."""
+        source = whole("float x; int f(int n) { float q = n; return q; }",
+                       "x = 2;\nf(1);\nasm(\"nop\");\nf(2);\nint a[2], i = 1; i++; a[i] = 1;")
+        with self.assertRaises(Refusal) as caught:
+            translated(source)
+        said = [re.sub(r"^\S+/p\.c:(\d+):\d+: (.*?):.*", r"\1 \2", str(it)) for it in caught.exception.all]
+        self.assertEqual(said, ["8 the type float", "8 the type float", "13 inline assembly", "15 an index of a that isn't constant"])
+
+    def test_headers(self) -> None:
+        with tempfile.TemporaryDirectory() as folder:
+            for name, text in (("p.c", '#include <stdint.h>\n#include "a.h"\nint main(void) { return f(); }\n'),
+                               ("a.h", '#include "b.h"\n'), ("b.h", "static int f(void)\n{\n    float x;\n    float y;\n    return 0;\n}\n")):
+                with open(f"{folder}/{name}", "w", encoding="utf-8") as out:
+                    out.write(text)
+            done = subprocess.run([f"{TOP}/tools/fromc", f"{folder}/p.c"], capture_output=True, text=True, check=False)
+        self.assertEqual(done.returncode, 1)
+        self.assertRegex(done.stderr, rf"^fromc: \S*b\.h:3:11: the type float: .* \(included at {folder}/p\.c:2\)\nfromc: .*b\.h:4:1")
 
     def test_no_main(self) -> None:
         with self.assertRaises(Refusal) as caught:
@@ -278,7 +369,7 @@ class Accesses(Tests):
         """All accesses are lines of one program; what each has become is found by the map."""
         rows = [(access.format(order), wanted) for access, orders, wanted in ACCESSES for order in orders]
         lines = ["int e = 3, r = 0;", *(access for access, _ in rows), "e = r;"]
-        source = whole("atomic_int x;", *lines)
+        source = whole("atomic_int x; int y;", *lines)
         first = source[: source.index(rows[0][0])].count("\n") + 1
         for number, model in enumerate((None, "sc", "tso", "pso")):
             text, places, _ = translated(source, Options(model))
@@ -319,6 +410,18 @@ class Warned(Tests):
         self.assertIn("the status that main returns", translated("int main(void) { return 1; }\n")[2][0])
         said = self.warnings("pthread_mutex_t m; pthread_cond_t c;", "", "pthread_mutex_lock(&m); pthread_cond_wait(&c, &m); pthread_mutex_unlock(&m);")
         self.assertIn("a wait outside a loop", said[0])
+
+    def test_wide(self) -> None:
+        source = whole("long n;", "n++; n = (long)n - 1; assert(n == 0);")
+        said = translated(source)[2]
+        self.assertEqual(len(said), 1, said)
+        self.assertIn("64 bits are computed with the 32 lowest", said[0])
+        with self.assertRaises(Refusal) as caught:
+            translated(source, Options(refuse_wide=True))
+        self.assertIn("arithmetic of 64 bits", str(caught.exception))
+        carried = whole("pthread_t s; void *f(void *u) { long n = (long)u; assert((int)n == 3); return u; }",
+                        "pthread_create(&s, 0, f, (void *)3l); pthread_join(s, 0);")
+        self.assertEqual(translated(carried, Options(refuse_wide=True))[2], [])
 
     def test_left_to_right(self) -> None:
         source = whole("int n = 1; int f(int k) { n = n * 10 + k; return n; }", "int r = f(2) - f(3) * n; assert(r == 12 - 123 * 123);")

@@ -2,9 +2,8 @@
 """Tries that nothing is lost: an output that is an input or another output is refused before any work, a full file system or a stop
 leaves the old file whole, and no script ends with a traceback, or with status 1 where it was stopped or has a fault.
 
-Tests that want a built clap_debug, pycparser, or the right to mount a file system, are skipped by name without them. The program is what
+Tests that want a built clap_debug, or the right to mount a file system, are skipped by name without them. The program is what
 the variable CLAP_DEBUG names, or the one that is built from these sources."""
-import importlib.util
 import os
 import resource
 import shutil
@@ -22,7 +21,6 @@ from kept_files import Refused, keep, refuse_clashes, run_main
 
 TOP = os.path.dirname(os.path.dirname(os.path.realpath(__file__)))
 PROGRAM = built("clap_debug")
-HAS_PYCPARSER = importlib.util.find_spec("pycparser") is not None
 OLD = "the old file\n"
 # Scripts that become another program or have no `main`.
 OTHERS = ("tools/hint.py", "tools/run")
@@ -79,8 +77,6 @@ def clashes(roles: List[str]) -> Iterator[Tuple[int, int]]:
 class Clashes(Room):
     def test_each_script_refuses_each_clash(self) -> None:
         for script, roles in CALLS.items():
-            if script == "tools/fromc" and not HAS_PYCPARSER:
-                continue
             for number, (out, other) in enumerate(clashes(roles)):
                 how = ("name", "symbolic link", "hard link")[number % 3]
                 with self.subTest(script=script, words=roles, out=out, other=other, how=how):

@@ -5,7 +5,7 @@ more, for longer.
 
   test_native.py [TEST..]
 
-It wants an x86-64 with two processors and gcc, and skips each test by name without them; those of C files want pycparser besides. The
+It wants an x86-64 with two processors and gcc, and skips each test by name without them; those of C files want clang besides. The
 program is ./clap_debug, or what CLAP_DEBUG names. NATIVE_TOOLS may name a folder with another native_runs, as a spoilt copy, and
 NATIVE_SHORT for how many seconds what must never happen is looked for (1.5)."""
 import contextlib
@@ -332,8 +332,8 @@ class Command(Native):
         self.assertRegex(err, "^native: 1 different failures had too many events")
 
     def test_a_C_file(self) -> None:
-        if subprocess.run([f"{TOP}/tools/fromc", "--help"], stdout=subprocess.DEVNULL, stderr=subprocess.DEVNULL, check=False).returncode:
-            self.skipTest("there is no pycparser")
+        if not shutil.which("clang"):
+            self.skipTest("there is no clang")
         shutil.copy(f"{TOP}/examples/c/store_buffer.c", f"{self.room}/p.c")
         status, out, err = self.native("p.c", "p.log", "--seconds", str(PATIENCE))
         self.assertRegex(out, r"^failed 0 line 42 in run \d+, \d+ events\n$")

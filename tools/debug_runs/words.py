@@ -56,10 +56,15 @@ def parse(arguments: List[str]) -> Words:
     parser.add_argument("--quiet", action="store_true", help="print the lines of the models alone: no reasons, notes, warnings or progress")
     parser.add_argument("-D", dest="defines", action="append", default=[], metavar="NAME[=VALUE]", help="of C: define a macro")
     parser.add_argument("--left-to-right", action="store_true", help="of C: take operands from left to right where C leaves it open")
+    parser.add_argument("--wide", choices=["32", "refuse"], help="of C: compute integers of 64 bits with 32 bits, or refuse that")
+    parser.add_argument("--heap", metavar="N", help="of C: let each thread allocate N objects of each struct, else 4")
+    parser.add_argument("--reuse", action="store_true", help="of C: let a thread's allocation give what it freed last")
     given = parser.parse_args(arguments)
-    of_fromc = [f"-D{it}" for it in given.defines] + (["--left-to-right"] if given.left_to_right else [])
+    of_fromc = [f"-D{it}" for it in given.defines]
+    of_fromc += [f"--{it.replace('_', '-')}" for it in ("left_to_right", "reuse") if getattr(given, it)]
+    of_fromc += [f"--{it}={getattr(given, it)}" for it in ("wide", "heap") if getattr(given, it)]
     if of_fromc and not given.file.endswith(".c"):
-        parser.error("-D and --left-to-right go with a C file, FILE.c")
+        parser.error(f"{of_fromc[0].partition('=')[0]} goes with a C file, FILE.c")
     name = os.path.splitext(os.path.basename(given.file))[0]
     models = [it for it in MODELS if it in (given.model or MODELS)]
     return Words(given.file, models, given.seconds, given.out or f"{name}.debug", given.log, of_fromc, given.json, given.quiet)

@@ -100,7 +100,7 @@ def unguarded(program: Program) -> List[Global]:
     accesses: Set[Access] = set()
     for thread in program.threads:
         accesses |= Accesses(thread).found
-    named = {it.name: it for it in program.globals}
+    named = {it.name: it for it in program.globals if not it.is_own}
     racing = {one.name for one in accesses for other in accesses
               if one.name == other.name and (one.writes or other.writes) and not one.locks & other.locks
               and (one.thread != other.thread or counts.get(one.thread, 0) > 1)}

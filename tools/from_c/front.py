@@ -1,96 +1,116 @@
-"""From a C file to its syntax tree: gcc checks and preprocesses the file, and pycparser parses what comes out."""
+"""From a C file to clang's tree of it, in which each node has its place."""
+import json
 import os
 import re
 import subprocess
-from typing import Any, List, Optional
+from typing import Any, Dict, List, Optional, Tuple
 
-from .refusal import Place, Refusal
+from .refusal import Place, Refusal, Refusals
 
 INCLUDE = os.path.join(os.path.dirname(os.path.abspath(__file__)), "include")
 STRICT = ["implicit-function-declaration", "int-conversion", "incompatible-pointer-types", "return-type", "implicit-int"]
-# What is no C11, or a type that no header here has, and what to write in its place.
-NOT_C11 = (
-    (r"\b(__asm__|__asm|asm)\b", "it has inline assembly: use atomic_thread_fence, or an atomic access"),
-    (r"\b__attribute__\b", "leave the attribute out"),
-    (r"\bpthread_(barrier|rwlock)_t\b|\bsem_t\b", "write it with a mutex and a condition"),
-    (r"\batomic_u?(char|short|int_least\d+|int_fast\d+|intptr|intmax)(_t)?\b", "use atomic_int or atomic_uint"),
-    (r"\bpthread_spinlock_t\b", "write it with an atomic_flag"),
-)
 DIAGNOSTIC = re.compile(r"^(.+?):(\d+):(\d+): (?:fatal )?error: (.*)$", re.M)
+Json = Dict[str, Any]
 
 
-def run_gcc(words: List[str]) -> "subprocess.CompletedProcess[str]":
+def headers() -> List[str]:
+    """The headers that are known."""
+    return sorted(os.path.relpath(os.path.join(folder, name), INCLUDE) for folder, _, names in os.walk(INCLUDE) for name in names)
+
+
+def run_clang(words: List[str]) -> "subprocess.CompletedProcess[str]":
     try:
-        return subprocess.run(["gcc", "-std=gnu11", *words], capture_output=True, text=True, check=False)
+        return subprocess.run(["clang", "-std=gnu11", "-fsyntax-only", *(f"-Werror={it}" for it in STRICT), *words],
+                              capture_output=True, text=True, check=False)
     except FileNotFoundError:
-        raise Refusal(None, "there is no gcc", "install it, as by apt-get install gcc") from None
+        raise Refusal(None, "there is no clang", "install it, as by apt-get install clang") from None
 
 
-def refuse_diagnostics(text: str, advice: str) -> None:
-    found = DIAGNOSTIC.search(text)
-    if not found:
-        raise Refusal(None, "gcc refuses the file", text.strip().splitlines()[-1] if text.strip() else "it doesn't say why")
-    place = Place(found[1], int(found[2]), int(found[3]))
-    if "No such file" in found[4]:
-        known = ", ".join(sorted(name for name in os.listdir(INCLUDE)))
-        advice = f"of the system's headers only these are known: {known}"
-    raise Refusal(place, found[4], advice)
+def refuse_diagnostics(text: str) -> None:
+    faults: List[Refusal] = []
+    for file, line, column, said in DIAGNOSTIC.findall(text):
+        advice = "clang has to take the file first"
+        if "file not found" in said:
+            advice = f"of the system's headers only these are known: {', '.join(headers())}"
+        faults.append(Refusal(Place(file, int(line), int(column)), said, advice))
+    if not faults:
+        raise Refusal(None, "clang refuses the file", text.strip().splitlines()[-1] if text.strip() else "it doesn't say why")
+    raise Refusals(faults)
 
 
-def check(path: str, defines: List[str]) -> None:
-    """Refuses what the compiler refuses, so that all that is translated is C."""
-    done = run_gcc(["-fsyntax-only", *(f"-Werror={it}" for it in STRICT), *defines, path])
-    if done.returncode != 0:
-        refuse_diagnostics(done.stderr, "gcc has to take the file first")
-
-
-def preprocess(path: str, defines: List[str]) -> str:
-    done = run_gcc(["-E", "-nostdinc", "-isystem", INCLUDE, *defines, path])
-    if done.returncode != 0:
-        refuse_diagnostics(done.stderr, "gcc has to take the file first")
-    return done.stdout
-
-
-def parse(path: str, defines: List[str], is_checked: bool = False) -> Any:
-    """The syntax tree of a C file, which gcc checks before where it isn't checked yet."""
-    from pycparser import CParser
-
+def parsed(path: str, defines: List[str], is_checked: bool = False) -> Json:
+    """The tree of a C file. Clang first compiles it with the system's headers where that isn't known to succeed."""
     try:
         with open(path, encoding="utf-8") as file:
             file.read()
     except (OSError, UnicodeDecodeError) as fault:
         raise Refusal(None, f"{path} can't be read", str(getattr(fault, "strerror", None) or "it is no text in UTF-8")) from None
-    text = preprocess(path, defines)
+    done = run_clang(["-w", "-nostdinc", "-isystem", INCLUDE, *defines, "-Xclang", "-ast-dump=json", path])
+    if done.returncode:
+        refuse_diagnostics(done.stderr)
     if not is_checked:
-        check(path, defines)
-    try:
-        return CParser().parse(text, path)
-    except Exception as fault:  # each version has its own kinds of errors
-        if type(fault).__name__ not in ("ParseError",):
-            raise
-        found = re.match(r"(.+?):(\d+):(\d+): (.*)", str(fault))
-        place = Place(found[1], int(found[2]), int(found[3])) if found else None
-        advice = next((advice for words, advice in NOT_C11 if place and re.search(words, line_at(text, place))), "write it in plain C11")
-        raise Refusal(place, f"pycparser doesn't read this ({found[4] if found else fault})", advice) from None
+        checked = run_clang([*defines, path])
+        if checked.returncode:
+            refuse_diagnostics(checked.stderr)
+    tree = json.loads(done.stdout)
+    Locations(path).carry_on(tree)
+    return tree
 
 
-def line_at(text: str, place: Place) -> str:
-    """A line of a file as it was preprocessed."""
-    file, number, found = "", 0, []
-    for line in text.splitlines():
-        mark = re.match(r'# (\d+) "(.*?)"', line)
-        if mark:
-            file, number = mark[2], int(mark[1])
-            continue
-        if (file, number) == (place.file, place.line):
-            found.append(line)
-        number += 1
-    return " ".join(found)
+class Locations:
+    """Gives each location of the tree its file and line, which clang leaves out where they are those of the one before."""
+
+    def __init__(self, file: str) -> None:
+        self.file, self.line = file, 1
+
+    def carry_on(self, node: Any) -> None:
+        waiting: List[Any] = [node]
+        while waiting:
+            each = waiting.pop()
+            if isinstance(each, dict):
+                if "offset" in each:
+                    self.file, self.line = each.setdefault("file", self.file), each.setdefault("line", self.line)
+                waiting += reversed(list(each.values()))
+            elif isinstance(each, list):
+                waiting += reversed(each)
 
 
-def place_of(node: Any) -> Optional[Place]:
-    """The place of a node of the tree, where the parser keeps one."""
-    coord = getattr(node, "coord", None)
-    if coord is None or not getattr(coord, "line", 0):
-        return None
-    return Place(coord.file, coord.line, coord.column or 1)
+def place_of(location: Json) -> Optional[Place]:
+    """A location's place in the file: of an argument of a macro where it is written, else in a macro where that is used."""
+    where = location.get("expansionLoc", location)
+    if where.get("isMacroArgExpansion"):
+        where = location["spellingLoc"]
+    return Place(where["file"], where["line"], where["col"]) if "offset" in where else None
+
+
+def line_of_include(file: str, header: str) -> Optional[int]:
+    """The line of a file that includes a header, itself or by another one."""
+    with open(file, encoding="utf-8") as lines:
+        for number, line in enumerate(lines, 1):
+            found = re.match(r'\s*#\s*include\s*"(.+)"', line)
+            path = os.path.join(os.path.dirname(file), found[1]) if found else ""
+            if os.path.isfile(path) and (os.path.samefile(path, header) or line_of_include(path, header)):
+                return number
+    return None
+
+
+class Sources:
+    """The texts of a file and of what it includes."""
+
+    def __init__(self) -> None:
+        self.texts: Dict[str, bytes] = {}
+
+    def between(self, begin: Json, end: Json) -> str:
+        """The text from a token to another one, where these are written; in a macro, in its definition."""
+        first, last = begin.get("spellingLoc", begin), end.get("spellingLoc", end)
+        if not os.path.isfile(first.get("file", "")) or first["file"] != last.get("file"):
+            return ""
+        if first["file"] not in self.texts:
+            with open(first["file"], "rb") as file:
+                self.texts[first["file"]] = file.read()
+        return self.texts[first["file"]][first["offset"] : last["offset"] + last["tokLen"]].decode()
+
+
+def sides(node: Json) -> Tuple[Json, Json]:
+    """Where a node begins and ends."""
+    return node.get("range", {}).get("begin", {}), node.get("range", {}).get("end", {})

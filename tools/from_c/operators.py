@@ -5,6 +5,7 @@ from . import arithmetic
 from .arithmetic import LEAST, TESTS
 from .program import Binary, Expression, Number, Unary
 from .refusal import Place, Refusal
+from .types import WIDTHS
 
 ADVICE = "use int, or a constant power of two"
 
@@ -69,6 +70,19 @@ def binary(operator: str, left: Expression, right: Expression, unsigned: bool, p
     if unsigned and operator in ("/", "%", ">>"):
         return unsigned_part(operator, left, right, place)
     return simplified(operator, left, right)
+
+
+def converted(expression: Expression, kind: str, to: str) -> Expression:
+    """A value of a kind as one of another. A narrow one is kept as the int that it is."""
+    width, signed = WIDTHS[to]
+    mine, is_signed = WIDTHS.get(kind, (32, True))
+    if to == "bool":
+        return expression if kind == "bool" else truth(expression)
+    if width >= 32 or mine < width and (signed or not is_signed) or (mine, is_signed) == (width, signed):
+        return expression
+    if not signed:
+        return simplified("&", expression, Number((1 << width) - 1))
+    return simplified(">>", simplified("<<", expression, Number(32 - width)), Number(32 - width))
 
 
 def offset(expression: Expression) -> Expression:

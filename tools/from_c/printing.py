@@ -2,8 +2,8 @@
 from typing import List, Tuple
 
 from .arithmetic import LEAST
-from .program import (Assert, Assign, Block, Call, Cell, CompareSwap, Create, Element, Expression, If, Local, Number, Program,
-                      Statement, Swap, Thread, Unary, While)
+from .program import (Assert, Assign, Block, Call, Cell, Create, Element, Exchange, Expression, If, Local, Number, Program,
+                      Statement, Thread, Unary, While)
 from .refusal import Place
 
 LEVELS = [["||"], ["&&"], ["|"], ["^"], ["&"], ["==", "!="], ["<", "<=", ">", ">="], ["<<", ">>"], ["+", "-"], ["*", "/", "%"]]
@@ -108,10 +108,8 @@ class Printer:
     def simple(self, statement: Statement) -> str:
         if isinstance(statement, Assign):
             return f"{text_of(statement.target)} = {text_of(statement.value)};"
-        if isinstance(statement, Swap):
-            return f"{statement.target.name} = swap({statement.cell.name}, {text_of(statement.value)});"
-        if isinstance(statement, CompareSwap):
-            return f"{statement.target.name} = cas({statement.cell.name}, {text_of(statement.expected)}, {text_of(statement.value)});"
+        if isinstance(statement, Exchange):
+            return f"{statement.target.name} = {statement.name}({', '.join(map(text_of, (statement.cell, *statement.operands)))});"
         if isinstance(statement, Create):
             return f"{statement.handle} = create {statement.thread}({', '.join(map(text_of, statement.arguments))});"
         if isinstance(statement, Assert):

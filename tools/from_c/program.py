@@ -29,11 +29,12 @@ class Cell:
 
 @dataclasses.dataclass(frozen=True)
 class Element:
-    """An element of a shared array."""
+    """An element of a shared array. One that `is_own` says something of the program that the file doesn't write down."""
 
     array: str
     index: "Expression"
     atomic: bool
+    is_own: bool = False
 
 
 @dataclasses.dataclass(frozen=True)
@@ -60,23 +61,13 @@ class Assign:
 
 
 @dataclasses.dataclass(frozen=True)
-class Swap:
-    """The local takes what the shared variable held, which takes the value, in one step."""
+class Exchange:
+    """`swap`, `cas` or `add`: in one step, the local takes what a shared variable or element held, which takes another value."""
 
+    name: str
     target: Local
-    cell: Cell
-    value: Expression
-    at: Place
-
-
-@dataclasses.dataclass(frozen=True)
-class CompareSwap:
-    """The local takes what the shared variable held, which takes the value where it held what is expected, in one step."""
-
-    target: Local
-    cell: Cell
-    expected: Expression
-    value: Expression
+    cell: Union[Cell, Element]
+    operands: Tuple[Expression, ...]
     at: Place
 
 
@@ -134,7 +125,7 @@ class Leave:
     at: Place
 
 
-Statement = Union[Assign, Swap, CompareSwap, Call, Create, Assert, If, While, Labelled, Leave]
+Statement = Union[Assign, Exchange, Call, Create, Assert, If, While, Labelled, Leave]
 Block = Tuple[Statement, ...]
 
 
@@ -152,13 +143,14 @@ class Thread:
 
 @dataclasses.dataclass(frozen=True)
 class Global:
-    """A declaration of shared memory, of a mutex or of a condition. Length 0 is a single variable."""
+    """A declaration of shared memory, of a mutex or of a condition. Length 0 is a single variable. The file hasn't one that `is_own`."""
 
     kind: str
     name: str
     length: int
     value: int
     at: Place
+    is_own: bool = False
 
 
 @dataclasses.dataclass(frozen=True)
@@ -206,7 +198,7 @@ def object_of(target: Union[Local, Cell, Element]) -> Object:
         return "local", target.name, None
     if isinstance(target, Cell):
         return "shared", target.name, None
-    return "shared", target.array, target.index.value if isinstance(target.index, Number) else None
+    return "own" if target.is_own else "shared", target.array, target.index.value if isinstance(target.index, Number) else None
 
 
 def effects_of(*expressions: Expression) -> Effects:
@@ -223,10 +215,8 @@ def read_in(statement: Statement) -> Tuple[Expression, ...]:
     """The expressions that a statement evaluates, those of its blocks apart."""
     if isinstance(statement, Assign):
         return (statement.value,)
-    if isinstance(statement, Swap):
-        return (statement.value, statement.cell)
-    if isinstance(statement, CompareSwap):
-        return (statement.expected, statement.value, statement.cell)
+    if isinstance(statement, Exchange):
+        return (*statement.operands, statement.cell)
     if isinstance(statement, Create):
         return statement.arguments
     if isinstance(statement, (Assert, If, While)):
@@ -244,15 +234,27 @@ def effects_in(block: Block) -> Effects:
     found = Effects()
     for statement in block:
         found |= effects_of(*read_in(statement))
-        if isinstance(statement, (Assign, Swap, CompareSwap)):
+        if isinstance(statement, (Assign, Exchange)):
             found |= write_of(statement.target)
-        if isinstance(statement, (Swap, CompareSwap)):
+        if isinstance(statement, Exchange):
             found |= write_of(statement.cell)
         if isinstance(statement, (Call, Create)):
             found |= Effects(orders=True)
         for inner in blocks_of(statement):
             found |= effects_in(inner)
     return found
+
+
+def moved_to(block: Block, at: Place) -> Block:
+    """The statements as ones of another place."""
+    out = []
+    for statement in block:
+        if isinstance(statement, If):
+            statement = dataclasses.replace(statement, then=moved_to(statement.then, at), other=moved_to(statement.other, at))
+        elif isinstance(statement, (While, Labelled)):
+            statement = dataclasses.replace(statement, body=moved_to(statement.body, at))
+        out.append(dataclasses.replace(statement, at=at))
+    return tuple(out)
 
 
 def statements_in(block: Block) -> Iterator[Statement]:

@@ -25,6 +25,26 @@ class Refusal(Exception):
     def __str__(self) -> str:
         return f"{self.place}: {self.found}: {self.advice}" if self.place else f"{self.found}: {self.advice}"
 
+    @property
+    def all(self) -> "List[Refusal]":
+        return [self]
+
+
+class Told(Refusal):
+    """What follows from another refusal, and isn't said."""
+
+
+class Refusals(Refusal):
+    """All refusals of a file, in the order of their places."""
+
+    def __init__(self, faults: List[Refusal]) -> None:
+        self.faults = list({str(it): it for it in sorted(faults, key=lambda it: it.place or Place("", 0, 0))}.values())
+        super().__init__(self.faults[0].place, self.faults[0].found, self.faults[0].advice)
+
+    @property
+    def all(self) -> List[Refusal]:
+        return self.faults
+
 
 class Notes:
     """Warnings: each kind once, with what it is about in the order in which it was found."""

@@ -1,12 +1,13 @@
 """Where C's variables are: which names of the program hold the parts of a variable, and what an lvalue leads to."""
 import dataclasses
 import math
-from typing import Container, Dict, Iterator, List, Optional, Set, Tuple, Union
+from typing import Container, Dict, Iterator, List, Optional, Tuple, Union
 
+from . import tree
 from .operators import simplified
 from .program import Expression, Number
-from .refusal import Place
-from .types import Array, Handle, Int, Struct, Type, scalars_of
+from .refusal import Place, Refusal, Told
+from .types import Array, Dims, Fields, Handle, Int, Struct, Type, scalars_of
 
 KEYWORDS = frozenset("int mutex cond thread main tid if else while create join lock unlock wait signal broadcast fence assert swap cas "
                      "stbar".split())
@@ -32,13 +33,19 @@ class Names:
 
 @dataclasses.dataclass(eq=False)
 class Variable:
-    """A variable of C: shared memory, or a thread's own. A constant one has a value and no memory."""
+    """A variable of C: shared memory, or a thread's own. A constant one has a value and no memory. `objects` are its parts that are
+    numbered: by the fields that lead to them, the array of all such objects, the number of the first one here, and the lengths of the
+    arrays on the way."""
 
     name: str
     type: Type
     shared: bool
     at: Place
     value: Optional[int] = None
+    objects: "Dict[Fields, Tuple[Variable, Expression, Dims]]" = dataclasses.field(default_factory=dict)
+
+    def has_numbered(self, fields: Fields) -> bool:
+        return any(fields[: len(it)] == it for it in self.objects)
 
 
 @dataclasses.dataclass(frozen=True)
@@ -98,27 +105,24 @@ Target = Union[Single, Indexed, Choice]
 Part = Tuple[Variable, Tuple[str, ...]]
 
 
-def key_of(variable: Variable, fields: Tuple[str, ...]) -> Tuple[str, int, Tuple[str, ...]]:
-    """A name for a part of a variable, the same in one translation and the next."""
-    return variable.name, variable.at.line, fields
-
-
 class Storage:
-    """The names of the parts of variables. An array is one of the program's where it is shared and nothing exchanges with its
-    elements; else its elements are variables each. `apart` are the parts of which that was found before."""
+    """The names of the parts of variables. An array of numbers is one of the program's where it is shared; the elements of other
+    arrays are variables each."""
 
-    def __init__(self, names: Names, apart: Set[Tuple[str, int, Tuple[str, ...]]]) -> None:
-        self.names, self.apart = names, apart
+    def __init__(self, names: Names) -> None:
+        self.names = names
         self.found: Dict[Part, Tuple[Tuple[int, ...], Type, Tuple[str, ...]]] = {}
 
     def declare(self, variable: Variable, ints: Container[str] = ()) -> List[Tuple[str, Type, int]]:
         """The names of a variable's parts, with their types, and the length of an array or 0. A thread isn't named as an int was."""
         made = []
         for fields, dims, type_ in scalars_of(variable.type):
+            if variable.has_numbered(fields):
+                continue
             base = "_".join((variable.name, *fields))
             size = math.prod(dims)
             others = ints if isinstance(type_, Handle) else ()
-            whole = variable.shared and isinstance(type_, Int) and key_of(variable, fields) not in self.apart
+            whole = variable.shared and isinstance(type_, Int)
             if not dims or whole:
                 names: Tuple[str, ...] = (self.names.fresh(base, others),)
             else:
@@ -128,13 +132,27 @@ class Storage:
         return made
 
     def target(self, ref: Ref) -> Target:
+        ref = placed(ref)
+        if (ref.variable, ref.fields) not in self.found:
+            raise Told(ref.variable.at, f"{ref.variable.name}, which was refused", "see there")
         dims, type_, names = self.found[ref.variable, ref.fields]
         if not dims:
             return Single(names[0])
         index = flat(dims, ref.indexes)
-        if ref.variable.shared and isinstance(type_, Int) and len(names) == 1 and key_of(ref.variable, ref.fields) not in self.apart:
+        if ref.variable.shared and isinstance(type_, Int):
             return Indexed(names[0], index)
         return Single(names[index.value]) if isinstance(index, Number) else Choice(names, index)
+
+
+def placed(ref: Ref) -> Ref:
+    """The same lvalue by the number of its object, where it is one or a part of one."""
+    for prefix, (every, first, dims) in ref.variable.objects.items():
+        if ref.fields[: len(prefix)] == prefix and len(ref.indexes) >= len(dims):
+            index = flat(dims, ref.indexes[: len(dims)])
+            number = simplified("+", first, index) if index != Number(0) else first
+            indexes = (number, *ref.indexes[len(dims) :])
+            return placed(dataclasses.replace(ref, variable=every, fields=ref.fields[len(prefix) :], indexes=indexes))
+    return ref
 
 
 def flat(dims: Tuple[int, ...], indexes: Tuple[Expression, ...]) -> Expression:
@@ -144,3 +162,28 @@ def flat(dims: Tuple[int, ...], indexes: Tuple[Expression, ...]) -> Expression:
         scaled = Number(0) if place == Number(0) else simplified("*", place, Number(dim))
         place = index if scaled == Number(0) else simplified("+", scaled, index)
     return place
+
+
+def bare(node: Optional[tree.Expr]) -> Optional[tree.Expr]:
+    """The first value of a number without the braces that may be around it."""
+    while isinstance(node, tree.Listed):
+        node = node.parts[0] if node.parts else None
+    return node
+
+
+def first_values(ref: Ref, node: Optional[tree.Expr]) -> Iterator[Tuple[Ref, Optional[tree.Expr]]]:
+    """The numbers of a variable, each with what it begins with, or None."""
+    if isinstance(ref.type, Handle):
+        return
+    if not isinstance(ref.type, (Struct, Array)):
+        yield ref, bare(node)
+        return
+    if node is not None and not isinstance(node, tree.Listed):
+        raise Refusal(node.at, "a first value that is a struct or a text", "write its parts in braces")
+    parts = node.parts if node is not None else ()
+    if isinstance(ref.type, Struct):
+        inner = [ref.field(name) for name, _ in ref.type.fields]
+    else:
+        inner = [ref.element(Number(index)) for index in range(ref.type.length)]
+    for number, each in enumerate(inner):
+        yield from first_values(each, parts[number] if number < len(parts) else None)

@@ -1,19 +1,32 @@
-"""The C types that have a translation, and how a declaration is read as one."""
+"""The C types that have a translation, and how clang spells them."""
 import dataclasses
-from typing import Any, Callable, Dict, Iterator, Optional, Tuple, Union
+import re
+from typing import Container, Dict, Iterator, List, Optional, Tuple, Union
 
-from .front import INCLUDE
 from .refusal import Place, Refusal
+
+# The widths of numbers in bits, and whether they have a sign.
+WIDTHS = {
+    "bool": (1, False), "signed char": (8, True), "unsigned char": (8, False), "short": (16, True), "unsigned short": (16, False),
+    "int": (32, True), "unsigned": (32, False), "long": (64, True), "unsigned long": (64, False), "address": (32, False),
+}
+HANDLES = {
+    "pthread_t": ("thread", 8), "thrd_t": ("thread", 8),
+    "pthread_mutex_t": ("mutex", 40), "mtx_t": ("mutex", 40), "pthread_spinlock_t": ("mutex", 40),
+    "pthread_cond_t": ("condition", 48), "cnd_t": ("condition", 48),
+}
+POINTER_SIZE = 8
 
 
 @dataclasses.dataclass(frozen=True)
 class Int:
-    """int, unsigned or bool. `wide` carries a pointer or an int through a cast, and nothing is computed with it."""
+    """A number of one of the kinds of WIDTHS. An address is the number of an object of a struct, as a pointer."""
 
     kind: str
     atomic: bool = False
     constant: bool = False
     volatile: bool = False
+    to: Optional["Struct"] = None
 
 
 @dataclasses.dataclass(frozen=True)
@@ -29,10 +42,13 @@ class Array:
     element: "Type"
 
 
-@dataclasses.dataclass(frozen=True)
+@dataclasses.dataclass(eq=False)
 class Struct:
+    """A struct. Its fields are filled in once they are known, since one may point to it."""
+
     name: str
-    fields: Tuple[Tuple[str, "Type"], ...]
+    fields: Tuple[Tuple[str, "Type"], ...] = ()
+    at: Place = Place("", 1, 1)
 
     def field(self, name: str) -> "Type":
         return dict(self.fields)[name]
@@ -41,6 +57,12 @@ class Struct:
 @dataclasses.dataclass(frozen=True)
 class Pointer:
     to: "Type"
+    atomic: bool = False
+
+
+@dataclasses.dataclass(frozen=True)
+class FunctionType:
+    result: "Type"
 
 
 @dataclasses.dataclass(frozen=True)
@@ -48,22 +70,14 @@ class Void:
     pass
 
 
-Type = Union[Int, Handle, Array, Struct, Pointer, Void]
-
-INT = Int("int")
-HANDLES = {
-    "pthread_t": "thread", "thrd_t": "thread",
-    "pthread_mutex_t": "mutex", "mtx_t": "mutex",
-    "pthread_cond_t": "condition", "cnd_t": "condition",
-}
-SCALARS = {
-    ("int",): "int", ("signed",): "int", ("int", "signed"): "int",
-    ("unsigned",): "unsigned", ("int", "unsigned"): "unsigned", ("_Bool",): "bool",
-}
-
-
+Type = Union[Int, Handle, Array, Struct, Pointer, FunctionType, Void]
 Fields = Tuple[str, ...]
 Dims = Tuple[int, ...]
+
+
+def is_unsigned(kind: str) -> bool:
+    """Whether arithmetic of this kind is that of unsigned. Narrower kinds are promoted first."""
+    return kind in ("unsigned", "unsigned long")
 
 
 def scalars_of(type_: Type, fields: Fields = (), dims: Dims = ()) -> Iterator[Tuple[Fields, Dims, Type]]:
@@ -78,101 +92,201 @@ def scalars_of(type_: Type, fields: Fields = (), dims: Dims = ()) -> Iterator[Tu
         yield fields, dims, type_
 
 
-class Types:
-    """The names of types that a file declares. `constant` evaluates a constant expression, and `place` finds a node's place."""
+def dims_of(type_: Type, fields: Fields) -> Dims:
+    """The lengths of the arrays on the way to a part."""
+    found: List[int] = []
+    while isinstance(type_, Array) or fields and isinstance(type_, Struct):
+        if isinstance(type_, Array):
+            found.append(type_.length)
+            type_ = type_.element
+        else:
+            type_, fields = type_.field(fields[0]), fields[1:]
+    return tuple(found)
 
-    def __init__(self, c_ast: Any, constant: Callable[[Any], int], place: Callable[[Any], Optional[Place]]) -> None:
-        self.c_ast, self.constant, self.place = c_ast, constant, place
-        self.typedefs: Dict[str, Any] = {}
-        self.structs: Dict[str, Struct] = {}
-        self.enums: Dict[str, str] = {}
-        self.enumerators: Dict[str, int] = {}
 
-    def of(self, node: Any) -> Type:
-        """The type that a declarator has."""
-        c_ast = self.c_ast
-        if isinstance(node, (c_ast.TypeDecl, c_ast.Typename)):
-            return self.qualified(self.of(node.type), node.quals or [], node)
-        if isinstance(node, c_ast.ArrayDecl):
-            return self.array(node)
-        if isinstance(node, c_ast.PtrDecl):
-            if isinstance(node.type, c_ast.FuncDecl):
-                raise Refusal(self.place(node), "a pointer to a function", "call the function by its name")
-            return Pointer(self.of(node.type))
-        if isinstance(node, c_ast.Struct):
-            return self.struct(node)
-        if isinstance(node, c_ast.Enum):
-            return Int(self.enum(node))
-        if isinstance(node, c_ast.IdentifierType):
-            return self.named(node)
-        if isinstance(node, c_ast.Union):
-            raise Refusal(self.place(node), "a union", "use a struct, or one variable for each use")
-        raise Refusal(self.place(node), f"a type of the kind {type(node).__name__}", "use int, unsigned, bool, arrays and structs")
+def structs_within(type_: Type, wanted: Container["Struct"], fields: Fields = (), dims: Dims = ()) -> Iterator[Tuple[Fields, Dims, Struct]]:
+    """The parts of a variable that are some structs, the outermost ones."""
+    if isinstance(type_, Array):
+        yield from structs_within(type_.element, wanted, fields, (*dims, type_.length))
+    elif isinstance(type_, Struct) and type_ in wanted:
+        yield fields, dims, type_
+    elif isinstance(type_, Struct):
+        for name, inner in type_.fields:
+            yield from structs_within(inner, wanted, (*fields, name), dims)
 
-    def qualified(self, type_: Type, quals: Any, node: Any) -> Type:
+
+def layout(type_: Type) -> Tuple[int, int]:
+    """The size and the alignment of a type, in bytes."""
+    if isinstance(type_, Int):
+        size = POINTER_SIZE if type_.to else max(1, WIDTHS[type_.kind][0] // 8)
+        return size, size
+    if isinstance(type_, Array):
+        size, align = layout(type_.element)
+        return size * type_.length, align
+    if isinstance(type_, Struct):
+        end = most = 0
+        for _, field in type_.fields:
+            size, align = layout(field)
+            end, most = (end + align - 1) // align * align + size, max(most, align)
+        return (end + most - 1) // most * most if most else 0, max(most, 1)
+    if isinstance(type_, Handle):
+        return next(size for kind, size in HANDLES.values() if kind == type_.kind), POINTER_SIZE
+    return (POINTER_SIZE, POINTER_SIZE) if isinstance(type_, Pointer) else (1, 1)
+
+
+TOKEN = re.compile(r"\s*((?:struct |union |enum )?\((?:unnamed|anonymous)[^()]* at [^()]*\)|(?:struct|union|enum) \w+|\w+|[*()\[\],.]+?)")
+UNNAMED = re.compile(r"\(\S+.* at (.*)\)")
+ADVICE = "use integers, bool, arrays and structs of them"
+# C's own types of numbers as clang spells them.
+NUMBERS = {
+    "_Bool": "bool", "char": "signed char", "signed char": "signed char", "unsigned char": "unsigned char", "short": "short",
+    "unsigned short": "unsigned short", "int": "int", "unsigned int": "unsigned", "long": "long", "unsigned long": "unsigned long",
+    "long long": "long", "unsigned long long": "unsigned long",
+}
+OWN = {"void", "char", "short", "int", "long", "signed", "unsigned", "_Bool", "float", "double", "_Complex", "__int128"}
+QUALIFIERS = {"const", "volatile", "restrict", "_Atomic"}
+
+
+class Scope:
+    """The types that have a name in some part of a file: typedefs by theirs, structs and enumerations with the word before it."""
+
+    def __init__(self, around: Optional["Scope"] = None) -> None:
+        self.around = around
+        self.types: Dict[str, Union[Type, Refusal]] = {}
+
+    def find(self, name: str) -> Optional[Type]:
+        """The type of a name. One that has no translation is refused where it is used."""
+        found = self.types.get(name)
+        if isinstance(found, Refusal):
+            raise found
+        return found or (self.around.find(name) if self.around else None)
+
+    def later(self, name: str) -> Struct:
+        """A struct of which only the name is known yet."""
+        if self.around:
+            return self.around.later(name)
+        made = self.types[name] = Struct(name.partition(" ")[2])
+        return made
+
+    def parse(self, text: str, at: Place) -> Type:
+        """The type that clang spells so."""
+        return Spelling(text, self, at).whole()
+
+
+class Spelling:
+    """A type's text while it is read. A declarator is the function that makes the type of the one of what it declares."""
+
+    def __init__(self, text: str, scope: Scope, at: Place) -> None:
+        self.text, self.scope, self.at = text, scope, at
+        self.tokens: List[str] = [it[1] for it in TOKEN.finditer(text)]
+
+    def refused(self, advice: str = ADVICE) -> Refusal:
+        return Refusal(self.at, f"the type {self.text}", advice)
+
+    def next(self) -> str:
+        return self.tokens[0] if self.tokens else ""
+
+    def take(self, token: str) -> bool:
+        if self.next() != token:
+            return False
+        del self.tokens[0]
+        return True
+
+    def whole(self) -> Type:
+        made = self.declared(self.specifiers())
+        if self.tokens and self.next() != ")":
+            raise self.refused()
+        return made
+
+    def specifiers(self) -> Type:
+        words: List[str] = []
+        quals: List[str] = []
+        found: Optional[Type] = None
+        while self.tokens:
+            token = self.next()
+            if token in QUALIFIERS:
+                del self.tokens[0]
+                quals.append(token)
+                if token == "_Atomic" and self.take("("):
+                    found = self.whole()
+                    self.take(")")
+            elif token in OWN:
+                words.append(self.tokens.pop(0))
+            elif re.match(r"\w|\(.*\)", token) and not found and not words:
+                found = self.named(self.tokens.pop(0))
+            else:
+                break
+        return self.qualified(found or self.own(words), quals)
+
+    def own(self, words: List[str]) -> Type:
+        if words == ["void"]:
+            return Void()
+        if " ".join(words) not in NUMBERS:
+            raise self.refused()
+        return Int(NUMBERS[" ".join(words)])
+
+    def named(self, token: str) -> Type:
+        if token in HANDLES:
+            return Handle(HANDLES[token][0])
+        unnamed = UNNAMED.search(token)
+        found = self.scope.find(unnamed[1] if unnamed else token)
+        if found is None and token == "bool":  # so clang spells _Bool where a macro has that name
+            return Int("bool")
+        if found is None and token.startswith("union"):
+            raise Refusal(self.at, "a union", "use a struct, or one variable for each use")
+        if found is None and token.startswith("struct"):
+            return self.scope.later(token)
+        if found is None:
+            raise self.refused()
+        return found
+
+    def qualified(self, type_: Type, quals: List[str]) -> Type:
         if isinstance(type_, Int):
             return dataclasses.replace(type_, atomic=type_.atomic or "_Atomic" in quals, constant=type_.constant or "const" in quals,
                                        volatile=type_.volatile or "volatile" in quals)
+        if isinstance(type_, Pointer):
+            return dataclasses.replace(type_, atomic=type_.atomic or "_Atomic" in quals)
+        if isinstance(type_, Array):
+            return dataclasses.replace(type_, element=self.qualified(type_.element, quals))
         if "_Atomic" in quals:
-            raise Refusal(self.place(node), "_Atomic of something that isn't a number", "make its fields or elements _Atomic")
+            raise Refusal(self.at, "_Atomic of something that isn't a number", "make its fields or elements _Atomic")
         return type_
 
-    def named(self, node: Any) -> Type:
-        names = tuple(sorted(node.names))
-        if len(names) == 1 and names[0] in HANDLES:
-            return Handle(HANDLES[names[0]])
-        if len(names) == 1 and names[0] in self.typedefs:
-            try:
-                return self.of(self.typedefs[names[0]])
-            except Refusal as fault:
-                if fault.place and fault.place.file.startswith(INCLUDE):  # such as uint8_t, whose place tells the reader nothing
-                    raise Refusal(self.place(node), f"the type {names[0]}", fault.advice) from None
-                raise
-        if names in SCALARS:
-            return Int(SCALARS[names])
-        if names == ("void",):
-            return Void()
-        if "long" in names and not {"double", "_Complex"} & set(names):
-            return Int("wide")
-        raise Refusal(self.place(node), f"the type {' '.join(node.names)}", "use int, unsigned or bool")
+    def declared(self, type_: Type) -> Type:
+        """The type that a declarator without a name makes of a type."""
+        while self.take("*"):
+            type_ = Pointer(type_)
+            quals = []
+            while self.next() in QUALIFIERS:
+                quals.append(self.tokens.pop(0))
+            type_ = self.qualified(type_, quals)
+        inner: Optional[List[str]] = None
+        if self.next() == "(" and self.tokens[1:2] == ["*"]:
+            inner = self.bracketed()
+        if self.next() == "(":
+            self.bracketed()
+            type_ = FunctionType(type_)
+        lengths: List[str] = []
+        while self.take("["):
+            lengths.append(self.tokens.pop(0) if self.next() != "]" else "0")
+            if not lengths[-1].isdigit() or not self.take("]"):
+                raise Refusal(self.at, "an array whose length isn't constant", "give it a constant length")
+        for length in reversed(lengths):
+            type_ = Array(int(length), type_)
+        if inner is None:
+            return type_
+        outer, self.tokens = self.tokens, inner
+        made = self.declared(type_)
+        self.tokens = outer
+        return made
 
-    def array(self, node: Any) -> Type:
-        if node.dim is None:
-            return Array(0, self.of(node.type))
-        length = self.constant(node.dim)
-        if length < 1:
-            raise Refusal(self.place(node), f"an array of length {length}", "an array has at least one element")
-        return Array(length, self.of(node.type))
-
-    def struct(self, node: Any) -> Struct:
-        if node.decls is not None:
-            fields = []
-            for field in node.decls:
-                if getattr(field, "bitsize", None) is not None:
-                    raise Refusal(self.place(field), "a bit-field", "use an int of its own")
-                if field.name is None:
-                    raise Refusal(self.place(field), "a struct or union without a name inside another", "name the field")
-                fields.append((field.name, self.of(field.type)))
-            made = Struct(node.name or "", tuple(fields))
-            if node.name:
-                self.structs[node.name] = made
-            return made
-        if node.name not in self.structs:
-            raise Refusal(self.place(node), f"struct {node.name} before its fields are known",
-                          "link nodes by their indexes in an array, an int in place of a pointer")
-        return self.structs[node.name]
-
-    def enum(self, node: Any) -> str:
-        """The kind that gcc gives an enumeration: unsigned where no constant is negative."""
-        if node.values is None:
-            return self.enums.get(node.name, "unsigned")
-        following, least = 0, 0
-        for each in node.values.enumerators:
-            following = self.constant(each.value) if each.value is not None else following
-            self.enumerators[each.name] = following
-            least = min(least, following)
-            following += 1
-        kind = "int" if least < 0 else "unsigned"
-        if node.name:
-            self.enums[node.name] = kind
-        return kind
+    def bracketed(self) -> List[str]:
+        """Takes what is between two brackets."""
+        depth, found = 0, []
+        while self.tokens:
+            token = self.tokens.pop(0)
+            depth += (token == "(") - (token == ")")
+            found.append(token)
+            if depth == 0:
+                return found[1:-1]
+        raise self.refused()

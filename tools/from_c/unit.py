@@ -1,43 +1,45 @@
 """A whole C file: its globals and functions, and the threads that its program has."""
+import contextlib
 import dataclasses
-from typing import Any, Dict, Iterator, List, Optional, Set, Tuple, Union
+import math
+from typing import Any, Dict, Iterator, List, Optional, Set, Tuple
 
+from . import tree
 from .arithmetic import LEAST
-from .body import Apart, Body, Frame
-from .constants import Constants
-from .front import place_of
+from .body import Body, Frame
 from .leaving import Leaving
+from .objects import Objects, Sizes, is_allocation, needed, number
 from .program import (Assign, Block, Cell, Element, Expression, Global, Labelled, Local, Number, Program, Statement, Thread,
                       expressions_of, read_in, statements_in)
-from .refusal import Notes, Place, Refusal
+from .refusal import Notes, Place, Refusal, Refusals, Told
 from .statements import Statements
-from .storage import Indexed, Names, Ref, Single, Storage, Variable, key_of
+from .storage import Indexed, Names, Ref, Single, Storage, Variable, bare, first_values, placed
 from .tidying import tidied
-from .types import Array, Handle, Int, Pointer, Struct, Type, Types, Void
+from .types import WIDTHS, Array, Dims, Fields, Handle, Int, Pointer, Struct, Type, Void, structs_within
 from .values import NULL, Value
 
 ADVICE = {
-    "malloc": "use a file-scope array, and indexes in place of pointers",
-    "calloc": "use a file-scope array, and indexes in place of pointers",
-    "free": "keep the element, or a list of free indexes", "exit": "return from main, or abort() where that is a failure",
-    "pthread_once": "use a mutex and an int", "call_once": "use a mutex and an int",
+    "realloc": "allocate a struct of its own for each object", "exit": "return from main, or abort() where that is a failure",
 }
 FAMILIES = (
-    ("pthread_rwlock_", "write it with a mutex and a condition"), ("pthread_barrier_", "write it with a mutex and a condition"),
-    ("sem_", "write it with a mutex and a condition"), ("pthread_spin_", "write it with an atomic_flag"),
+    ("pthread_spin_try", "use lock and unlock; a try is an atomic int and a compare-exchange"),
     ("pthread_mutex_", "use lock and unlock; a try is an atomic int and a compare-exchange"),
     ("mtx_", "use mtx_lock and mtx_unlock; a try is an atomic int and a compare-exchange"),
     ("pthread_cond_timed", "wait without a time"), ("cnd_timed", "wait without a time"),
-    ("__atomic_", "use <stdatomic.h>"), ("__sync_", "use <stdatomic.h>"), ("atomic_", "use a load, a store, an exchange or a fetch"),
+    ("__atomic_", "use a load, a store, an exchange or a fetch"), ("__sync_", "use a load, a store, an exchange or a fetch"),
 )
 
 
 @dataclasses.dataclass(frozen=True)
 class Options:
-    """For which memory model barriers are wanted, for all where it is None; and whether operands are taken from left to right."""
+    """For which memory model barriers are wanted, for all where it is None; whether operands are taken from left to right; and whether
+    arithmetic of 64 bits is refused; how many objects of each struct a thread may allocate, and whether it gets freed ones again."""
 
     model: Optional[str] = None
     left_to_right: bool = False
+    refuse_wide: bool = False
+    heap: int = 4
+    reuse: bool = False
 
 
 @dataclasses.dataclass(frozen=True)
@@ -50,52 +52,103 @@ class Start:
 
 
 class Unit:
-    """The translation of a file. `apart` are the arrays whose elements are variables each."""
+    """The translation of a file."""
 
-    def __init__(self, tree: Any, c_ast: Any, options: Options, apart: Set[Tuple[str, int, Tuple[str, ...]]]) -> None:
-        self.c_ast, self.options, self.notes = c_ast, options, Notes()
+    def __init__(self, file: tree.File, options: Options, structs: List[Struct], sizes: Dict[Struct, Sizes]) -> None:
+        self.file, self.options, self.notes = file, options, Notes()
         self.names = Names()
         self.names.taken.discard("main")
-        self.storage = Storage(self.names, apart)
-        self.constants = Constants(c_ast, self.named_constant, self.kind_of, self.place)
-        self.types = Types(c_ast, self.constants.value, self.place)
-        self.globals: Dict[str, Union[Variable, Value]] = {}
-        self.functions: Dict[str, Any] = {}
+        self.storage = Storage(self.names)
+        self.globals: Dict[tree.Declared, Variable] = {}
         self.declared: List[Global] = []
         self.first: List[Statement] = []
-        self.statics: Dict[int, Variable] = {}
         self.starts: Dict[Tuple[Any, ...], Tuple[str, Start]] = {}
         self.claims: Dict[str, Body] = {}
         self.labels = 0
-        self.last = Place("", 1, 1)
-        for node in tree.ext:
-            self.declaration(node)
+        self.results = self.names.fresh("results") if wants_results(file) else ""
+        self.slots: Dict[Tuple[Body, str], int] = {}
+        self.futex: Tuple[str, ...] = ()
+        self.refusals = list(file.faults)
+        self.constants = Statements(self)
+        self.objects: Dict[Struct, Objects] = {}
+        allocated = {struct for function in file.functions.values() for node in tree.walk(function.body) for struct in kept_in(node)}
+        self.exposed = given_to_threads(file)
+        for struct in structs:
+            self.objects[struct] = self.numbered(struct, sizes.get(struct, Sizes()), struct in allocated)
+        for objects in self.objects.values():
+            with self.refusing():
+                self.declare_objects(objects)
+        for each in file.variables:
+            with self.refusing():
+                if each.storage == "extern" and each.init is None:
+                    raise Refusal(each.at, f"{each.name}, which another file has", "define it in this file")
+                if not each.per_thread:
+                    self.shared(each.name, each, each.init)
+
+    def numbered(self, struct: Struct, sizes: Sizes, allocates: bool) -> Objects:
+        """The array of all objects of a struct."""
+        name = struct.name or "object"
+        variable = Variable(name, Array(sizes.total + 1, struct), True, struct.at)
+        return Objects(struct, variable, sizes, allocates, self.names.fresh(f"{name}_given"), self.names.fresh(f"{name}_freed"))
+
+    def declare_objects(self, made: Objects) -> None:
+        struct, sizes, variable = made.struct, made.sizes, made.variable
+        self.refuse_type(variable.name, struct, struct.at)
+        for name, field in struct.fields:
+            self.number_parts(variable, field, (name,), (sizes.total + 1,))
+        for part, part_type, length in self.storage.declare(variable):
+            if isinstance(part_type, Int):
+                self.declared.append(Global("int", part, length, 0, struct.at))
+            elif part_type in (Handle("mutex"), Handle("condition")):
+                self.declared.append(Global("mutex" if part_type == Handle("mutex") else "cond", part, 0, 0, struct.at))
+        if sizes.total > sizes.statics + sizes.main:
+            self.declared.append(Global("int", made.given, 0, sizes.statics + sizes.main + 1, struct.at, True))
+        if sizes.frees:
+            self.declared.append(Global("int", made.freed, sizes.total + 1, 0, struct.at, True))
+
+    def futexes(self, at: Place) -> Tuple[str, str]:
+        """The mutex and the condition of all futexes."""
+        if not self.futex:
+            self.futex = (self.names.fresh("futex_guard"), self.names.fresh("futex_waiters"))
+            self.declared += [Global(kind, name, 0, 0, at, True) for kind, name in zip(("mutex", "cond"), self.futex)]
+        self.notes.add("a wake of futexes wakes all threads that wait, at whichever address", at)
+        return self.futex[0], self.futex[1]
+
+    def number_parts(self, variable: Variable, type_: Type, fields: Fields = (), dims: Dims = ()) -> None:
+        """Gives numbers to the parts of a variable to which pointers are kept."""
+        for path, lengths, struct in structs_within(type_, self.objects, fields, dims):
+            objects = self.objects[struct]
+            variable.objects[path] = (objects.variable, Number(objects.statics + 1), lengths)
+            objects.statics += math.prod(lengths)
+
+    def objects_of(self, type_: Type) -> Optional[Objects]:
+        """The objects that a variable of this type is, one or an array of them."""
+        while isinstance(type_, Array):
+            type_ = type_.element
+        return self.objects.get(type_) if isinstance(type_, Struct) else None
+
+    @contextlib.contextmanager
+    def refusing(self) -> Iterator[None]:
+        """Keeps a refusal, so that what comes next may be refused too."""
+        try:
+            yield
+        except Refusal as fault:
+            self.refusals += [] if isinstance(fault, Told) else [fault]
 
     # Names.
-
-    def place(self, node: Any) -> Optional[Place]:
-        found = place_of(node)
-        if found:
-            self.last = found
-        return found or self.last
 
     def label(self) -> int:
         self.labels += 1
         return self.labels
 
-    def named_constant(self, name: str) -> Optional[Tuple[int, bool]]:
-        if name in self.types.enumerators:
-            return self.types.enumerators[name], False
-        found = self.globals.get(name)
-        if isinstance(found, Variable) and found.value is not None and isinstance(found.type, Int):
-            return found.value, found.type.kind == "unsigned"
-        return None
-
-    def kind_of(self, node: Any) -> str:
-        type_ = self.types.of(node)
-        if not isinstance(type_, Int):
-            raise Refusal(self.place(node), "a cast of a constant to what is no number", "write the number")
-        return type_.kind
+    def constant(self, node: tree.Expr, kind: str = "int") -> int:
+        """The value of a constant expression."""
+        value = self.constants.value(node)
+        if value.kind in ("pointer", "null"):
+            value = self.constants.converted(value, kind, node.at)
+        if value.before or not isinstance(value.expression, Number) or value.kind not in WIDTHS:
+            raise Refusal(node.at, "something that isn't constant, where a constant is wanted", "write a number or a constant of an enum")
+        return value.expression.value
 
     def advice_on(self, name: str) -> str:
         for family, advice in FAMILIES:
@@ -105,34 +158,11 @@ class Unit:
 
     # Declarations.
 
-    def declaration(self, node: Any) -> None:
-        c_ast, at = self.c_ast, self.place(node) or self.last
-        if isinstance(node, c_ast.Typedef):
-            self.types.typedefs[node.name] = node.type
-            if isinstance(node.type, c_ast.TypeDecl) and isinstance(node.type.type, (c_ast.Enum, c_ast.Struct)):
-                self.types.of(node.type)
-        elif isinstance(node, c_ast.FuncDef):
-            if node.param_decls:
-                raise Refusal(at, "parameters that are declared behind their list", "declare them in the list")
-            self.functions[node.decl.name] = node
-        elif isinstance(node, c_ast.Decl):
-            self.global_declaration(node, at)
-        elif not isinstance(node, (c_ast.Pragma, getattr(c_ast, "StaticAssert", c_ast.Pragma))):
-            raise Refusal(at, f"{type(node).__name__} at file scope", "declare variables and functions")
-
-    def global_declaration(self, node: Any, at: Place) -> None:
-        if isinstance(node.type, self.c_ast.FuncDecl):
-            return
-        type_ = self.types.of(node.type)
-        if node.name is None or node.name in self.globals and node.init is None:
-            return
-        if "extern" in node.storage:
-            raise Refusal(at, f"{node.name}, which another file has", "define it in this file")
-        self.globals[node.name] = self.shared(node.name, type_, node, at)
-
-    def refuse_storage(self, node: Any, at: Place) -> None:
-        if "_Thread_local" in node.storage or "__thread" in node.storage:
-            raise Refusal(at, f"{node.name}, which each thread has for itself", "declare it in the thread's function")
+    def note_wide(self, at: Place) -> None:
+        """Arithmetic of 64 bits is done with 32."""
+        if self.options.refuse_wide:
+            raise Refusal(at, "arithmetic of 64 bits", "use int or unsigned, or leave --wide=refuse out")
+        self.notes.add("integers of 64 bits are computed with the 32 lowest", at)
 
     def note_volatile(self, type_: Type, at: Place) -> None:
         while isinstance(type_, Array):
@@ -140,33 +170,19 @@ class Unit:
         if isinstance(type_, Int) and type_.volatile:
             self.notes.add("volatile orders nothing and makes nothing atomic", at)
 
-    def sized(self, type_: Type, node: Any, at: Place) -> Type:
-        """The type, with the length that the first values give an array without one."""
-        if isinstance(type_, Array) and type_.length == 0:
-            if not isinstance(node.init, self.c_ast.InitList):
-                raise Refusal(at, f"the array {node.name} without a length", "write its length")
-            length = max([self.position(each, number) for number, each in enumerate(node.init.exprs)], default=-1) + 1
-            return dataclasses.replace(type_, length=length)
-        return type_
-
-    def position(self, node: Any, number: int) -> int:
-        return self.constants.value(node.name[0]) if isinstance(node, self.c_ast.NamedInitializer) else number
-
-    def static(self, name: str, type_: Type, node: Any, at: Place) -> Variable:
-        """A static variable of a function, which there is once."""
-        if id(node) not in self.statics:
-            self.statics[id(node)] = self.shared(name, type_, node, at)
-        return self.statics[id(node)]
-
-    def shared(self, name: str, type_: Type, node: Any, at: Place) -> Variable:
-        """A variable of shared memory, with its first values."""
-        self.refuse_storage(node, at)
-        type_ = self.sized(type_, node, at)
+    def shared(self, name: str, declared: tree.Declared, init: Optional[tree.Expr]) -> Variable:
+        """A variable of shared memory, which there is once, with its first values."""
+        if declared in self.globals:
+            return self.globals[declared]
+        type_, at = declared.type, declared.at
         self.refuse_type(name, type_, at)
         self.note_volatile(type_, at)
-        if isinstance(type_, Int) and type_.constant and not type_.atomic and not type_.volatile:
-            return Variable(name, type_, True, at, self.constants.value(node.init) if node.init is not None else 0)
         variable = Variable(name, type_, True, at)
+        self.number_parts(variable, type_)
+        if isinstance(type_, Int) and type_.constant and not type_.atomic and not type_.volatile and declared not in self.exposed:
+            variable.value = self.first_value(bare(init))
+            self.globals[declared] = variable
+            return variable
         kinds = {"mutex": "mutex", "condition": "cond"}
         made = {}
         for part, part_type, length in self.storage.declare(variable):
@@ -175,28 +191,30 @@ class Unit:
                     made[part] = Global(kinds[part_type.kind], part, 0, 0, at)
             else:
                 made[part] = Global("int", part, length, 0, at)
-        if node.init is not None:
-            self.fill(variable, node.init, made, at)
+        self.globals[declared] = variable
+        if init is not None:
+            self.fill(variable, init, made, at)
         self.declared += made.values()
         return variable
 
     def refuse_type(self, name: str, type_: Type, at: Place) -> None:
         if isinstance(type_, Array):
+            if type_.length == 0:
+                raise Refusal(at, f"the array {name} without a length", "write its length")
             self.refuse_type(name, type_.element, at)
         elif isinstance(type_, Struct):
             for field, inner in type_.fields:
                 self.refuse_type(f"{name}.{field}", inner, at)
         elif isinstance(type_, Pointer):
             raise Refusal(at, f"the pointer {name} in shared memory", "use an index into an array, an int in place of the pointer")
-        elif isinstance(type_, Void) or isinstance(type_, Int) and type_.kind == "wide":
-            raise Refusal(at, f"{name} is a long", "use int or unsigned")
+        elif isinstance(type_, Void):
+            raise Refusal(at, f"{name} of the type void", "give it a type")
 
-    def fill(self, variable: Variable, init: Any, made: Dict[str, Global], at: Place) -> None:
+    def fill(self, variable: Variable, init: tree.Expr, made: Dict[str, Global], at: Place) -> None:
         """The first values: with the declaration where the language can say them there, else as the first stores of main."""
-        for ref, node in self.first_values(Ref(variable, variable.type), init, at):
-            value = self.constants.value(node) if node is not None else 0
+        for ref, node in first_values(Ref(variable, variable.type), init):
             assert isinstance(ref.type, Int)
-            value = int(value != 0) if ref.type.kind == "bool" else value
+            value = self.first_value(node, ref.type.kind)
             target = self.storage.target(ref)
             if isinstance(target, Single) and value != LEAST:
                 made[target.name] = dataclasses.replace(made[target.name], value=value)
@@ -205,100 +223,29 @@ class Unit:
             elif isinstance(target, Indexed) and value != 0:
                 self.first.append(Assign(Element(target.array, target.index, False), Number(value), at))
 
-    def first_values(self, ref: Ref, node: Any, at: Place) -> Iterator[Tuple[Ref, Any]]:
-        """The numbers of a variable, each with what it begins with, or None."""
-        c_ast = self.c_ast
-        if isinstance(ref.type, Handle):
-            return
-        if isinstance(ref.type, Int):
-            while isinstance(node, c_ast.InitList) and len(node.exprs) == 1:
-                node = node.exprs[0]
-            yield ref, node
-            return
-        given: Dict[Any, Any] = {}
-        if node is not None:
-            if not isinstance(node, c_ast.InitList):
-                raise Refusal(self.place(node) or at, "a first value without the braces of its struct or array", "write all braces")
-            given = self.given(ref.type, node)
-        if isinstance(ref.type, Struct):
-            for name, _ in ref.type.fields:
-                yield from self.first_values(ref.field(name), given.get(name), at)
-        elif isinstance(ref.type, Array):
-            for index in range(ref.type.length):
-                yield from self.first_values(ref.element(Number(index)), given.get(index), at)
-
-    def given(self, type_: Union[Struct, Array], node: Any) -> Dict[Any, Any]:
-        """Which field or element each of the values in braces is for."""
-        names = [name for name, _ in type_.fields] if isinstance(type_, Struct) else list(range(type_.length))
-        found: Dict[Any, Any] = {}
-        following = 0
-        for each in node.exprs:
-            value = each
-            if isinstance(each, self.c_ast.NamedInitializer):
-                if len(each.name) != 1:
-                    raise Refusal(self.place(each), "a first value of a part of a part", "write it with braces for each")
-                name = each.name[0]
-                following = names.index(name.name) if isinstance(type_, Struct) else self.constants.value(name)
-                value = each.expr
-            if following >= len(names):
-                raise Refusal(self.place(value), "more first values than there are", "leave out the last ones")
-            found[names[following]] = value
-            following += 1
-        return found
+    def first_value(self, node: Optional[tree.Expr], kind: str = "int") -> int:
+        """What a number begins with: what is given for it, or 0."""
+        return self.constant(node, kind) if node is not None else 0
 
     # Functions.
 
-    def parameters(self, function: Any) -> List[Tuple[str, Type]]:
-        """The names and types of a function's parameters; an array among them is a pointer."""
-        c_ast, listed = self.c_ast, function.decl.type.args
-        out: List[Tuple[str, Type]] = []
-        for each in listed.params if listed else []:
-            if isinstance(each, c_ast.EllipsisParam):
-                raise Refusal(self.place(function), "a function with any number of arguments", "write its parameters")
-            type_ = self.types.of(each.type)
-            if isinstance(type_, Void):
-                continue
-            out.append((each.name or "unnamed", Pointer(type_.element) if isinstance(type_, Array) else type_))
-        return out
-
-    def is_written(self, node: Any, name: str) -> bool:
-        """Whether something in a part of the tree writes to a name, or takes its address."""
-        c_ast = self.c_ast
-        if isinstance(node, c_ast.Assignment) and isinstance(node.lvalue, c_ast.ID) and node.lvalue.name == name:
-            return True
-        if isinstance(node, c_ast.UnaryOp) and node.op in ("++", "--", "p++", "p--", "&"):
-            if isinstance(node.expr, c_ast.ID) and node.expr.name == name:
-                return True
-        return any(self.is_written(inner, name) for _, inner in node.children())
-
-    def is_pointed_to(self, function: str, name: str) -> bool:
-        """Whether something in a function takes the address of this name."""
-        c_ast = self.c_ast
-
-        def takes(node: Any) -> bool:
-            if isinstance(node, c_ast.UnaryOp) and node.op == "&" and isinstance(node.expr, c_ast.ID) and node.expr.name == name:
-                return True
-            return any(takes(inner) for _, inner in node.children())
-
-        return takes(self.functions[function].body)
-
-    def uses(self, node: Any, name: str) -> bool:
-        if isinstance(node, self.c_ast.ID) and node.name == name:
-            return True
-        return any(self.uses(inner, name) for _, inner in node.children())
+    def function(self, name: str) -> Optional[tree.Function]:
+        return self.file.functions.get(name)
 
     # Threads.
 
     def thread(self, function: str, value: Value, at: Place) -> Tuple[str, Tuple[Expression, ...]]:
         """The thread that does a function with an argument like this, and what it is given."""
-        parameters = self.parameters(self.functions[function])
-        if len(parameters) != 1 or not isinstance(parameters[0][1], Pointer):
+        parameters, body = self.file.functions[function].parameters, self.file.functions[function].body
+        if len(parameters) != 1 or not isinstance(parameters[0].type, Pointer):
             raise Refusal(at, f"{function} as what a thread does", "such a function has one parameter, void *")
-        used = self.uses(self.functions[function].body, parameters[0][0])
+        used = any(isinstance(it, tree.Name) and it.of is parameters[0] for it in tree.walk(body))
         if not used or value.is_null:
             return self.started(Start(function, "nothing")), ()
         if value.kind == "wide":
             return self.started(Start(function, "int")), (value.expression,)
+        if value.ref and any(not isinstance(first, Number) for _, first, _ in value.ref.variable.objects.values()):
+            value = dataclasses.replace(value, ref=placed(value.ref))
         if value.kind != "pointer" or not value.ref:
             raise Refusal(at, f"a {value.kind} as what a thread is given", "pass NULL, (void *)(intptr_t)number, &global or &array[i]")
         if not value.ref.variable.shared:
@@ -313,6 +260,10 @@ class Unit:
             self.starts[key] = (self.names.fresh(start.function), start)
         return self.starts[key][0]
 
+    def result(self, body: Body, handle: str) -> Number:
+        """The place of what a thread gives back, by the variable that names the thread."""
+        return Number(self.slots.setdefault((body, handle), len(self.slots)))
+
     def claim(self, name: str, body: Body, at: Place) -> None:
         """A thread variable at file scope is that of the one body that uses it."""
         if self.claims.setdefault(name, body) is not body:
@@ -321,7 +272,7 @@ class Unit:
             body.handles.append(name)
 
     def translated(self) -> Program:
-        if "main" not in self.functions:
+        if "main" not in self.file.functions:
             raise Refusal(None, "there is no main", "the file has to be a whole program")
         main = self.main()
         threads: List[Thread] = []
@@ -330,41 +281,76 @@ class Unit:
             name, start = list(self.starts.values())[done]
             threads.append(self.thread_body(name, start))
             done += 1
+        # Static variables of all functions are known only now.
+        main = dataclasses.replace(main, body=(*self.first, *main.body))
+        if self.slots:
+            self.declared.append(Global("int", self.results, len(self.slots), 0, main.end, True))
         return Program(tuple(self.declared), (*threads, main))
 
     def main(self) -> Thread:
-        function = self.functions["main"]
-        if self.parameters(function):
-            raise Refusal(self.place(function), "main with parameters", "write int main(void): the program reads nothing")
-        return self.finished(Statements(self), "main", (), function, tuple(self.first))
+        function = self.file.functions["main"]
+        if any(isinstance(it, tree.Name) and it.of in function.parameters for it in tree.walk(function.body)):
+            raise Refusal(function.at, "main with parameters that it reads", "write int main(void): the program reads nothing")
+        body = Statements(self)
+        body.is_main = True
+        return self.finished(body, "main", (), function)
 
     def thread_body(self, name: str, start: Start) -> Thread:
-        function, body = self.functions[start.function], Statements(self)
-        parameter = self.parameters(function)[0][0]
+        function, body = self.file.functions[start.function], Statements(self)
+        parameter = function.parameters[0]
         names: List[str] = []
         binding = NULL
         if start.kind == "int":
-            names = [body.names.fresh(parameter)]
+            names = [body.names.fresh(parameter.name)]
             binding = Value("wide", expression=Local(names[0]))
         elif start.ref:
-            names = [body.names.fresh(parameter) for _ in start.ref.indexes]
+            names = [body.names.fresh(parameter.name) for _ in start.ref.indexes]
             indexes = tuple(Local(it) for it in names)
             body.temporaries |= set(indexes)
             binding = Value("pointer", ref=dataclasses.replace(start.ref, indexes=indexes))
-        return self.finished(body, name, tuple(names), function, (), {parameter: binding})
+        if self.results:
+            body.gives_back = Local(body.names.fresh("result"))
+            names.append(body.gives_back.name)
+        body.bind(parameter, binding)
+        return self.finished(body, name, tuple(names), function)
 
-    def finished(self, body: Statements, name: str, parameters: Tuple[str, ...], function: Any, first: Block,
-                 scope: Optional[Dict[str, Any]] = None) -> Thread:
+    def finished(self, body: Statements, name: str, parameters: Tuple[str, ...], function: tree.Function) -> Thread:
         """The thread that a function is."""
         label = self.label()
-        body.frames = [Frame(function.decl.name, Void(), label, None, [dict(scope or {})])]
+        body.frames = [Frame(function, Void(), label, None)]
         block = body.statement(function.body)
-        whole = (Labelled(label, "left", block, self.last),)
-        settled = (*first, *Leaving(lambda base: body.temporary(base).name).settled(whole))
-        settled = tidied(settled, body.temporaries)
+        whole = (*body.beginning(name, function.at), *body.first, Labelled(label, "left", block, function.at))
+        settled = tidied(Leaving(lambda base: body.temporary(base).name).settled(whole), body.temporaries)
         used = names_in(settled)
-        end = max((it.at for it in statements_in(settled)), default=self.place(function) or self.last, key=lambda it: it.line)
+        end = max((it.at for it in statements_in(settled)), default=function.at, key=lambda it: it.line)
         return Thread(name, parameters, tuple(it for it in body.ints if it in used), tuple(body.handles), settled, end)
+
+
+def kept_in(node: Any) -> Iterator[Struct]:
+    """The struct for which an expression allocates memory."""
+    if isinstance(node, tree.Convert) and isinstance(node.type, Int) and node.type.to and is_allocation(node.operand):
+        yield node.type.to
+
+
+def wants_results(file: tree.File) -> bool:
+    """Whether something takes what a thread gives back."""
+    nodes = (node for function in file.functions.values() for node in tree.walk(function.body))
+    joins = (it for it in nodes if isinstance(it, tree.Call) and it.name in ("pthread_join", "thrd_join"))
+    return any(not isinstance(it.arguments[1], tree.Null) for it in joins)
+
+
+def given_to_threads(file: tree.File) -> Set[tree.Declared]:
+    """The variables of main's own whose addresses it gives to threads. There is one of each, so they are shared."""
+    found: Set[tree.Declared] = set()
+    for node in tree.walk(file.functions["main"].body) if "main" in file.functions else ():
+        if isinstance(node, tree.Call) and node.name in ("pthread_create", "thrd_create"):
+            for inner in tree.walk(node.arguments[-1]):
+                names = inner.operand if isinstance(inner, tree.Address) else inner
+                while isinstance(names, (tree.Element, tree.Field)):
+                    names = names.array if isinstance(names, tree.Element) else names.struct
+                if isinstance(names, tree.Name) and (isinstance(inner, tree.Address) or isinstance(names.of.type, Array)):
+                    found.add(names.of)
+    return found
 
 
 def names_in(block: Block) -> Set[str]:
@@ -377,12 +363,17 @@ def names_in(block: Block) -> Set[str]:
     return found
 
 
-def translate(tree: Any, c_ast: Any, options: Options) -> Tuple[Program, Notes]:
+def translate(file: tree.File, options: Options) -> Tuple[Program, Notes]:
     """The program that a C file is, and what is to be said beside it."""
-    apart: Set[Tuple[str, int, Tuple[str, ...]]] = set()
+    structs = number(file)
+    sizes: Dict[Struct, Sizes] = {}
     while True:
-        try:
-            unit = Unit(tree, c_ast, options, apart)
-            return unit.translated(), unit.notes
-        except Apart as found:
-            apart = apart | {key_of(found.ref.variable, found.ref.fields)}
+        unit = Unit(file, options, structs, sizes)
+        program = unit.translated()
+        found = {struct: needed(objects, program) for struct, objects in unit.objects.items()}
+        if found == sizes or len(found) < len(structs):
+            break
+        sizes = found
+    if unit.refusals:
+        raise Refusals(unit.refusals)
+    return program, unit.notes

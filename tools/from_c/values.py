@@ -9,14 +9,15 @@ from .storage import Ref
 
 @dataclasses.dataclass(frozen=True)
 class Value:
-    """The kind is int, unsigned, bool or wide; pointer, to what `ref` leads to; null; place, which is an lvalue; or void. `direct`
-    is what the expression writes itself, outside calls."""
+    """The kind is that of a number, or wide, for a number as a pointer; pointer, to what `ref` leads to; null; function; place, which
+    is an lvalue; or void. `direct` is what the expression writes itself, outside calls."""
 
     kind: str
     before: Block = ()
     expression: Expression = Number(0)
     ref: Optional[Ref] = None
     direct: FrozenSet[Object] = frozenset()
+    function: str = ""
 
     @property
     def effects(self) -> Effects:

@@ -67,7 +67,7 @@ def read_program(path: str, clap_debug: str, room: str) -> Program:
                           stderr=subprocess.PIPE, text=True, check=False)
     said = [it for it in done.stderr.splitlines() if not it.startswith("fromc: next: ")]
     if done.returncode:
-        raise Refused(said[-1] if said else f"fromc ends with status {done.returncode}")
+        raise Refused(said[0] if said else f"fromc ends with status {done.returncode}")
     for line in said:
         print(line, file=sys.stderr)
     text = read_bytes(translated)

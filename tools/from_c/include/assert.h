@@ -2,6 +2,8 @@
 #undef assert
 #ifdef NDEBUG
 #define assert(condition) ((void)0)
+#else
+void assert(_Bool);
 #endif
 #ifndef static_assert
 #define static_assert _Static_assert

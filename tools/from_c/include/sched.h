@@ -1,1 +1,2 @@
-/* What tools/fromc knows of <sched.h>. sched_yield is built in. */
+/* What tools/fromc knows of <sched.h>. The call is built in. */
+int sched_yield(void);

@@ -1,1 +1,4 @@
-/* What tools/fromc knows of <unistd.h>. sleep and usleep are built in. */
+/* What tools/fromc knows of <unistd.h>. The calls are built in. */
+unsigned sleep(unsigned);
+int usleep(unsigned);
+long syscall(long, ...);
