@@ -38,9 +38,11 @@ CALLS: Dict[str, List[str]] = {
 
 
 class Room(unittest.TestCase):
-    """Each test has a folder of its own."""
+    """Each test has a folder of its own. A shell has a job in the background ignore SIGINT, and so do all that the job starts: then a
+    script that a test stops would go on, and change the checkout."""
 
     def setUp(self) -> None:
+        signal.signal(signal.SIGINT, signal.default_int_handler)
         folder = tempfile.TemporaryDirectory()
         self.addCleanup(folder.cleanup)
         self.room = folder.name
@@ -282,11 +284,6 @@ echo open >"$least"
 echo "spent after $budget conflicts, $switches switches"
 exit 10
 """
-
-
-def setUpModule() -> None:
-    """A shell has a job in the background ignore this signal, and so do all that the job starts."""
-    signal.signal(signal.SIGINT, signal.default_int_handler)
 
 
 class Fewest(Room):
